@@ -1,4 +1,4 @@
-"""Why a line of an assembly text is refused, as a person needs it, and what helps. The program says that it is refused, and with
+"""Why a line of an assembly text is refused, in words for a person, and what helps. The program says that it is refused, and with
 which reason (docs/ASM.md, "Refusals"); this module looks for the cause in the text, and never for a verdict."""
 
 import difflib

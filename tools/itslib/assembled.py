@@ -13,7 +13,7 @@ from .words import number
 
 @dataclass
 class Assembled:
-    """An assembly text and what the program makes of it."""
+    """An assembly text and the image that the program makes from it."""
     reading: Reading
     session: str                                          # what the program wrote
     job: Tuple[str, str, str] = ("", "", "")              # user name, job name, and its console or -

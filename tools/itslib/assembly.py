@@ -29,7 +29,7 @@ class Source:
     number: int                  # from 1
     text: str                    # without its LF
     words: List[str]             # those before its comment
-    columns: List[int]           # where they begin, from 1
+    columns: List[int]           # the column of each, from 1
     labels: List[str]
     location: int = 0            # the location before its statement
 

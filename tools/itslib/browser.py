@@ -76,7 +76,7 @@ class Socket:
 
 
 def chromium() -> Optional[str]:
-    """The program Chromium, where there is one."""
+    """The program Chromium, if there is one."""
     return next((found for found in map(shutil.which, NAMES) if found), None)
 
 
@@ -132,7 +132,7 @@ class Browser:
             self.events.append(json.loads(self.socket.receive()))
 
     def value(self, script: str):
-        """The value of an expression in the page; of a promise, what it comes to."""
+        """The value of an expression in the page; of a promise, its result."""
         answer = self.ask("Runtime.evaluate", expression=script, returnByValue=True, awaitPromise=True)
         if "exceptionDetails" in answer:
             raise Wrong("the page: %s" % answer["exceptionDetails"].get("exception", {}).get("description", "an exception"))
@@ -168,6 +168,23 @@ class Browser:
         data = self.ask("Page.captureScreenshot", format="png")["data"]
         with open(path, "wb") as file:
             file.write(base64.b64decode(data))
+
+    def trace(self) -> None:
+        """Begins to note the tasks of the page."""
+        self.ask("Tracing.start", transferMode="ReportEvents", traceConfig={"includedCategories": ["toplevel"]})
+
+    def longest_task(self) -> float:
+        """The longest task of the page's main thread since `trace`, in milliseconds of processor time: so another program that keeps the
+        machine busy does not count."""
+        self.ask("Tracing.end")
+        self.event("Tracing.tracingComplete")
+        found = [one for event in self.events if event["method"] == "Tracing.dataCollected" for one in event["params"]["value"]]
+        self.events = [event for event in self.events if not event["method"].startswith("Tracing.")]
+        mains = {(one["pid"], one["tid"]) for one in found if one["name"] == "thread_name" and one["args"]["name"] == "CrRendererMain"}
+        tasks = [one["tdur"] for one in found if one["name"].endswith("RunTask") and (one["pid"], one["tid"]) in mains and "tdur" in one]
+        if not tasks:
+            raise Wrong("Chromium notes no task of the page")
+        return max(tasks) / 1000
 
     def complaints(self) -> List[str]:
         """What went wrong in the page since it was opened: exceptions, and connections to anything but the file and what it

@@ -1,4 +1,4 @@
-"""Why a line is refused, as a person needs it. The program says that it is refused, and with which reason; what stands here
+"""Why a line is refused, in words for a person. The program says that it is refused, and with which reason; this module
 looks for the cause in the text of the line and in the lines before it, and never for a verdict."""
 
 import difflib
@@ -9,7 +9,7 @@ from .meaning import Known
 from .session import CLOSES, JOB_LINES, LINES, Exchange, Line, at_line
 from .words import DIGITS, number
 
-# What stands behind the first word of each line: n a number, name a name, con a console or `-`
+# What follows the first word of each line: n a number, name a name, con a console or `-`
 FORMS = {"VERSION": "n", "LOAD": "name name con", "RO": "n", "SYM": "name n", "GO": "n", "FILE": "name name name", "EOF": "",
          "TICK": "n n", "RUN": "n n", "TYPE": "n n", "DRAIN": "n n", "CLOCK": "n", "INT": "n n n", "EXAM": "n n n", "LIST": "n n n", "STATE": "n",
          "DEPOSIT": "n n n", "STOP": "n", "CONT": "n", "PEEK": "n", "DIR": "name", "SHOW": "name name name", "END": ""}
@@ -35,7 +35,7 @@ RANGES = {"VERSION": [(1, 1, 2, "the version")], "RO": [(1, 0, 0o377, "a page")]
 
 @dataclass
 class Cause:
-    """Why a line is refused, and where: the column counts bytes from 1, and is 0 where no place in the line is meant."""
+    """Why a line is refused, and the place: the column counts bytes from 1, and is 0 if no place in the line is meant."""
     text: str
     column: int = 0
 
@@ -51,7 +51,7 @@ def starts(line: Line) -> List[int]:
 
 
 def bad_byte(text: str) -> Optional[Cause]:
-    """The first byte that may stand in no line."""
+    """The first byte that no line may contain."""
     for at, c in enumerate(text, 1):
         if text.startswith("\xef\xbb\xbf") and at == 1:
             return Cause("a byte order mark is before the text: tail -c +4 FILE > NEW takes it away", 1)
@@ -65,7 +65,7 @@ def bad_byte(text: str) -> Optional[Cause]:
 
 
 def foreign(rest: bytes) -> str:
-    """A byte that is no printing ASCII, and the character that it begins, where it begins one."""
+    """A byte that is no printing ASCII, and the character that it begins, if it begins one."""
     for size in (2, 3, 4):
         try:
             if rest[0] > 127:
@@ -76,7 +76,7 @@ def foreign(rest: bytes) -> str:
 
 
 def wrong_place(line: Line) -> Optional[Cause]:
-    """A line that may not stand where it stands."""
+    """A line that is not allowed in its place."""
     inside = {"a/": "LOAD", "RO": "LOAD", "SYM": "LOAD", "GO": "LOAD", "/": "FILE", "EOF": "FILE"}
     if line.kind not in LINES and line.kind not in inside:
         return None
@@ -165,7 +165,7 @@ def wrong_count(line: Line) -> Optional[Cause]:
 
 
 def is_symbol(word: str, line: Line, known: Known) -> str:
-    """What helps where a symbol stands in a number's place; nothing where the word is no symbol that the session has."""
+    """What helps if a symbol is in a number's place; nothing if the word is no symbol of the session."""
     slots = [number(one) for one in line.words[1:2] if DIGITS.issuperset(one) and line.kind in JOB_LINES]
     for slot in slots + [known.slot]:
         value = known.symbols_of(slot).values.get(word)

@@ -25,7 +25,7 @@ class Parser(argparse.ArgumentParser):
 
 
 def read(path: str) -> bytes:
-    """The bytes of a file; of standard input where the path is `-`."""
+    """The bytes of a file; of standard input if the path is `-`."""
     try:
         if path == "-":
             if sys.stdin is None:

@@ -1,9 +1,9 @@
 """Cutting a session between two of its ticks, and putting lines in there."""
 
 from dataclasses import dataclass, field
-from typing import Dict, Iterator, List, Optional
+from typing import Dict, Iterator, List, Optional, Sequence
 
-from .session import Exchange, Line, runs_of, turns_of, unrolled
+from .session import Exchange, runs_of, turns_of, unrolled
 from .words import number
 
 
@@ -13,7 +13,7 @@ class Tick:
     number: int        # from 1, over the whole session
     line: int          # the TICK line that asks for it
     slot: int
-    place: int         # the which tick of its line it is, from 1
+    place: int         # the number of the tick in its line, from 1
     of: int            # how many ticks its line asks for
     letter: str
     next: str          # the letter of the next tick of its line; nothing for the last one
@@ -21,7 +21,7 @@ class Tick:
 
 
 def count_of_ticks(told: List[Exchange], first: int = 1, last: int = 1 << 60, slot: Optional[int] = None) -> int:
-    """How many ticks a session that was run has, from the first to the last, of one slot or of all. None of them is made for this."""
+    """How many ticks a session that was run has, from the first to the last, of one slot or of all. No tick is built for this."""
     done = found = 0
     for exchange in unrolled(told):
         if exchange.line.kind == "TICK" and not exchange.reason:
@@ -61,13 +61,13 @@ def text_of(lines: List[str]) -> bytes:
     return "".join(line + "\n" for line in lines).encode("latin-1")
 
 
-def before(lines: List[Line], tick: Tick) -> List[str]:
+def before(lines: Sequence[str], tick: Tick) -> List[str]:
     """The lines of a session up to and with a tick."""
-    return [line.text for line in lines[:tick.line - 1]] + tick.earlier + ["TICK %o %o" % (tick.slot, tick.place)]
+    return list(lines[:tick.line - 1]) + tick.earlier + ["TICK %o %o" % (tick.slot, tick.place)]
 
 
-def behind(lines: List[Line], tick: Tick, turns: Dict[int, List[str]]) -> List[str]:
-    """The rest of a session, behind a tick, where RUN lines have these turns."""
+def behind(lines: Sequence[str], tick: Tick, turns: Dict[int, List[str]]) -> List[str]:
+    """The rest of a session, after a tick, if RUN lines have these turns."""
     rest = ["TICK %o %o" % (tick.slot, tick.of - tick.place)] if tick.of > tick.place else []
     later = turns.get(tick.line, [])[len(tick.earlier) + 1:]
-    return rest + later + [line.text for line in lines[tick.line:] if not line.ended]
+    return rest + later + list(lines[tick.line:])

@@ -5,15 +5,15 @@ from typing import List, Optional, Tuple
 
 from .story import Lane, Mark, Piece, Run, Story
 
-LEFT, EDGE = 150, 16                     # where rows begin, and the margin
+LEFT, EDGE = 150, 16                     # the left end of rows, and the margin
 COLUMN = 16                              # the width of a mark
 LONGEST = 320                            # the width of a run; a longer one is drawn so wide, with a break
 MANY = 4                                 # up to so many equal lines in a row have a mark each
 BAR, GAP, AXIS = 18, 12, 26              # the height of a bar, the room below it, and the room for numbers below a row
-LABELS = (36, 24, 7)                     # the longest label of a mark, in characters: whole labels where there is room for them
+LABELS = (36, 24, 7)                     # the longest label of a mark, in characters: whole labels if there is room for them
 CHAR = 6.7                               # the width of a character of 11 px
 SCALES = (40, 32, 24, 20, 16, 14, 12, 10, 8, 6, 5, 4, 3, 2, 1.5, 1, 0.5, 0.25)     # widths of a tick
-COMFORT = 10                             # a tick need not be wider than this, where that would take one row more
+COMFORT = 10                             # a tick need not be wider than this, if that would take one row more
 NARROW = 3                               # with labels of more than one word, ticks are at least so wide
 HIGHER = 1.15                            # so much higher a picture may grow by whole labels; a slide may not
 ALWAYS = 6                               # up to so many jobs, each row shows all that there are then
@@ -26,7 +26,7 @@ class Shape:
     tallest: int = 900       # how high all rows together should be
     widest: int = 16         # how wide a tick may be
     enlarged: float = 1      # how much larger all is drawn
-    legend: bool = True      # what letters and marks mean stands below
+    legend: bool = True      # with the meaning of letters and marks below
     brief: bool = False      # marks have their first word alone
 
 
@@ -44,13 +44,13 @@ class Row:
 
 @dataclass
 class Life:
-    """Where in the rows a job is there for certain: a row and a place in it each."""
+    """The part of the rows in which a job is there for certain: a row and a place in it each."""
     begins: Tuple[int, float]        # it was made, or seen first
     ends: Tuple[int, float]          # it was seen last
-    gone: Tuple[int, float]          # it was seen to be gone; where it never was, past the last row
+    gone: Tuple[int, float]          # it was seen to be gone; past the last row if it never was
 
     def part(self, row: int, since: Tuple[int, float], until: Tuple[int, float], end: float) -> Optional[Tuple[float, float]]:
-        """From where to where in a row, which ends at `end`, the part between two of these places is."""
+        """The first and the last place, in a row that ends at `end`, of the part between two of these places."""
         if not since[0] <= row <= until[0]:
             return None
         return (since[1] if since[0] == row else float(LEFT)), (until[1] if until[0] == row else end)
@@ -66,7 +66,7 @@ class Layout:
 
 
 def life_of(rows: List[Row], lane: Lane, tick: float) -> Life:
-    """Where in the rows the job of a lane is there."""
+    """The part of the rows in which the job of a lane is there."""
     life = Life((0, float(LEFT)), (0, float(LEFT)), (len(rows), 0.0))
     for at, row in enumerate(rows):
         for x, piece in row.placed:
@@ -84,7 +84,7 @@ def life_of(rows: List[Row], lane: Lane, tick: float) -> Life:
 
 
 def cut(mark: Mark, longest: int) -> str:
-    """The longest label of a mark that is not too long. Where each is, the shortest one, cut at the middle length."""
+    """The longest label of a mark that is not too long. If each is, the shortest one, cut at the middle length."""
     label = next((label for label in mark.labels if len(label) <= longest), mark.labels[-1])
     most = max(longest, LABELS[1])
     return label if len(label) <= most else label[:most - 1] + "…"
@@ -102,7 +102,7 @@ def alike(one: Piece, other: Piece) -> bool:
 
 
 def label_of_many(marks: List[Mark]) -> str:
-    """The label of one mark that stands for many: with TYPE and DRAIN, on which consoles."""
+    """The label of one mark in place of many: with TYPE and DRAIN, on which consoles."""
     word, which = first_word(marks[0]), ""
     if word in ("TYPE", "DRAIN"):
         consoles = sorted({mark.tip.split(" ")[1] for mark in marks})
@@ -111,7 +111,7 @@ def label_of_many(marks: List[Mark]) -> str:
 
 
 def gathered(pieces: List[Piece]) -> List[Piece]:
-    """The pieces, where one mark stands for many equal lines in a row."""
+    """The pieces, with one mark in place of many equal lines in a row."""
     out, at = [], 0
     while at < len(pieces):
         end = at + 1
@@ -133,7 +133,7 @@ def width_of(run: Run, tick: float) -> float:
 
 
 def rows_of(pieces: List[Piece], tick: float, span: int) -> List[Row]:
-    """The pieces in rows, where a tick is so wide. A run that meets the end of its row goes on in the next one; one with a
+    """The pieces in rows, if a tick is so wide. A run that meets the end of its row goes on in the next one; one with a
     break is not parted."""
     rows = [Row()]
     for piece in pieces:
@@ -156,7 +156,7 @@ def rows_of(pieces: List[Piece], tick: float, span: int) -> List[Row]:
 
 
 def lanes_of_rows(story: Story, rows: List[Row]) -> List[List[Optional[Lane]]]:
-    """For each row its lanes: those with a piece in it; and, where jobs are few, all that live then."""
+    """For each row its lanes: those with a piece in it; and, if jobs are few, all that live then."""
     first, last = {}, {}
     for at, row in enumerate(rows):
         for _, piece in row.placed:
@@ -195,7 +195,7 @@ def laid_out_so(story: Story, pieces: List[Piece], tick: float, longest: int, sp
 
 
 def with_words(story: Story, pieces: List[Piece], layout: Layout, shape: Shape) -> Layout:
-    """The layout with whole labels, where that makes the picture little higher."""
+    """The layout with whole labels, if that makes the picture little higher."""
     if layout.longest != LABELS[1]:
         return layout
     whole = laid_out_so(story, pieces, layout.tick, LABELS[0], shape.span)
@@ -204,7 +204,7 @@ def with_words(story: Story, pieces: List[Piece], layout: Layout, shape: Shape) 
 
 
 def laid_out(story: Story, shape: Shape) -> Layout:
-    """The layout of a story. Whole labels and wide ticks are best, as long as the picture does not grow too high; where it
+    """The layout of a story. Whole labels and wide ticks are best, as long as the picture does not grow too high; if it
     does in any case, ticks are as wide as costs little height."""
     layouts, pieces = [], gathered(story.pieces)
     scales = [tick for tick in SCALES if tick <= shape.widest]

@@ -1,4 +1,4 @@
-"""What the lines of a session and of its transcript mean, in words. Nothing here knows the machine: it reads what stands
+"""What the lines of a session and of its transcript mean, in words. Nothing here knows the machine: it reads what is
 there."""
 
 from dataclasses import dataclass, field
@@ -9,16 +9,16 @@ from .symbols import Symbols
 from .words import (CALLS, DIGITS, ERRORS, FATAL, LETTERS, PENDING, STATES, WAITS, ascii_of, byte_pointer, call_name, character,
                     flags_of, held, number, pc_of, pc_word, pending, short, signed, sixbit, typed)
 
-# Words that stand for themselves: devices, and the variables of USRVAR
+# Words that are read as they are: devices, and the variables of USRVAR
 NAMES = {"TTY", "DSK", "USR", "LNK", "UNAME", "JNAME", "UIND", "SUPPRO", "CNSL", "PAGES", "UPC", "USTP", "PIRQC", "IFPIR",
          "MASK", "MSK2", "DF1", "DF2"}
 END_OF_FILE = "777777000003"
-RUNS = 5                  # up to so many runs of a T line are told one by one
+RUNS = 5                  # up to so many runs of a T line are said one by one
 
 
 @dataclass
 class Known:
-    """What the lines before tell, as far as a reader needs it for the lines behind."""
+    """What the lines before say, as far as a reader needs it for the lines after them."""
     clock: int = 0
     errors: Dict[int, Set[int]] = field(default_factory=dict)      # slot -> words that get error numbers
     loaded: Dict[int, str] = field(default_factory=dict)           # the words of the LOAD block that is open
@@ -37,7 +37,7 @@ def count_of(n: int, one: str, more: str = "") -> str:
 
 
 def small(value: int) -> str:
-    """A small number in decimal, and as a character where it may be one; nothing where that says no more."""
+    """A small number in decimal, and as a character if it may be one; nothing if that says no more."""
     said = "%d in decimal" % value if abs(value) > 7 else ""
     return said + (", or the byte %s" % character(value) if 32 <= value < 127 else "")
 
@@ -56,7 +56,7 @@ def instruction(word: str) -> str:
 
 
 def reading(word: str) -> str:
-    """What a word of core or of a file may be read as; nothing where no reading stands out."""
+    """What a word of core or of a file may be read as; nothing if no reading is likelier than others."""
     name, value = sixbit(word), signed(word)
     if word in CALLS or name in NAMES:
         return "the name " + CALLS.get(word, name)
@@ -211,7 +211,7 @@ def says_exam(exchange: Exchange, known: Known) -> List[str]:
 
 
 def says_list(exchange: Exchange, known: Known) -> List[str]:
-    """LIST s a n: its words are typed out already; where the job has symbols, they are shown by them"""
+    """LIST s a n: its words are typed out already; if the job has symbols, they are shown by them"""
     symbols, said = known.symbols_of(number(exchange.words[1])), ["the job is found in user mode"]
     for one in exchange.answer if symbols.values else []:
         _, _, place, text = one.split(" ", 3)
@@ -220,7 +220,7 @@ def says_list(exchange: Exchange, known: Known) -> List[str]:
 
 
 def bits_in_words(name: str, one: str, two: str) -> List[str]:
-    """Two words of bits, where one is on."""
+    """Two words of bits, if one is on."""
     said = []
     if number(one):
         fatal = [bit for bit in pending("%o" % (number(one) & FATAL))] if name == "pending" else []
@@ -232,7 +232,7 @@ def bits_in_words(name: str, one: str, two: str) -> List[str]:
 
 
 def symbol_in(state: Dict[str, str]) -> str:
-    """The symbol nearest below the PC, where an S line has one."""
+    """The symbol nearest below the PC, if an S line has one."""
     if state.get("symbol", "-") == "-":
         return ""
     return " (%s%s)" % (sixbit(state["symbol"]), "" if state["past"] == "0" else "+" + state["past"])
@@ -273,7 +273,7 @@ def says_cont(exchange: Exchange, known: Known) -> List[str]:
 
 
 def frame(words: List[str]) -> List[str]:
-    """A P line: where a job stands in a call."""
+    """A P line: how far a job is inside a call."""
     peek = peek_of(words)
     if peek.state == "USER":
         return ["in user mode, in no call"]
@@ -308,7 +308,7 @@ def says_dir(exchange: Exchange, known: Known) -> List[str]:
 
 
 def says_show(exchange: Exchange, known: Known) -> List[str]:
-    """SHOW d x y: its words, where one can be read as something"""
+    """SHOW d x y: its words, if one can be read as something"""
     words = exchange.words
     said = ["the file %s, %s" % (file_of(*map(sixbit, words[1:4])), count_of(number(words[4]), "word"))]
     for at, word in enumerate(word for one in exchange.answer[1:] for word in one.split(" ")[1:]):
@@ -325,6 +325,6 @@ SAYS: Dict[str, Callable[[Exchange, Known], List[str]]] = {
 
 
 def meaning(exchange: Exchange, known: Known) -> List[str]:
-    """What a line that is not refused does, and what its answer says. What it tells is noted in `known`."""
+    """What a line that is not refused does, and what its answer says. What it shows is noted in `known`."""
     says = SAYS.get(exchange.line.kind)
     return says(exchange, known) if says else []

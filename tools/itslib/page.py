@@ -22,12 +22,12 @@ from .words import LETTERS as TICKS
 FOLDER = os.path.join(TOP, "tools", "page")
 PAGE = os.path.join(TOP, "docs", "its.html")
 CORE = ("words", "session", "meaning", "causes", "story", "layout", "picture", "calls", "moments", "engine")
-VIEW = ("worker", "player", "editor", "terminal", "page")
+VIEW = ("worker", "steps", "player", "field", "editor", "terminal", "page")
 ITEM = '<script type="application/json" id="%s">\n%s\n</script>'
 
 
 def tables() -> dict:
-    """The tables of itslib that the scripts of the page use, too."""
+    """The tables of itslib that the scripts of the page also use."""
     return {"calls": CALLS, "states": STATES, "waits": WAITS, "errors": {"%o" % number: words for number, words in ERRORS.items()},
             "pending": [["%o" % bit, *names] for bit, names in PENDING.items()], "lastFatal": "%o" % (FATAL + 1 >> 1),
             "flags": [["%o" % bit, name] for bit, name in FLAGS.items()], "ticks": TICKS, "lines": LINES, "forms": FORMS,
@@ -66,7 +66,7 @@ def as_json(value) -> str:
 
 
 def module_of(module: bytes, built: Dict[str, object]) -> dict:
-    """What the page has of a module: where it came from, its sum, and its bytes, packed."""
+    """A module in the page: its source, its sum, and its bytes, packed."""
     packed = gzip.compress(module, 9, mtime=0)
     return {**built, "sum": hashlib.sha256(module).hexdigest(), "bytes": base64.b64encode(packed).decode()}
 

@@ -1,4 +1,4 @@
-"""The picture of a story, as SVG; where each tick and each mark stands in it."""
+"""The picture of a story, as SVG, with the place of each tick and each mark."""
 
 import textwrap
 from dataclasses import dataclass
@@ -113,8 +113,8 @@ def draw_bars(row: Row, lane: Optional[Lane], bar: float, tick: float) -> List[s
 
 
 def draw_life(layout: Layout, at: int, lane: Lane, y: float) -> List[str]:
-    """The line of the life of a lane's job in a row. Where the job is gone later, dots lead from where it was seen last to
-    where the transcript shows that it is gone."""
+    """The line of the life of a lane's job in a row. If the job is gone later, dots lead from the place at which it was seen last to
+    the one at which the transcript shows that it is gone."""
     row, life = layout.rows[at], life_of(layout.rows, lane, layout.tick)
     gone = life.gone[0] < len(layout.rows)
     certain = life.part(at, life.begins, life.ends if gone else life.gone, row.end)
@@ -160,7 +160,7 @@ def draw_axis(row: Row, y: float, tick: float) -> List[str]:
 
 
 def notes_of(story: Story, layout: Layout) -> List[str]:
-    """What stands below the legend."""
+    """The notes below the legend."""
     pieces = [piece for row in layout.rows for _, piece in row.placed]
     marks = [piece for piece in pieces if isinstance(piece, Mark)]
     broken = any(isinstance(piece, Run) and piece.count * layout.tick > LONGEST for piece in story.pieces)
@@ -169,7 +169,7 @@ def notes_of(story: Story, layout: Layout) -> List[str]:
 
 
 def draw_legend(story: Story, y: float, layout: Layout, span: int) -> Tuple[List[str], float]:
-    """What letters and marks mean, of those that come; returns its parts and where it ends."""
+    """What letters and marks mean, of those that come; returns its parts and its lower end."""
     out, used = [line(EDGE, y, LEFT + span, y, "#ccc")], {piece.kind for piece in story.pieces if isinstance(piece, Mark)}
     items = [(letter, LETTERS[letter][2]) for letter in LETTERS] + [(kind, KINDS[kind]) for kind in KINDS if kind in used]
     columns = 2 if span > 900 else 1
@@ -194,7 +194,7 @@ def draw_legend(story: Story, y: float, layout: Layout, span: int) -> Tuple[List
 
 @dataclass
 class Spot:
-    """Where a piece stands in a picture."""
+    """The place of a piece in a picture."""
     piece: Piece
     row: int
     x: float                 # its left edge
@@ -204,7 +204,7 @@ class Spot:
 
 @dataclass
 class Picture:
-    """A picture, and what stands where in it. All places are those of the SVG's own coordinates."""
+    """A picture, and the places of its pieces. All places are those of the SVG's own coordinates."""
     svg: str
     width: float
     height: float
@@ -212,7 +212,7 @@ class Picture:
     rows: List[Tuple[float, float]]      # the top and the bottom of each row
 
     def cursor(self, ticks: int) -> Tuple[float, float, float]:
-        """Where a cursor stands when so many ticks are done: x, and the top and the bottom of its row."""
+        """The place of a cursor when so many ticks are done: x, and the top and the bottom of its row."""
         x, row = float(LEFT), 0
         for spot in self.spots:
             run = spot.piece
@@ -222,7 +222,7 @@ class Picture:
 
 
 def spots_of(row: Row, at: int, lane: Optional[Lane], bar: float, tick: float) -> List[Spot]:
-    """Where the pieces of a lane stand in a row."""
+    """The places of the pieces of a lane in a row."""
     return [Spot(piece, at, x, COLUMN if isinstance(piece, Mark) else width_of(piece, tick), bar)
             for x, piece in row.placed if piece.lane is lane]
 

@@ -10,7 +10,7 @@ from typing import Deque, Dict, Iterable, Iterator, List, Optional
 from .session import Wrong
 
 TOP = os.path.dirname(os.path.dirname(os.path.dirname(os.path.abspath(__file__))))
-AT_ONCE = 2               # so many runs stand side by side
+AT_ONCE = 2               # so many runs go on at once
 SECONDS = 300             # a run may take no longer
 
 # What the exit statuses of the program say (docs/SESSION.md)

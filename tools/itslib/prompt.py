@@ -148,7 +148,7 @@ class Operator:
         return QUIT
 
     def step(self) -> None:
-        """One tick of the job: what it did, where the job is, and its next instruction."""
+        """One tick of the job: what it did, the place of the job, and its next instruction."""
         if not self.is_there():
             return
         slot = self.seat.slot

@@ -18,7 +18,7 @@ LEAST = 4                                     # a window of fewer rows has no st
 
 
 def visible(output: bytes) -> bytes:
-    """What a job puts out, as it is shown: no byte of it begins a command of the terminal."""
+    """What a job puts out, in the form that is shown: no byte of it begins a command of the terminal."""
     shown = bytearray()
     for byte in output:
         if byte in MOVES or 32 <= byte < 127:

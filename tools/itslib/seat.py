@@ -25,7 +25,7 @@ class Clock:
         self.since, self.told = time.monotonic(), 0
 
     def due(self) -> int:
-        """How many thirtieths have gone by that no CLOCK line has told yet. They are told by it."""
+        """How many thirtieths have gone by that no CLOCK line has given yet. The caller gives them."""
         new = int((time.monotonic() - self.since) * PER_SECOND) - self.told
         self.told += new
         return new
@@ -75,7 +75,7 @@ class Seat:
         self.runner = Runner(self.sitting, console)
 
     def attend(self) -> str:
-        """The terminal is the jobs' until the interrupt key comes or the job does not run: what is said of it."""
+        """The terminal is the jobs' until the interrupt key comes or the job does not run: what is said of that."""
         if self.clock:
             self.clock.skip()
         keys, come = b"", KEY
@@ -101,8 +101,8 @@ class Seat:
             self.screen.bell()
 
     def run_on(self, patience: int) -> str:
-        """Runs until all jobs wait, the bound is met or, when the jobs have had their time for the last keys, a key comes: which of
-        these."""
+        """Runs until all jobs wait, the bound is met or, when the jobs have had their time for the last keys, a key comes: which one
+        it was."""
         self.runner.wake()
         ticks = 0
         while ticks < self.choices.bound:
@@ -119,7 +119,7 @@ class Seat:
         return BOUND
 
     def pass_time(self) -> bool:
-        """Tells the clock what has gone by, if it is anything."""
+        """Gives the clock the time that has gone by, if there is any."""
         new = self.clock.due() if self.clock else 0
         if new > 0:
             self.sitting.clock(new)
@@ -158,13 +158,13 @@ class Seat:
         return said
 
     def stop(self) -> str:
-        """Stops the job: what is said of it."""
+        """Stops the job: what is said of that."""
         if self.slot is None or self.sitting.attempt("STOP %o" % self.slot).reason:
             return "There is no job to stop."
         return "%s: the job of slot %o is stopped. %s" % (key_name(self.choices.interrupt), self.slot, self.next_instruction())
 
     def next_instruction(self) -> str:
-        """Where the job goes on, by a copy that looks at it."""
+        """The place at which the job goes on, by a copy that looks at it."""
         state = self.sitting.state(self.slot)
         if state is None:
             return ""
@@ -173,7 +173,7 @@ class Seat:
         return "It goes on at %s%s: %s" % (place, symbol_in(state), word or "no word is there")
 
     def show_status(self, frame: str, console: str, hint: str) -> None:
-        """Shows the status line: where the job is, what is said of the console, and what a person may do."""
+        """Shows the status line: the place of the job, what is said of the console, and what a person may do."""
         parts = ["slot %o %s" % (self.slot, self.names), frame, console, "clock %o" % self.sitting.known.clock, hint]
         parts += ["%d keys lost" % self.lost] if self.lost else []
         self.screen.status(" " + " | ".join(parts))
@@ -189,8 +189,8 @@ class Seat:
             self.show_status(*self.found(False), "go goes on")
 
     def found(self, at_rest: bool) -> Tuple[str, str]:
-        """Where the job is in a call, and who holds the console, as far as a copy shows. If all jobs wait, each job that waits for a
-        byte or for room there gets one in this copy, and makes a tick."""
+        """How far the job is inside a call, and who holds the console, as far as a copy shows. If all jobs wait, each job that waits
+        for a byte or for room there gets one in this copy, and then a tick."""
         slots = [slot for slot in sorted(self.runner.last) if self.runner.runs(slot)] if at_rest else []
         lines = ["PEEK %o" % slot for slot in slots if slot != self.slot] + ["PEEK %o" % self.slot]
         for slot in slots:
@@ -212,7 +212,7 @@ def in_transfer(peek: Peek) -> bool:
 
 
 def frame_of(peek: Optional[Peek], state: Optional[Dict[str, str]]) -> str:
-    """Where a job is in a call, in a few words."""
+    """How far a job is inside a call, in a few words."""
     if peek is None:
         return "no job"
     stopped = ", stopped" if state and state["run"] == "STOP" else ""

@@ -1,13 +1,15 @@
 """The lines of a session and of its transcript, and which lines of the transcript answer which line of the session.
 
 Nothing here decides whether a line is a good one: the program does (docs/SESSION.md). A session is matched with the
-transcript that the program wrote for it, and where the two do not fit that is said.
+transcript that the program wrote for it, and if the two do not fit, that is said.
 """
 
+import re
 import sys
+from array import array
 from dataclasses import dataclass
 from itertools import islice
-from typing import Dict, List, Optional, Tuple
+from typing import Dict, Iterator, List, Optional, Sequence, Tuple, Union, overload
 
 from .shares import Taker, shares
 from .words import number
@@ -33,13 +35,13 @@ CLOSES = {"LOAD": "GO", "FILE": "EOF"}
 
 @dataclass
 class Line:
-    """A line of a session. After the last line comes one without text, where a refusal as CUT stands. A session may have very many
+    """A line of a session. After the last line comes one without text, which a refusal as CUT names. A session may have very many
     lines, so each keeps little."""
     __slots__ = ("number", "text", "kind", "block", "since", "ended", "version")
     number: int         # from 1
-    text: str           # as it stands, without its LF
+    text: str           # without its LF
     kind: str           # its first word; "a/" or "/" for words of a block; "" for an empty line or a comment
-    block: str          # the block in which it stands: LOAD, FILE or none. GO and EOF stand in theirs
+    block: str          # the block that it is in: LOAD, FILE or none. GO and EOF are in theirs
     since: int          # the number of the line that opened the block
     ended: bool         # the input is at its end here
     version: int        # of the session text, which line 1 may say
@@ -55,7 +57,7 @@ class Exchange:
     """A line of a session with the lines of the transcript that answer it."""
     __slots__ = ("line", "written", "reason", "at", "until")
     line: Line
-    written: List[str]      # the lines of the transcript
+    written: Sequence[str]  # the lines of the transcript
     reason: str             # why it is refused; then `answer` is the `?` line
     at: int                 # how many lines of the transcript came before
     until: int              # and how many with its answer
@@ -68,7 +70,7 @@ class Exchange:
     @property
     def answer(self) -> List[str]:
         """The lines of the transcript that answer it."""
-        return self.written[self.at:self.until]
+        return list(self.written[self.at:self.until])
 
     @property
     def words(self) -> List[str]:
@@ -77,7 +79,7 @@ class Exchange:
 
     @property
     def slot(self) -> Optional[int]:
-        """The slot that the line is about, where it names one or LOAD made it."""
+        """The slot that the line is about, if it names one or LOAD made it."""
         if self.line.kind == "LOAD" and self.until > self.at and not self.reason:
             return number(self.words[1])
         words = self.line.words
@@ -101,11 +103,39 @@ def kind_of(words: List[str]) -> str:
 
 
 def split(text: str) -> List[str]:
-    """The lines of a text, without their LF. A last line without LF counts where it is not empty."""
+    """The lines of a text, without their LF. A last line without LF counts if it is not empty."""
     lines = text.split("\n")
     if lines[-1] == "":
         lines.pop()
     return lines
+
+
+class Texts(Sequence[str]):
+    """The lines of a text, as `split` gives them. Each is cut out when somebody asks for it, so that millions of lines need little more memory
+    than their text."""
+
+    def __init__(self, text: str):
+        self.text = text
+        self.ends = array("I" if len(text) < 1 << 32 else "Q", (found.start() for found in re.finditer("\n", text)))
+        if text and not text.endswith("\n"):
+            self.ends.append(len(text))
+
+    def __len__(self) -> int:
+        return len(self.ends)
+
+    @overload
+    def __getitem__(self, at: int) -> str: ...
+
+    @overload
+    def __getitem__(self, at: slice) -> List[str]: ...
+
+    def __getitem__(self, at: Union[int, slice]) -> Union[str, List[str]]:
+        if isinstance(at, slice):
+            return [self[one] for one in range(*at.indices(len(self)))]
+        at = at if at >= 0 else len(self) + at
+        if not 0 <= at < len(self):
+            raise IndexError(at)
+        return self.text[self.ends[at - 1] + 1 if at else 0:self.ends[at]]
 
 
 def words_of(text: str) -> List[str]:
@@ -115,7 +145,7 @@ def words_of(text: str) -> List[str]:
 
 @dataclass
 class Places:
-    """Where the next line of a session stands: its number, the block that is open, and the version."""
+    """The place of the next line of a session: its number, the block that is open, and the version."""
     number: int = 1
     block: str = ""
     since: int = 0               # the number of the line that opened the block
@@ -141,7 +171,7 @@ class Places:
 
 
 def lines_of(text: str) -> List[Line]:
-    """The lines of a session with their blocks, and the end of the input behind them."""
+    """The lines of a session with their blocks, and after them the end of the input."""
     places = Places()
     lines = [places.line(one) for one in split(text)]
     lines.append(places.end())
@@ -152,10 +182,11 @@ class Transcript:
     """The lines of a transcript, taken one after the other."""
 
     def __init__(self, name: str, text: str):
-        self.name, self.lines, self.at = name, split(text), 0
+        self.name, self.at = name, 0
+        self.lines: Sequence[str] = Texts(text)
 
     def place(self) -> str:
-        """Where the next line stands, for a complaint."""
+        """The place of the next line, for a complaint."""
         return "%s, %s" % (self.name, at_line(self.at + 1))
 
     def words(self) -> List[str]:
@@ -182,7 +213,7 @@ class Transcript:
 
     def turns_ahead(self) -> Tuple[List[Optional[int]], str]:
         """The ticks of each T line from here to the next line of another kind, and the number of the line of the session that is refused
-        there, as it is written, else nothing."""
+        there, in the form that is written, else nothing."""
         until = self.at
         while until < len(self.lines) and self.lines[until].startswith("T "):
             until += 1
@@ -191,7 +222,7 @@ class Transcript:
         return [ticks_of(one) for one in self.lines[self.at:until]], refused
 
     def refusal(self, line_number: int) -> str:
-        """The reason, where the line of this number is refused here, else nothing."""
+        """The reason, if the line of this number is refused here, else nothing."""
         words = self.words()
         if len(words) == 3 and words[0] == "?" and words[1] == "%o" % line_number:
             self.at += 1
@@ -217,7 +248,7 @@ def take_answer(transcript: Transcript, line: Line) -> None:
 
 
 def ticks_of(answer: str) -> Optional[int]:
-    """How many ticks a T line has, where it can be a turn of RUN: then the job ran at its beginning."""
+    """How many ticks a T line has, if it can be a turn of RUN: then the job ran at its beginning."""
     words = answer.split(" ")
     if words[0] != "T" or len(words) < 3 or words[2].endswith("-"):
         return None
@@ -254,7 +285,7 @@ def exchanges(name: str, lines: List[Line], transcript: Transcript) -> List[Exch
 
 
 def turns_planned(lines: List[Line], at: int, transcript: Transcript) -> Dict[int, Optional[int]]:
-    """How many turns this RUN line has, and each RUN line behind it that is answered before the next line of the transcript that is no T
+    """How many turns this RUN line has, and each later RUN line that is answered before the next line of the transcript that is no T
     line: these T lines are shared out among them and the TICK lines between them."""
     ticks, refused = transcript.turns_ahead()
     takers: List[Taker] = []
@@ -284,10 +315,10 @@ def turns_of(exchange: Exchange) -> List[Exchange]:
     return turns
 
 
-def unrolled(told: List[Exchange]) -> List[Exchange]:
-    """The lines of a session, with the turns of each RUN line in its place."""
-    return [one for exchange in told
-            for one in (turns_of(exchange) if exchange.line.kind == "RUN" and not exchange.reason else [exchange])]
+def unrolled(told: List[Exchange]) -> Iterator[Exchange]:
+    """The lines of a session, with the turns of each RUN line in its place. There may be millions of turns, so only those of one RUN are kept."""
+    for exchange in told:
+        yield from turns_of(exchange) if exchange.line.kind == "RUN" and not exchange.reason else [exchange]
 
 
 def misfit(name: str, line: Line, problem: Exception) -> Wrong:
@@ -323,13 +354,13 @@ def peek_of(words: List[str]) -> Peek:
     return Peek(number(words[1]), words[2], words[3], number(words[4]), *words[5:8])
 
 
-# The registers of an S line, in their order; and what version 2 has behind them: the symbol and how far the PC is past it
+# The registers of an S line, in their order; and what version 2 has after them: the symbol and how far the PC is past it
 STATE_WORDS = ("user", "job", "superior", "console", "run", "pc", "pending1", "pending2", "mask1", "mask2", "defer1", "defer2")
 SYMBOL_WORDS = ("symbol", "past")
 
 
 def state_of(words: List[str]) -> Dict[str, str]:
-    """An S line: each register by its name, and the symbol where it has one or says that there is none."""
+    """An S line: each register by its name, and the symbol if it has one or says that there is none."""
     names = STATE_WORDS + SYMBOL_WORDS
     if len(words) - 2 not in (len(STATE_WORDS), len(names)):
         raise IndexError(words)

@@ -8,7 +8,7 @@ Ranges = List[Tuple[int, int]]        # places in the list of turns: from the fi
 
 
 def starts(ticks: List[Optional[int]]) -> List[int]:
-    """For each turn, where the turns begin that are like it and stand before it without a gap."""
+    """For each turn, the place of the first of the turns that are like it and come before it without a gap."""
     found: List[int] = []
     for at, one in enumerate(ticks):
         found.append(found[-1] if at and ticks[at - 1] == one else at)
@@ -16,7 +16,7 @@ def starts(ticks: List[Optional[int]]) -> List[int]:
 
 
 def ends(ticks: List[Optional[int]]) -> List[int]:
-    """For each turn, where the turns end that are like it and stand behind it without a gap."""
+    """For each turn, the place after the last of the turns that are like it and follow it without a gap."""
     return [len(ticks) - start for start in reversed(starts(ticks[::-1]))]
 
 

@@ -32,7 +32,7 @@ class Living:
         self.writer: Optional[threading.Thread] = None
 
     def write(self, texts: List[str]) -> None:
-        """Writes lines. Many are written beside, as their answers have to be read meanwhile."""
+        """Writes lines. Many are written by a thread, because their answers have to be read meanwhile."""
         data = "".join(text + "\n" for text in texts).encode("latin-1")
         self.written()
         if len(data) <= AT_ONCE:
@@ -115,7 +115,7 @@ class Turn:
 
 
 def turn_of(answer: str) -> Turn:
-    """What a T line tells."""
+    """What a T line shows."""
     words = answer.split(" ")
     return Turn(int(words[1], 8), "".join(run[-1] * int(run[:-1], 8) for run in words[2:]))
 
@@ -195,7 +195,7 @@ class Sitting:
         self.answers(start.answers)
 
     def learn(self, exchange: Exchange) -> List[str]:
-        """What a line that was performed means. What it tells is kept in mind."""
+        """What a line that was performed means. What it shows is kept in mind."""
         return meaning(exchange, self.known) if exchange.line.kind not in QUIET else []
 
     def look(self, texts: List[str]) -> List[str]:
@@ -256,7 +256,7 @@ class Sitting:
         self.give(texts)
 
     def ticks(self, texts: List[str], console: int) -> Tuple[List[Turn], bytes]:
-        """Gives RUN or TICK lines, and drains the console: the turns, and the bytes that were put out. The D line ends the answer, as
+        """Gives RUN or TICK lines, and drains the console: the turns, and the bytes that were put out. The D line ends the answer, because
         nobody knows before how many turns a RUN has."""
         self.step(texts + ["DRAIN %o 100" % console])
         *turns, drained = self.answers_until(lambda line, _: line.startswith("D "))

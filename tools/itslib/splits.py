@@ -1,4 +1,4 @@
-"""The definitions that take the events of a session apart, and the places that are right for that.
+"""The definitions that distinguish the events of a session, and the places that are right for that.
 
 A definition does so if one of its clauses has a constructor in a pattern: of `Item`, and then it walks a session from item to item;
 or of what a line does (`Lined`, `Operated`); or of `Event`, the kinds of line. A relation by rules does so if a rule names a
@@ -18,7 +18,7 @@ TYPES = (
     ("Operated", "Rattle.its_plain.specs.Operator", EFFECT),
 )
 
-# Where events may be taken apart: below crates/, the file and its definitions. First where a promise rests on it.
+# The places that may distinguish events: below crates/, the file and its definitions. First those that a promise rests on.
 PROMISED = {
     # the transcript, the course of its run, and the judge
     "its_plain/specs/Transcript.antt": {WALK: "Shows"},
@@ -43,8 +43,8 @@ OTHER = {
     "its_top/specs/Checking.antt": {WALK: "checked_from"},
     # contracts of the code that performs a line
     "its_direct/specs/Events.antt": {EFFECT: "Obeys", KIND: "IsTold MayStand Says"},
-    "its_verify/specs/Showing.antt": {KIND: "lines_of heard_of is_peek_event IsThere"},
-    "its_verify/specs/Trial.antt": {KIND: "RunsOutside"},
+    "its_verify/specs/Showing.antt": {KIND: "lines_of shown_judge is_peek_event IsThere"},
+    "its_verify/specs/Verifier.antt": {KIND: "RunsOutside"},
     # contracts of the loops that read a session: is it at its end
     "its_reader/specs/Items.antt": {KIND: "is_end"},
     "its_verify/specs/Going.antt": {KIND: "is_end"},
@@ -63,7 +63,7 @@ EQUALS = re.compile(r" =(?: |$)")
 
 
 class Split(NamedTuple):
-    """A definition that takes events apart: its file, its name, what it takes apart, and the line where it does so first."""
+    """A definition that distinguishes events: its file, its name, what it distinguishes, and the line that does so first."""
     path: str
     name: str
     what: str
@@ -125,7 +125,7 @@ def clauses(text: str) -> Iterator[Tuple[int, str, str]]:
 
 
 def splits(path: str, text: str, known: Dict[str, str]) -> List[Split]:
-    """The definitions of this file that take events apart, by the whole names of the constructors."""
+    """The definitions of this file that distinguish events, by the whole names of the constructors."""
     module, names = "Rattle." + ".".join(path[:-len(".antt")].split(os.sep)[1:]), names_in(text)
     types = {name for name, where, _ in TYPES if where == module}
     found: Dict[str, Split] = {}
@@ -139,7 +139,7 @@ def splits(path: str, text: str, known: Dict[str, str]) -> List[Split]:
 
 
 def places(table: Dict[str, Dict[str, str]]) -> Iterator[Tuple[str, str, str]]:
-    """The places of a table: file, name, and what is taken apart."""
+    """The places of a table: file, name, and what is distinguished."""
     for path, row in table.items():
         for what, names in row.items():
             for name in names.split():
@@ -147,15 +147,15 @@ def places(table: Dict[str, Dict[str, str]]) -> Iterator[Tuple[str, str, str]]:
 
 
 def wrong_splits(found: List[Split], inside: Set[str]) -> Iterator[str]:
-    """Where events are taken apart and no table has the place, and places of the tables where none are; `inside` has the files on which
+    """Places that distinguish events and are in no table, and places of the tables that distinguish none; `inside` has the files on which
     the promise rests."""
     right = set(places(PROMISED)) | set(places(OTHER))
     for split in found:
         if split[:3] not in right:
-            yield "%s:%d: %s takes %s apart, and is no place for it (tools/itslib/splits.py)" % (
+            yield "%s:%d: %s distinguishes %s, and is no place for that (tools/itslib/splits.py)" % (
                 split.path, split.line, split.name, SAID[split.what])
     for path, name, what in sorted(right - {split[:3] for split in found}):
-        yield "%s: tools/itslib/splits.py says that %s takes %s apart, which it does not" % (path, name, SAID[what])
+        yield "%s: tools/itslib/splits.py says that %s distinguishes %s, which it does not" % (path, name, SAID[what])
     for table in (PROMISED, OTHER):
         for path in sorted({path for path, _, _ in places(table)}):
             if (path in inside) != (table is PROMISED):

@@ -1,6 +1,7 @@
 """Steps through a session in the page docs/its.html as a reader does, and compares what the page shows with what the program answered it, and
 that with the session's transcript."""
 
+import json
 import time
 from typing import Dict, List
 
@@ -43,14 +44,38 @@ VIEWS = """(async () => {
   for (let at = 0; at < shown.moments.length; at += 1) views.push(await program.ask("view", {at, watch: []}, "test"));
   return views;
 })()"""
+# Presses buttons one after the other, looks at all jobs if that is asked for, and gives what the page shows after each. Done in the page,
+# because a question from outside takes long on a machine that has much else to do.
+VISIT = """(async (steps, looks) => {
+  const found = [], settled = async () => {
+    for (const begun = performance.now(); !(%s);) {
+      if (performance.now() - begun > 1000 * %d) throw new Error("a moment is not drawn");
+      await new Promise(resolve => setTimeout(resolve, 1));
+    }
+  };
+  for (const step of steps) {
+    document.querySelector("[data-step=" + step + "]").click();
+    await settled();
+    if (looks) document.querySelectorAll(".job:not([hidden]) .look[aria-pressed=false]").forEach(one => one.isConnected && one.click());
+    await settled();
+    found.push(%s);
+  }
+  return found;
+})(%s, %s)"""
+AT_ONCE = 20         # so many buttons are pressed by one script
 PRESS = """document.querySelectorAll("%s").forEach(one => one.isConnected && one.click())"""
 ASK = """(card => { card.querySelector("input").value = "%s"; card.querySelector("form").requestSubmit(); })(
   document.querySelector(".job[data-slot='%s']"))"""
-CLICK = """(([row, x, width, top]) => {
-  const sheet = byId("sheet"), box = sheet.getBoundingClientRect();
+CLICK_LINES = """%s.map(line => {
+  document.querySelector("#lines [data-line='" + line + "']").click();
+  return at.moment;
+})"""
+# Clicks on the places of moments in the picture, and gives those moments from which the page is elsewhere then
+CLICK_PLACES = """%s.filter(to => shown.moments[to].place).filter(to => {
+  const [row, x, width, top] = shown.moments[to].place, sheet = byId("sheet"), box = sheet.getBoundingClientRect();
   sheet.dispatchEvent(new MouseEvent("click", {clientX: box.left + x + width / 2, clientY: box.top + top - TITLE + BAR / 2}));
-  return JSON.stringify(shown.moments[at.moment].place) === JSON.stringify(shown.moments[%d].place);
-})(shown.moments[%d].place)"""
+  return JSON.stringify(shown.moments[at.moment].place) !== JSON.stringify(shown.moments[to].place);
+})"""
 KEYS = (("ArrowRight", False, "tick"), ("ArrowLeft", False, "tick-back"), ("ArrowRight", True, "star"), ("ArrowLeft", True, "star-back"),
         ("ArrowDown", False, "line"), ("ArrowUp", False, "line-back"))
 
@@ -61,7 +86,7 @@ def wait(browser: Browser, condition: str, what: str) -> None:
     while not browser.value(SETTLED % condition):
         if time.monotonic() < until:
             continue
-        raise Wrong("%s does not come about: %s; the page says: %s" % (what, condition, browser.value("byId('alert').textContent")))
+        raise Wrong("%s does not come about: %s; the page says: %s" % (what, condition[:200], browser.value("byId('alert').textContent")))
 
 
 def word_in(job: dict, address: int):
@@ -93,7 +118,7 @@ class Steps:
         wait(self.browser, DRAWN, self.name)
 
     def want(self, what: str, is_so: bool, at: int) -> None:
-        """Complains where something is not as it has to be."""
+        """Complains if something is not as it has to be."""
         if not is_so:
             raise Wrong("%s, moment %d: %s" % (self.name, at, what))
 
@@ -102,9 +127,21 @@ class Steps:
         self.browser.value("document.querySelector('[data-step=%s]').click()" % step)
         self.settle()
 
+    def visit(self, presses: List[str], looks: bool) -> List[dict]:
+        """Presses buttons one after the other, and gives what the page shows after each."""
+        found: List[dict] = []
+        for start in range(0, len(presses), AT_ONCE):
+            some = json.dumps(presses[start:start + AT_ONCE])
+            found += self.browser.value(VISIT % (DRAWN, PATIENCE, SHOWN, some, json.dumps(looks)))
+        return found
+
     def compare(self, at: int, looks: bool) -> None:
         """What is shown has to be what the program answered at a moment."""
-        shown, view = self.browser.value(SHOWN), self.views[at]
+        self.compare_shown(self.browser.value(SHOWN), at, looks)
+
+    def compare_shown(self, shown: dict, at: int, looks: bool) -> None:
+        """The same of what was shown."""
+        view = self.views[at]
         self.want("the page is at %s" % shown["moment"], shown["moment"] == shown["slider"] == at and shown["last"] == self.last, at)
         self.want("it shows line %s" % shown["line"], shown["line"] == view["line"], at)
         self.want("it shows the letter '%s'" % shown["letter"], shown["letter"] == view["letter"], at)
@@ -121,7 +158,7 @@ class Steps:
                 self.want("console %s shows %s" % (console, line), right, at)
 
     def compare_job(self, at: int, shown: dict, job: dict, looks: bool) -> None:
-        """What is shown of a job has to be what the program answered of it."""
+        """What is shown of a job has to be what the program answered."""
         peek, call = job["peek"], job["call"]
         self.want("slot %s is shown as %s" % (shown["slot"], shown["state"]), shown["state"] == peek["state"], at)
         if peek["state"] != "USER":
@@ -154,22 +191,13 @@ class Steps:
 
     def walk(self) -> None:
         """Steps through all moments, forward, and back looking at all jobs; then by lines and by steps of the machine."""
-        self.press("first")
-        for at in range(self.last + 1):
-            self.compare(at, False)
-            self.press("tick")
-        for at in range(self.last, -1, -1):
-            self.browser.value(PRESS % ".job:not([hidden]) .look[aria-pressed=false]")
-            self.settle()
-            self.compare(at, True)
-            self.press("tick-back")
-        for step, start in (("line", "first"), ("star-back", "last")):
-            self.press(start)
-            at, to = 0 if start == "first" else self.last, -1
-            while to != at:
-                self.compare(at, True)
-                to, at = at, self.target(at, step)
-                self.press(step)
+        for step, start in (("tick", 0), ("tick-back", self.last), ("line", 0), ("star-back", self.last)):
+            looks, path = step != "tick", [start]
+            while self.target(path[-1], step) != path[-1]:
+                path.append(self.target(path[-1], step))
+            presses = ["last" if start else "first"] + [step] * len(path)
+            for at, shown in zip(path + path[-1:], self.visit(presses, looks)):
+                self.compare_shown(shown, at, looks)
 
     def keys(self) -> None:
         """Presses each key, from the middle."""
@@ -205,15 +233,14 @@ class Steps:
 
     def clicks(self) -> None:
         """Clicks on lines and into the picture, and moves the slider."""
-        for line in sorted({view["line"] for view in self.views} - {0})[:40]:
-            self.browser.value("document.querySelector('#lines [data-line=\"%d\"]').click()" % line)
-            self.settle()
-            to = max(index for index, view in enumerate(self.views) if view["line"] <= line)
-            self.want("a click on line %d" % line, self.browser.value("at.moment") == to, to)
-        for to in range(0, self.last + 1, max(1, self.last // 20)):
-            if self.browser.value("Boolean(shown.moments[%d].place)" % to):
-                self.want("a click into the picture goes elsewhere", self.browser.value(CLICK % (to, to)), to)
-                self.settle()
+        lines = sorted({view["line"] for view in self.views} - {0})
+        ends = [max(index for index, view in enumerate(self.views) if view["line"] <= line) for line in lines]
+        for line, to, found in zip(lines, ends, self.browser.value(CLICK_LINES % json.dumps(lines))):
+            self.want("a click on line %d" % line, found == to, to)
+        self.settle()
+        for wrong in self.browser.value(CLICK_PLACES % json.dumps(list(range(self.last + 1)))):
+            self.want("a click into the picture goes elsewhere", False, wrong)
+        self.settle()
         self.browser.value("byId('slider').value = %d; byId('slider').dispatchEvent(new Event('input'))" % (self.last // 2))
         self.settle()
         self.compare(self.last // 2, True)
@@ -237,7 +264,7 @@ class Recorded:
         self.compared = 0
 
     def same(self, exchange: Exchange, what: str, page, transcript) -> None:
-        """What the page has has to be what the transcript says."""
+        """The page has to show what the transcript says."""
         self.compared += 1
         if page != transcript:
             raise Wrong("%s, line %d, %s: the page has %s of %s, the transcript %s" % (

@@ -1,4 +1,4 @@
-"""The story of a session: what happens in it, job by job, as far as the session and its transcript tell."""
+"""The story of a session: what happens in it, job by job, as far as the session and its transcript show."""
 
 from dataclasses import dataclass, field
 from typing import Dict, List, Optional, Union
@@ -10,10 +10,10 @@ from .words import call_name, held, number, pc_of, short, sixbit, typed
 
 @dataclass
 class Lane:
-    """A job, as far as the transcript tells; or a slot in which no job was seen yet."""
+    """A job, as far as the transcript shows it; or a slot in which no job was seen yet."""
     slot: int
     seen: bool = False       # a job was in the slot for certain
-    names: str = ""          # user name and job name, where a LOAD or an S line gives them
+    names: str = ""          # user name and job name, if a LOAD or an S line gives them
     note: str = ""           # its console, its superior, or how it was made
 
 
@@ -51,18 +51,18 @@ Piece = Union[Run, Mark]
 @dataclass
 class Story:
     """All that happens in a session, in its order; or between two of its lines."""
-    first: int = 1                                             # the first line that is told, and the last one
+    first: int = 1                                             # the first line that is drawn, and the last one
     last: int = 1 << 30
     pieces: List[Piece] = field(default_factory=list)
     lanes: List[Lane] = field(default_factory=list)
     current: Dict[int, Lane] = field(default_factory=dict)     # slot -> its lane now
     ticks: int = 0
-    line: int = 0                                              # the line of the session that is told
+    line: int = 0                                              # the line of the session that is looked at
     loading: Optional[Mark] = None                             # the mark of the LOAD block that is open
 
     @property
     def is_told(self) -> bool:
-        """Whether the line is one of those that are told."""
+        """Whether the line is one of those that are drawn."""
         return self.first <= self.line <= self.last
 
     def mark(self, lane: Optional[Lane], kind: str, *labels: str, tip: str = "") -> Mark:
@@ -110,7 +110,7 @@ class Story:
         return lane
 
     def named(self, slot: int, names: str, superior: str, console: str) -> Lane:
-        """An S line tells the names of the job in the slot; other names than before are another job's."""
+        """An S line shows the names of the job in the slot; other names than before are another job's."""
         if self.job_of(slot).names not in ("", names):
             self.gone(slot)
         lane = self.job_of(slot)

@@ -39,7 +39,7 @@ class Symbols:
         return self.names[first] + ("+%o" % (address - first) if address > first else "")
 
     def near(self, address: int) -> str:
-        """The same in parentheses, behind an address that is told."""
+        """The same in parentheses, to follow an address."""
         name = self.nearest(address)
         return " (%s)" % name if name else ""
 

@@ -1,4 +1,4 @@
-"""What is told of each line of a session, and of a line of an assembly text that is refused."""
+"""What is said of each line of a session, and of a line of an assembly text that is refused."""
 
 from typing import Iterator, List
 
@@ -10,7 +10,7 @@ from .told import Told, refusal
 
 
 def tell(name: str, told: List[Exchange]) -> Iterator[Told]:
-    """What is told of each line."""
+    """What is said of each line."""
     known = Known()
     for exchange in told:
         line = exchange.line

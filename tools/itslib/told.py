@@ -1,4 +1,4 @@
-"""What is told of lines of a text to a reader: the line, its answer, what they mean, or why it is refused."""
+"""What is said of lines of a text to a reader: the line, its answer, what they mean, or why it is refused."""
 
 from dataclasses import dataclass, field
 from typing import Dict, List, Optional
@@ -12,7 +12,7 @@ NUMBER = 12            # the width of the numbers before a line
 
 @dataclass
 class Told:
-    """What is told of one line of a text."""
+    """What is said of one line of a text."""
     line: int                                      # its number, from 1
     text: str
     answer: List[str] = field(default_factory=list)
@@ -37,7 +37,7 @@ def number_of(line: int) -> str:
 
 
 def in_words(one: Told) -> List[str]:
-    """What is told of a line, as lines for a reader."""
+    """What is said of a line, as lines for a reader."""
     out = ["%s  %s" % (number_of(one.line), shown(one.text[:LONGEST]))]
     if one.plain:
         out.append("%s= %s" % (" " * NUMBER, shown(one.plain)))

@@ -5,7 +5,7 @@ from typing import Dict, List, Optional
 
 from .sitting import Sitting, Turn, turn_of
 
-SLOTS = 0o100             # of version 1; a RUN of version 2 finds the jobs that run by itself
+SLOTS = 0o100             # of version 1; a RUN of version 2 finds the jobs that run
 FEW = 16                  # so many ticks has a turn at first
 MANY_RUN, MANY_TICK = 0o100, 0o1000      # and at most: of RUN, of TICK
 TURNS = 0o100             # so many turns a RUN has at most, but always one more than jobs run
@@ -13,7 +13,7 @@ LARGEST = 6               # so often a piece doubles
 
 
 def settled(turns: List[Turn]) -> bool:
-    """Whether these turns of RUN show that nothing goes on: all that run wait, and each was looked at, as the circle is closed; or
+    """Whether these turns of RUN show that nothing goes on: all that run wait, and each was looked at, because the circle is closed; or
     nothing runs."""
     slots = [turn.slot for turn in turns]
     return all(set(turn.letters) == {"w"} for turn in turns) and (not turns or len(set(slots)) < len(slots))
@@ -106,8 +106,8 @@ def next_move(runner: Runner, most: int, guess: int) -> Optional[int]:
 
 
 def holder_of(consoles: Dict[int, str], letters: Dict[int, str], console: int, slot: int, linked: bool = False) -> str:
-    """Who holds a console, as far as a try on a copy shows: each job that waits for a byte or for room there was given one, and made a
-    tick. A job that waits still does so because another job holds the console; or it waits at a link, if there may be one (`linked`),
+    """Who holds a console, as far as a try on a copy shows: each job that waits for a byte or for room there was given one, and then
+    a tick. A job that waits still does so because another job holds the console; or it waits at a link, if there may be one (`linked`),
     and then nothing is known."""
     here = {one: letter for one, letter in letters.items() if consoles.get(one) == "%o" % console}
     barred = sorted(one for one, letter in here.items() if letter == "w")

@@ -11,7 +11,7 @@ from .session import LINES, Line, Transcript, Wrong, at_line, lines_of, split, t
 from .words import number
 
 LETTERS = "*.w-"
-TRIES = 64             # so many TICK lines before the wrong one are given other counts, so that as many steps are made
+TRIES = 64             # so many TICK lines before the wrong one are given other counts, so that they show as many steps
 
 RULES = {"*": "`*` is one step of the plain machine, and the job has none here: its call waits",
          ".": "at most 16 `.` come for a job between two steps; then its step has to come, or `w` if its call waits",
@@ -157,7 +157,7 @@ def longest(letters: str, fits: Callable[[str], bool]) -> int:
 # ---------------------------------------------------------------------------------------------------------------------
 
 def licensed_line(judge: Judge, at: int) -> Optional[str]:
-    """A line that is licensed at this place of the transcript: the one that the program writes when as many steps were made."""
+    """A line that is licensed at this place of the transcript: the one that the program writes after as many steps."""
     session = [line.text for line in judge.lines]
     for _ in range(TRIES):
         written = judge.shows(session)
@@ -182,7 +182,7 @@ def steps(line: str) -> int:
 
 
 def count_for(judge: Judge, before: List[str], slot: str, wanted: int) -> Optional[int]:
-    """How many ticks of a slot make so many steps; 1 at least, as a TICK has."""
+    """How many ticks of a slot show so many steps; 1 at least, which is the least of a TICK."""
     written = judge.shows(before + ["TICK %s 1000" % slot])
     letters = letters_of(written[-1]) if written else ""
     count = 0

@@ -1,4 +1,4 @@
-"""Words of 36 bits, and the names of what stands in them: SIXBIT, ASCII, calls, pending bits, errors, flags, variables.
+"""Words of 36 bits, and the names of what is in them: SIXBIT, ASCII, calls, pending bits, errors, flags, variables.
 
 The tables are those of docs/CALLS.md and docs/MACHINE.md. Numbers of a session and of a transcript are octal.
 """
@@ -33,7 +33,7 @@ FATAL = 0o77
 FLAGS = {0o400000: "overflow", 0o200000: "carry 0", 0o100000: "carry 1", 0o040000: "floating overflow",
          0o020000: "first part done", 0o010000: "user", 0o000040: "no divide"}
 
-# Where a job stands in a call, by docs/SESSION.md
+# How far a job is inside a call, by docs/SESSION.md
 STATES = {"USER": "in user mode", "ENTERED": "the call was entered", "PARSED": "its block is read",
           "ASKED": "its arguments are found", "HOLDING": "it is ready to be tried", "WAITING": "it waits",
           "MOVING": "a byte or word is taken and not stored yet", "ENDING": "it is decided, and its end is pending"}
@@ -60,7 +60,7 @@ def short(word: str) -> str:
 
 
 def sixbit(word: str) -> str:
-    """The name that a SIXBIT word of 12 digits stands for, without the spaces at its end."""
+    """The name in a SIXBIT word of 12 digits, without the spaces at its end."""
     return "".join(chr(int(word[i:i + 2], 8) + 32) for i in range(0, 12, 2)).rstrip()
 
 
@@ -70,7 +70,7 @@ def as_sixbit(name: str) -> str:
 
 
 def character(code: int) -> str:
-    """A byte as a character: in quotes where it can be printed, else its code."""
+    """A byte as a character: in quotes if it can be printed, else its code."""
     return "'%s'" % chr(code) if 32 <= code < 127 else "<%o>" % code
 
 
@@ -81,7 +81,7 @@ def typed(byte_words: List[str]) -> str:
 
 
 def ascii_of(word: str) -> str:
-    """The characters of a word that holds text in five bytes of 7 bits, zeros at its end; nothing where it cannot be text."""
+    """The characters of a word that holds text in five bytes of 7 bits, zeros at its end; nothing if it cannot be text."""
     value = number(word)
     codes = [value >> (29 - 7 * i) & 0o177 for i in range(5)]
     while codes and codes[-1] == 0:
@@ -128,7 +128,7 @@ def signed(word: str) -> int:
 
 
 def byte_pointer(word: str) -> Optional[str]:
-    """A byte pointer in words; None where the word is none that SIOT takes."""
+    """A byte pointer in words; None if the word is none that SIOT takes."""
     value = number(word)
     place, size, more, address = value >> 30, value >> 24 & 0o77, value >> 18 & 0o77, value & 0o777777
     if not 0 < size <= 36 or more or place > 36:
@@ -148,7 +148,7 @@ def held(word: str, pointer: str) -> str:
 
 
 def pc_word(word: str) -> str:
-    """A PC word in words, where the word is one: the flag `user` is on, and nothing but flags stands at its left."""
+    """A PC word in words, if the word is one: the flag `user` is on, and its left half has nothing but flags."""
     left = number(word[:6])
     if not left & 0o010000 or left & ~sum(FLAGS):
         return ""

@@ -1,6 +1,6 @@
-// Why a line is refused, as a person needs it, as tools/itslib/causes.py finds it. The program says that it is refused, and with which
-// reason; the cause is looked for in the text of the line and in the lines before it. A cause is {text, column}: the column counts from 1,
-// and is 0 if no place in the line is meant.
+// Why a line is refused, in words for a person; tools/itslib/causes.py finds the same cause. The program only says that the line is refused,
+// and the reason; the cause is looked for in the text of the line and in the lines before it. A cause is {text, column}: the column counts
+// from 1, and is 0 if no place in the line is meant.
 "use strict";
 
 function cause(text, column = 0) { return {text, column}; }
@@ -40,7 +40,7 @@ function foreign(rest) {
   return "a byte that is no printing character of ASCII, " + octal(code) + " in octal";
 }
 
-// A line that may not be where it is.
+// A line at a place at which it may not occur.
 function wrongPlace(line) {
   const inside = {"a/": "LOAD", RO: "LOAD", SYM: "LOAD", GO: "LOAD", "/": "FILE", EOF: "FILE"}, column = starts(line)[0];
   if (!TABLES.lines[line.kind] && !inside[line.kind]) return null;
@@ -249,7 +249,7 @@ function causeOf(exchange, known) {
   }
 }
 
-// What is told of each line of a session: its answer, what both mean, and of a refused line the cause.
+// What is said of each line of a session: its answer, what both mean, and the cause if it is refused.
 function toldLines(name, told) {
   const known = newKnown(), lines = [];
   for (const exchange of told) {

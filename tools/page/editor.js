@@ -1,14 +1,12 @@
 // The editor of a session, the list of its lines with what the transcript answers, and the assembly text.
 "use strict";
 
-const CHUNK = 250;                       // lines of the session that are listed at once
 const SLOW = 250;                        // milliseconds; if two runs in a row take longer, there is none at each change
 const IDLE = 150;                        // milliseconds without a change, before the moments are found
-const MOST_NUMBERED = 20000;             // lines of a text field that are numbered
 const LONGEST_LINK = 24000;              // characters of a session that a link carries
 
 const examples = itemOf("example-texts");
-const listed = {from: 0, items: new Map(), current: null};
+const listed = {part: -1, lines: [], items: new Map(), current: null};      // the part of the lines that is listed
 const doing = {isRunning: false, isStale: false, name: "session.its", idle: 0, slow: 0};
 
 
@@ -16,32 +14,46 @@ const doing = {isRunning: false, isStale: false, name: "session.its", idle: 0, s
 // The lines of the session
 // ---------------------------------------------------------------------------------------------------------------------
 
-// Lists the lines of the session around a line, so many at once.
-function listLines(line) {
-  const lines = shown ? shown.lines : [], last = Math.max(0, lines.length - CHUNK);
-  listed.from = Math.max(0, Math.min(last, Math.floor((line - 1) / CHUNK) * CHUNK));
-  const some = lines.slice(listed.from, listed.from + CHUNK);
-  listed.items = new Map(some.map(one => [one.line, lineElement(one)]));
+// The lines of the session are in parts (engine.js), of which one is listed.
+function partWith(line) { return shown.parts.findLastIndex(part => part.first <= line); }
+
+// Lists a part of the lines of the session.
+function listPart(part) {
+  const {parts} = shown, one = parts[part] || {first: 1, count: 0, json: "[]"};
+  listed.part = part;
+  listed.lines = JSON.parse(one.json);
+  listed.items = new Map(listed.lines.map(line => [line.line, lineElement(line)]));
   listed.current = null;
+  byId("lines").style.setProperty("--digits", numbered(shown.listed).length);
   byId("lines").replaceChildren(...listed.items.values());
-  byId("paging").hidden = lines.length <= CHUNK;
-  byId("which").textContent = atLine(listed.from + 1) + " to " + atLine(listed.from + some.length) + " of " + lines.length;
-  byId("earlier").disabled = listed.from === 0;
-  byId("later").disabled = listed.from >= last;
+  byId("lines").scrollTop = 0;
+  byId("paging").hidden = parts.length <= 1;
+  byId("which").textContent = rangeText(one.first, one.first + one.count - 1, shown.listed);
+  byId("earlier").disabled = part <= 0;
+  byId("later").disabled = part >= parts.length - 1;
+}
+
+// The entry of a line in the list; its part is listed then. Nothing, if the line has no entry.
+function lineAt(number) {
+  if (number && !listed.items.has(number)) listPart(partWith(number));
+  return listed.lines.find(one => one.line === number);
+}
+
+// Texts as elements of the list. Of very many the first ones, and how many there are more.
+function listedTexts(kind, texts) {
+  const rest = texts.length - MOST_LISTED, some = texts.slice(0, MOST_LISTED).map(one => element("span", kind, one));
+  return rest > 0 ? [...some, element("span", "said", "and " + countOf(rest, "line") + " more, which are in the transcript")] : some;
 }
 
 // A line of the session with its answers, and what they mean. A click on it goes to its end.
 function lineElement(one) {
   const isComment = /^ *(;|$)/.test(one.text), isEnd = one.line > shown.count;
   const source = element("span", isComment ? "source comment" : "source", isEnd ? "(the input ends)" : one.text);
-  const number = element("span", "number", String(one.line));
-  number.title = atLine(one.line);
-  const item = element("li", one.refused ? "refused" : "", number, source);
+  const item = element("li", one.refused ? "refused" : "", element("span", "number", numbered(one.line)), source);
   if (one.refused && one.refused.column && one.refused.column < 256) {
     item.append(element("span", "caret-at", " ".repeat(one.refused.column - 1) + "^"));
   }
-  item.append(...one.answer.map(answer => element("span", "answer", answer)));
-  item.append(...one.means.map(said => element("span", "said", said)));
+  item.append(...listedTexts("answer", one.answer), ...listedTexts("said", one.means));
   if (one.refused) item.append(element("span", "said cause", "refused as " + one.refused.reason + ": " + one.refused.cause));
   item.dataset.line = one.line;
   item.addEventListener("click", () => {
@@ -57,8 +69,7 @@ function showLine(moment) {
     const letters = listed.current.querySelector(".letters");
     if (letters) letters.remove();
   }
-  if (moment.line && !listed.items.has(moment.line)) listLines(moment.line);
-  const item = listed.current = listed.items.get(moment.line) || null, list = byId("lines");
+  const line = lineAt(moment.line), item = listed.current = line ? listed.items.get(moment.line) : null, list = byId("lines");
   if (!item) { list.scrollTop = 0; return; }
   item.setAttribute("aria-current", "step");
   if (moment.letter) item.querySelector(".source").after(lettersOf(moment));
@@ -67,16 +78,9 @@ function showLine(moment) {
 
 // The letters of the TICK line at the cursor, with the one of this tick marked.
 function lettersOf(moment) {
-  const {moments} = shown, index = moments.indexOf(moment), own = other => moments[other] && moments[other].line === moment.line;
-  let from = index, to = index + 1, first = index, end = index + 1;
-  while (own(first - 1)) first -= 1;
-  while (own(end)) end += 1;
-  from = Math.max(first, index - LETTERS);
-  to = Math.min(end, index + 1 + LETTERS);
-  const text = (start, stop) => moments.slice(start, stop).map(other => other.letter).join("");
-  const letters = element("span", "letters", (from > first ? "…" : "") + text(from, index), element("b", "", moment.letter),
-                          text(index + 1, to) + (to < end ? "…" : ""));
-  letters.setAttribute("aria-label", "tick " + octal(index - first + 1) + " of " + octal(end - first) + " of this line");
+  const {before, after, tick, count} = lettersAround(shown.moments, shown.moments.indexOf(moment), LETTERS);
+  const letters = element("span", "letters", before, element("b", "", moment.letter), after);
+  letters.setAttribute("aria-label", "tick " + octal(tick) + " of " + octal(count) + " of this line");
   return letters;
 }
 
@@ -84,14 +88,6 @@ function lettersOf(moment) {
 // ---------------------------------------------------------------------------------------------------------------------
 // Running
 // ---------------------------------------------------------------------------------------------------------------------
-
-// Numbers the lines of a text field at its left.
-function numberLines(field, gutter) {
-  const count = Math.min(MOST_NUMBERED, field.value.split("\n").length);
-  if (gutter.dataset.count === String(count)) return;
-  gutter.dataset.count = count;
-  gutter.textContent = Array.from({length: count}, (_, at) => at + 1).join("\n") + "\n";
-}
 
 // Runs the text of the editor; one that is changed meanwhile, once more.
 async function runText() {
@@ -103,7 +99,7 @@ async function runText() {
   try {
     do {
       doing.isStale = false;
-      await runOnce(byId("text").value);
+      await runOnce(fields.text.text);
     } while (doing.isStale);
   } catch (problem) {
     alertOf(problem);
@@ -115,14 +111,14 @@ async function runText() {
 }
 
 async function runOnce(text) {
-  const texts = [...new Set([byId("source").value, exampleOf(doing.name.replace(/\.its$/, ".asm"))].filter(Boolean))];
+  const texts = [...new Set([fields.source.text, exampleOf(doing.name.replace(/\.its$/, ".asm"))].filter(Boolean))];
   const answer = await program.ask("run", {name: doing.name, text, texts}, "Running the session");
-  const {told, transcript, picture, sources} = answer;
+  const {parts, listed: count, transcript, picture, sources} = answer;
   alertOf(null);
   forget();
-  shown = {name: doing.name, text, lines: told, count: split(text).length, transcript, picture, sources, moments: null};
+  shown = {name: doing.name, text, parts, listed: count, count: answer.count, transcript, picture, sources, moments: null};
   showPicture(picture);
-  listLines(1);
+  listPart(0);
   showResult(answer);
   window.clearTimeout(doing.idle);
   doing.slow = answer.took > SLOW ? doing.slow + 1 : 0;
@@ -144,9 +140,10 @@ function tooMany(answer) {
 async function step() {
   const own = shown;
   try {
-    const {outline} = await program.ask("steps", {}, "Finding the moments of the session");
+    const {json} = await program.ask("steps", {}, "Finding the moments of the session");
     if (own !== shown || doing.isRunning) return;
-    shown.moments = momentsIn(outline, shown.picture);
+    const {outline, spots} = JSON.parse(json);
+    shown.moments = momentsIn(outline, spots);
     byId("slider").max = shown.moments.length - 1;
     at.moment = Math.min(at.moment, shown.moments.length - 1);
     show();
@@ -156,8 +153,8 @@ async function step() {
 }
 
 // How the session ended, in a sentence; a line that is refused can be gone to.
-function showResult({status, told, unread, ran}) {
-  const last = told[told.length - 1], refused = last && last.refused, result = byId("result");
+function showResult({status, last, unread, ran}) {
+  const refused = last && last.refused, result = byId("result");
   result.classList.toggle("bad", Boolean(refused));
   const time = " (" + ran.toFixed(1) + " ms)";
   if (!refused) {
@@ -167,16 +164,8 @@ function showResult({status, told, unread, ran}) {
   }
   const button = element("button", "", "Go there");
   button.type = "button";
-  button.addEventListener("click", () => selectLine(byId("text"), last.line));
+  button.addEventListener("click", () => fields.text.select(last.line));
   result.replaceChildren("L" + atLine(last.line).slice(1) + " is refused as " + refused.reason + ": " + refused.cause + ". ", button);
-}
-
-// Selects a line in a text field, and brings it into sight.
-function selectLine(field, line) {
-  const lines = field.value.split("\n"), start = lines.slice(0, line - 1).reduce((sum, one) => sum + one.length + 1, 0);
-  field.focus();
-  field.setSelectionRange(start, start + (lines[line - 1] || "").length);
-  field.scrollTop = (line - 4) * field.scrollHeight / Math.max(lines.length, 1);
 }
 
 function exampleOf(name) {
@@ -187,10 +176,8 @@ function exampleOf(name) {
 // Puts a session into the editor, and runs it.
 function setSession(name, text) {
   doing.name = name;
-  byId("text").value = text;
-  byId("text").scrollTop = 0;
+  fields.text.text = text;
   byId("examples").value = exampleOf(name) === text ? name : "";
-  numberLines(byId("text"), byId("gutter"));
   at.moment = 0;
   looking.clear();
   watched.length = 0;
@@ -199,7 +186,6 @@ function setSession(name, text) {
 
 // The text of the editor was changed.
 function changed() {
-  numberLines(byId("text"), byId("gutter"));
   byId("examples").value = "";
   if (byId("auto").checked) runText();
   remember();
@@ -227,7 +213,7 @@ async function fromLink(link) {
 
 // What the address says: the session, the moment, who is looked at, and the words that are watched.
 async function hashOf() {
-  const text = byId("text").value, name = byId("examples").value, parts = [];
+  const {text} = fields.text, name = byId("examples").value, parts = [];
   if (name) parts.push("example=" + name);
   else if (packed && packed.text === text) parts.push("packed");
   else if (text.length <= LONGEST_LINK) parts.push("name=" + encodeURIComponent(doing.name), "session=" + await toLink(text));
@@ -270,7 +256,7 @@ async function recall() {
 
 // Copies a link that carries the session.
 async function share() {
-  const text = byId("text").value;
+  const {text} = fields.text;
   if (text.length > LONGEST_LINK) {
     alertOf(new Wrong("A link carries " + LONGEST_LINK + " characters at most, and this session has " + text.length + ": save it as a file."));
     return;
@@ -308,14 +294,13 @@ const assembly = {text: "", session: "", names: "", asked: 0};
 
 // Assembles the text, and shows the session of its image. Until it is assembled, there is no image to take.
 async function assembleText() {
-  const text = byId("source").value, result = byId("source-result"), asked = assembly.asked += 1;
-  numberLines(byId("source"), byId("source-gutter"));
+  const {text} = fields.source, result = byId("source-result"), asked = assembly.asked += 1;
   byId("take").disabled = true;
   const answer = text.trim() ? await program.ask("assemble", {text}, "Assembling the text") : null;
   if (asked !== assembly.asked) return;
   assembly.session = answer && answer.session || "";
   assembly.names = answer && answer.names || "";
-  byId("assembled").textContent = assembly.session;
+  byId("assembled").textContent = beginningOf(assembly.session);
   byId("take").disabled = !assembly.session;
   result.classList.toggle("bad", Boolean(answer && answer.refused));
   result.textContent = "";
@@ -326,13 +311,17 @@ async function assembleText() {
   }
   const {line, reason} = answer.refused, button = element("button", "", "Go there");
   button.type = "button";
-  button.addEventListener("click", () => selectLine(byId("source"), line));
+  button.addEventListener("click", () => fields.source.select(line));
   result.append("L" + atLine(line).slice(1) + " is refused as " + reason + ": " + (REASONS[reason] || "docs/ASM.md has the reasons") + ". ", button);
 }
 
-const TAIL = ["RUN 20 40", "END"];       // what a session goes on with that has nothing else yet
+// What a session goes on with that has nothing else yet: the job runs, and what it put out is shown.
+function tailOf(image) {
+  const [, console] = /^LOAD +\S+ +\S+ +(\S+)/m.exec(image);
+  return ["RUN 20 40", ...(console === "-" ? [] : ["DRAIN " + console + " 100"]), "END"];
+}
 
-// A session with the image of an assembly text: in place of the job of the same names, else behind its VERSION line. It has version 2.
+// A session with the image of an assembly text: in place of the job of the same names, else after its VERSION line. It has version 2.
 function withImage(session, image, names) {
   const own = split(image).filter(line => line !== "VERSION 2" && line !== "END"), lines = split(session).filter((line, at) =>
     at > 0 || !/^ *VERSION /.test(line));
@@ -341,12 +330,12 @@ function withImage(session, image, names) {
   const isBare = !lines.some(line => line.trim());
   if (start >= 0 && end > start) lines.splice(start, end - start + 1, ...own);
   else lines.splice(0, 0, ...own);
-  return ["VERSION 2", ...lines, ...(isBare ? TAIL : [])].join("\n") + "\n";
+  return ["VERSION 2", ...lines, ...(isBare ? tailOf(image) : [])].join("\n") + "\n";
 }
 
 // Puts the image into the session, and shows it. Another job's session is left for the plain tail.
 function takeImage() {
-  const session = byId("text").value, isOwn = session.includes("LOAD " + assembly.names);
+  const session = fields.text.text, isOwn = session.includes("LOAD " + assembly.names);
   const name = byId("sources").value.replace(/\.asm$/, ".its") || doing.name;
   choose("session");
   setSession(name, withImage(isOwn ? session : "", assembly.session, assembly.names));

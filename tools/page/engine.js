@@ -6,6 +6,8 @@
 const TOO_SHORT = 4;                     // the status that asks for a longer buffer
 const FIRST_ROOM = 1 << 16, MOST_ROOM = 1 << 28;
 const MOST_PIECES = 20000;               // of a picture
+const MOST_LISTED = 200;                 // answers of one line that are listed, and what they mean
+const PART_LINES = 250, PART_ROWS = 1000;      // lines of the session that are listed at once, and rows of the list
 const STATUS = {1: "the words are no command", 4: "the answer has more than " + MOST_ROOM + " bytes", 5: "memory was refused",
                 6: "the input has more than 1048576 lines", 7: "a word is no text"};
 const encoder = new TextEncoder(), decoder = new TextDecoder();
@@ -104,15 +106,36 @@ function runSession(engine, name, text) {
   return {status, transcript, told, lines, reason: last.reason, unread: lines.length - 1 - last.line.number};
 }
 
-// The picture of a session, without a legend of its own; nothing if it has too many pieces or none.
+// The picture of a session, without a legend of its own: its frame, the parts of each row, and its spots; nothing if it has too many pieces
+// or none.
 function drawn(name, told) {
-  const story = tellStory(name, told);
-  if (!story.pieces.length || story.pieces.length > MOST_PIECES) return {count: story.pieces.length};
-  const {svg, rows, spots, names} = pictureOf(story, name, {legend: false, brief: true});
-  return {count: story.pieces.length, svg, rows, names, spots: spots.map(({piece, row, x, width, top}) =>
-    ({row, x, width, top, line: piece.line, start: piece.start, count: piece.count, kind: piece.kind || ""})),
-          kinds: [...new Set(story.pieces.filter(isMark).map(mark => mark.kind))],
-          isBroken: spots.some(({piece, width}) => !isMark(piece) && width >= LONGEST)};
+  const story = tellStory(name, told), count = story.pieces.length;
+  if (!count || count > MOST_PIECES) return {picture: {count}, spots: []};
+  const {frame, drawings, rows, spots, names} = pictureOf(story, name, {legend: false, brief: true});
+  const kinds = [...new Set(story.pieces.filter(isMark).map(mark => mark.kind))];
+  const isBroken = spots.some(({piece, width}) => !isMark(piece) && width >= LONGEST);
+  return {picture: {count, frame, drawings, rows, names, kinds, isBroken}, spots: spots.map(({piece, row, x, width, top}) =>
+    ({row, x, width, top, line: piece.line, start: piece.start, count: piece.count, kind: piece.kind || ""}))};
+}
+
+// The rows of the list that a line has.
+function rowsListed(one) { return 1 + Math.min(one.answer.length, MOST_LISTED) + Math.min(one.means.length, MOST_LISTED); }
+
+// What is said of the lines of a session, in parts that are listed one at a time. A part has its first line, the number of its lines, and all
+// of its lines as JSON. The page takes a few texts at once from its worker, but 100,000 objects would block it.
+function inParts(lines) {
+  const parts = [];
+  let own = [], rows = 0;
+  lines.forEach((one, at) => {
+    own.push(one);
+    rows += rowsListed(one);
+    const next = lines[at + 1];
+    if (next && own.length < PART_LINES && rows + rowsListed(next) <= PART_ROWS) return;
+    parts.push({first: own[0].line, count: own.length, json: JSON.stringify(own)});
+    own = [];
+    rows = 0;
+  });
+  return parts;
 }
 
 // The words of each LOAD block of a session: [names, address -> word], by the line of LOAD.
@@ -177,8 +200,25 @@ function sourcesOf(engine, lines, texts) {
   return found;
 }
 
+// The same with the slot in which each LOAD made its job, and the line of the next LOAD there.
+function placedSources(sources, told) {
+  const loads = told.filter(({line, reason}) => line.kind === "LOAD" && !reason).map(one => ({line: one.line.number, slot: octal(slotOf(one))}));
+  return sources.flatMap(source => {
+    const load = loads.find(one => one.line === source.line);
+    const next = load && loads.find(one => one.line > load.line && one.slot === load.slot);
+    return load ? [{...source, slot: load.slot, until: next ? next.line : Infinity}] : [];
+  });
+}
+
+// A session and a transcript as one input of verify: the session up to its END line, which it gets if it has none.
+function verifyInput(session, transcript) {
+  const lines = split(session), end = lines.findIndex(line => /^ *END *$/.test(line));
+  const whole = end < 0 ? [...lines, "END"] : lines.slice(0, end + 1);
+  return whole.join("\n") + "\n" + transcript + (transcript && !transcript.endsWith("\n") ? "\n" : "");
+}
+
 const FEWEST_TURNS = 4, MOST_TURNS = 0o1000, QUANTUM = 0o100;      // of a RUN line with which a terminal goes on
-const MOST_RUNS = 200;                   // of them, before it stops to ask
+const MOST_RUNS = 200, MOST_TICKS = 20000000;      // RUN lines, and ticks in all, before it stops to ask; each line runs the session anew
 
 // Whether a RUN line of so many turns shows that all jobs that run wait: each had a turn, and nobody did anything in the last turns, one for
 // each.
@@ -187,16 +227,16 @@ function allWait(answer, turns) {
   return isRound && answer.slice(-slots.size).every(one => /^T [0-7]+ [0-7]+w$/.test(one));
 }
 
-// Goes on with a session at a terminal: puts lines behind it, and runs it till all jobs wait and the console has put out all. Gives the
+// Goes on with a session at a terminal: adds lines at its end, and runs it till all jobs wait and the console has put out all. Gives the
 // session, the bytes that came out, and why it stopped: waits, idle, refused or long.
 function goOn(engine, text, added, console, progress) {
-  let whole = text + added.map(line => line + "\n").join(""), turns = FEWEST_TURNS;
+  let whole = text + added.map(line => line + "\n").join(""), turns = FEWEST_TURNS, ticks = 0, allTicks = 0;
   const bytes = [], next = line => {
     const run = runSession(engine, "the session", whole + line + "\n"), last = run.told.findLast(one => one.line.kind || one.reason);
     if (!run.reason) whole += line + "\n";
     return {...last, reason: run.reason};
   };
-  for (let runs = 0; runs < MOST_RUNS; runs += 1) {
+  for (let runs = 0; runs < MOST_RUNS && allTicks < MOST_TICKS; runs += 1) {
     const ran = next(["RUN", octal(turns), octal(QUANTUM)].join(" "));
     if (ran.reason) return {whole, bytes, why: "refused", reason: ran.reason};
     const drained = wordsOf(next("DRAIN " + console + " 100")).slice(2);
@@ -204,7 +244,9 @@ function goOn(engine, text, added, console, progress) {
     progress(countOf(bytes.length, "byte") + " put out");
     if (!drained.length && !ran.answer.length) return {whole, bytes, why: "idle"};
     if (!drained.length && allWait(ran.answer, turns)) return {whole, bytes, why: "waits"};
-    turns = Math.min(MOST_TURNS, 2 * turns);
+    ticks += turns * QUANTUM;
+    allTicks += ticks;
+    if (!drained.length) turns = Math.min(MOST_TURNS, 2 * turns);
   }
   return {whole, bytes, why: "long"};
 }
@@ -222,20 +264,25 @@ class Answers {
   run({name, text, texts}) {
     const begun = performance.now();
     this.moments = null;
+    this.progress("the program runs it");
     const run = runSession(this.engine, name, text), count = momentCount(run.told.map(({line}) => line));
     const ran = performance.now() - begun;
-    this.session = {name, ...run};
-    const told = toldLines(name, run.told), picture = drawn(name, run.told);
-    const sources = texts && texts.length ? sourcesOf(this.engine, run.lines, texts) : [];
-    return {status: run.status, transcript: run.transcript, told, picture, sources, unread: run.unread, moments: count, most: MOST_MOMENTS, ran,
+    this.progress("its lines are explained");
+    const told = toldLines(name, run.told);
+    this.progress("it is drawn");
+    const {picture, spots} = drawn(name, run.told);
+    const sources = texts && texts.length ? placedSources(sourcesOf(this.engine, run.lines, texts), run.told) : [];
+    this.session = {name, told: run.told, spots};
+    return {status: run.status, transcript: run.transcript, parts: inParts(told), last: told[told.length - 1], listed: told.length,
+            count: run.lines.length - 1, picture, sources, unread: run.unread, moments: count, most: MOST_MOMENTS, ran,
             took: performance.now() - begun};
   }
 
-  // The moments of the session that was run last.
+  // The moments of the session that was run last, as JSON.
   steps() {
-    const run = text => this.engine.run(text), {name, told} = this.session;
+    const run = text => this.engine.run(text), {name, told, spots} = this.session;
     this.moments = new Moments(run, name, told, this.progress);
-    return {outline: this.moments.outline()};
+    return {json: JSON.stringify({outline: this.moments.outline(), spots})};
   }
 
   // What the lines of another session mean; the one that is stepped through stays.
@@ -243,6 +290,13 @@ class Answers {
 
   view({at, watch}) { return this.moments.view(at, watch); }
   command({words, input}) { return this.engine.call(words, input); }
+
+  // What verify answers, and the line of the transcript that it names.
+  verify({session, transcript}) {
+    const {output} = this.engine.call(["verify"], verifyInput(session, transcript)), [answer, word, reason] = output.trim().split(" ");
+    return {answer, word, reason, found: answer === "NO" ? split(transcript)[value(word) - 1] : undefined};
+  }
+
   assemble({text}) { return assembled(this.engine, text); }
   terminal({text, lines, console}) { return goOn(this.engine, text, lines, console, this.progress); }
 }

@@ -21,8 +21,8 @@ const SHAPE = {span: 1020, tallest: 900, widest: 16, enlarged: 1, legend: true, 
 function isMark(piece) { return piece.letter === undefined; }
 function widthOf(run, tick) { return Math.min(run.count * tick, LONGEST); }
 
-// Where in the rows the job of each lane is there for certain: a row and a place in it, where it was made or seen first (begins), seen
-// last (ends), and seen to be gone (gone; past the last row if it never was).
+// The part of the rows in which the job of each lane exists for certain, by three places, each a row and a place in it: at which the job was
+// made or seen first (begins), seen last (ends), and seen to be gone (gone; past the last row if it never was).
 function livesOf(rows, tick) {
   const lives = new Map();
   const lifeOf = lane => {
@@ -41,7 +41,7 @@ function livesOf(rows, tick) {
   return lives;
 }
 
-// From where to where in a row, which ends at `end`, the part between two of these places is; else null.
+// The left and the right end of what is in a row, which ends at `end`, of the part between two of these places; null if nothing is.
 function partOf(row, since, until, end) {
   if (row < since[0] || row > until[0]) return null;
   return [since[0] === row ? since[1] : LEFT, until[0] === row ? until[1] : end];
@@ -62,7 +62,7 @@ function isAlike(one, other) {
     ["disturb", "look", "other"].includes(one.kind) && firstWord(one) === firstWord(other);
 }
 
-// The label of one mark that stands for many: with TYPE and DRAIN, on which consoles.
+// The label of one mark in place of many: how many, and the consoles of TYPE and DRAIN.
 function labelOfMany(marks) {
   const word = firstWord(marks[0]);
   let which = "";
@@ -89,8 +89,8 @@ function gathered(pieces) {
   return out;
 }
 
-// The pieces in rows, where a tick is so wide. A run that meets the end of its row goes on in the next one; one with a break is not
-// parted.
+// The pieces in rows, if a tick has this width. A run that meets the end of its row goes on in the next one; a run with a break is not
+// split.
 function rowsOfPieces(pieces, tick, span) {
   const rows = [{placed: [], end: LEFT}];
   const last = () => rows[rows.length - 1];

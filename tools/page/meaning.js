@@ -5,9 +5,9 @@
 const NAMES = new Set(["TTY", "DSK", "USR", "LNK", "UNAME", "JNAME", "UIND", "SUPPRO", "CNSL", "PAGES", "UPC", "USTP", "PIRQC", "IFPIR",
                        "MASK", "MSK2", "DF1", "DF2"]);
 const END_OF_FILE = "777777000003";
-const RUNS = 5;                  // up to so many runs of a T line are told one by one
+const RUNS = 5;                  // up to so many runs of a T line are described one by one
 
-// What the lines before tell, as far as a reader needs it for the lines after them.
+// What the lines so far show, as far as a reader needs it for the lines after them.
 function newKnown() { return {clock: 0, errors: new Map(), loaded: new Map(), slot: 0, made: [], symbols: new Map()}; }
 
 // The symbols of a job: the nearest one to an address. Of those with one address the one that was given last counts, as STATE shows it.
@@ -22,7 +22,7 @@ class Symbols {
     return first < 0 ? "" : this.names.get(first) + (address > first ? "+" + octal(address - first) : "");
   }
 
-  // The same in parentheses, after an address that is told.
+  // The same in parentheses, after an address that is shown.
   near(address) {
     const name = this.nearest(address);
     return name ? " (" + name + ")" : "";
@@ -251,7 +251,7 @@ function saysCont(exchange) {
   return ["the job in slot " + exchange.line.words[1] + " may run, and its fatal pending bits are cleared; found in user mode"];
 }
 
-// A P line: where a job is in a call.
+// A P line: how far a job is inside a call.
 function saysFrame(words) {
   const peek = peekOf(words);
   if (peek.state === "USER") return ["in user mode, in no call"];
@@ -297,7 +297,7 @@ const SAYS = {VERSION: saysVersion, LOAD: saysLoad, "a/": saysWords, RO: saysRea
               LIST: saysList, STATE: saysState, DEPOSIT: saysDeposit, STOP: saysStop, CONT: saysCont, PEEK: saysPeek, DIR: saysDir,
               SHOW: saysShow};
 
-// What a line that is not refused does, and what its answer says. What it tells is noted in `known`.
+// What a line that is not refused does, and what its answer says. What it shows is noted in `known`.
 function meaningOf(exchange, known) {
   const says = SAYS[exchange.line.kind];
   return says ? says(exchange, known) : [];

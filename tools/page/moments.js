@@ -3,7 +3,7 @@
 //
 // The session runs once as it is, and once cut into single ticks, with a PEEK of every job at each moment. PEEK disturbs nothing, so all
 // else has to come out the same. A moment that is looked at is the end of a copy of the session, with STATE, EXAM and LIST put in. No line
-// tells which jobs there are or which pages they have; copies that end at a call that may have changed that find it out.
+// shows which jobs there are or which pages they have. To find out, a copy ends at each call that may have changed that.
 "use strict";
 
 const MOST_MOMENTS = 20000;              // of a session that one steps through

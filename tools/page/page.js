@@ -13,7 +13,7 @@ function choose(name) {
     tab.tabIndex = isChosen ? 0 : -1;
   }
   if (name === "terminal" && !terminal.begun) beginTerminal();
-  if (name === "verify" && !byId("verify-session").value) byId("verify-session").value = byId("text").value;
+  if (name === "verify" && !fields["verify-session"].text) fields["verify-session"].text = fields.text.text;
 }
 
 // The arrow keys go from tab to tab.
@@ -26,27 +26,18 @@ function tabKey(event) {
   byId("tab-" + to).focus();
 }
 
-// A session and a transcript as one input of verify: the session up to its END line, which it gets if it has none.
-function verifyInput(session, transcript) {
-  const lines = split(session), end = lines.findIndex(line => /^ *END *$/.test(line));
-  const whole = end < 0 ? [...lines, "END"] : lines.slice(0, end + 1);
-  return whole.join("\n") + "\n" + transcript + (transcript && !transcript.endsWith("\n") ? "\n" : "");
-}
-
 // Verifies, and says what the answer means; of a line that is not licensed, what is found there.
 async function verify() {
-  const transcript = byId("verify-transcript").value, box = byId("verdict");
+  const box = byId("verdict");
   try {
-    const {output} = await program.ask("command", {words: ["verify"], input: verifyInput(byId("verify-session").value, transcript)},
-                                       "Verifying");
-    const [answer, word, reason] = output.trim().split(" ");
+    const texts = {session: fields["verify-session"].text, transcript: fields["verify-transcript"].text};
+    const {answer, word, reason, found} = await program.ask("verify", texts, "Verifying");
     box.classList.toggle("bad", answer !== "YES");
     if (answer === "YES") box.textContent = "YES " + word + ": this is a transcript of the session, of " + countOf(value(word), "line") + ".";
     else if (answer === "NO") {
-      const line = value(word), found = split(transcript)[line - 1];
-      box.textContent = "NO " + word + ": " + atLine(line) + " of the transcript, " + (found === undefined ? "which is missing" :
+      box.textContent = "NO " + word + ": " + atLine(value(word)) + " of the transcript, " + (found === undefined ? "which is missing" :
         "“" + found + "”") + ", is not licensed there.";
-    } else box.textContent = output.trim() + ": " + atLine(value(word)) + " of the session is refused as " + reason + ".";
+    } else box.textContent = "? " + word + " " + reason + ": " + atLine(value(word)) + " of the session is refused as " + reason + ".";
   } catch (problem) {
     alertOf(problem);
   }
@@ -57,7 +48,7 @@ async function showCommand(words, input, what) {
   const box = byId("command-output");
   try {
     const {status, output} = await program.ask("command", {words, input}, what);
-    box.textContent = output + "status " + status + (STATUS[status] ? ": " + STATUS[status] : "");
+    box.textContent = beginningOf(output) + "status " + status + (STATUS[status] ? ": " + STATUS[status] : "");
     box.hidden = false;
   } catch (problem) {
     alertOf(problem);
@@ -75,19 +66,18 @@ function wireSession() {
   fillMenu(byId("examples"), ".its", "(own)");
   on("examples", "change", ({target}) => { if (target.value) { setSession(target.value, exampleOf(target.value)); remember(); } });
   on("text", "input", changed);
-  on("text", "scroll", () => { byId("gutter").scrollTop = byId("text").scrollTop; });
   on("text", "keydown", event => { if (event.ctrlKey && event.key === "Enter") { event.preventDefault(); runText(); } });
   on("run", "click", runText);
   on("auto", "change", ({target}) => { if (target.checked) runText(); });
   on("share", "click", share);
-  on("save", "click", () => save(doing.name, byId("text").value));
+  on("save", "click", () => save(doing.name, fields.text.text));
   on("copy", "click", () => navigator.clipboard.writeText(shown ? shown.transcript : "").catch(problem => alertOf(problem)));
   on("explained", "change", ({target}) => byId("lines").classList.toggle("brief", !target.checked));
-  on("earlier", "click", () => listLines(listed.from - CHUNK + 1));
-  on("later", "click", () => listLines(listed.from + CHUNK + 1));
+  on("earlier", "click", () => listPart(listed.part - 1));
+  on("later", "click", () => listPart(listed.part + 1));
   on("slider", "input", event => go(Number(event.target.value)));
   on("sheet", "click", goToPlace);
-  on("picture", "scroll", ({target}) => byId("lanes").classList.toggle("scrolled", target.scrollLeft > 8));
+  on("picture", "scroll", ({target}) => { byId("lanes").classList.toggle("scrolled", target.scrollLeft > 8); drawRows(); });
   for (const button of document.querySelectorAll("[data-step]")) {
     button.addEventListener("click", () => { if (shown && shown.moments) go(next(button.dataset.step)); });
   }
@@ -95,17 +85,16 @@ function wireSession() {
 
 function wireRest() {
   fillMenu(byId("sources"), ".asm", "(own)");
-  on("sources", "change", ({target}) => { byId("source").value = exampleOf(target.value); assembleText().catch(alertOf); });
+  on("sources", "change", ({target}) => { fields.source.text = exampleOf(target.value); assembleText().catch(alertOf); });
   on("source", "input", () => { byId("sources").value = ""; assembleText().catch(alertOf); });
-  on("source", "scroll", () => { byId("source-gutter").scrollTop = byId("source").scrollTop; });
   on("take", "click", takeImage);
-  on("verify-take", "click", () => { byId("verify-session").value = byId("text").value; });
+  on("verify-take", "click", () => { fields["verify-session"].text = fields.text.text; });
   on("verify-own", "click", async () => {
-    const {output} = await program.ask("command", {words: ["run"], input: byId("verify-session").value}, "Running the session");
-    byId("verify-transcript").value = output;
+    const {output} = await program.ask("command", {words: ["run"], input: fields["verify-session"].text}, "Running the session");
+    fields["verify-transcript"].text = output;
   });
   on("verify", "click", verify);
-  on("check", "click", () => showCommand(["check"], byId("verify-session").value, "Checking the session"));
+  on("check", "click", () => showCommand(["check"], fields["verify-session"].text, "Checking the session"));
   on("generate", "click", () => showCommand(["gen", byId("rounds").value.trim()], "", "Running the generated session"));
   fillMenu(byId("terminal-example"), ".its", "the one of the first tab");
   on("terminal-example", "change", beginTerminal);

@@ -1,4 +1,4 @@
-// The picture of a story, as SVG, as tools/itslib/picture.py draws it; and where each tick and each mark is in it.
+// The picture of a story as SVG, the same that tools/itslib/picture.py draws; and the place of each tick and each mark in it.
 "use strict";
 
 const NOTE = 6.6;                        // the width of a character of a note
@@ -73,8 +73,8 @@ function drawBars(row, lane, bar, tick) {
   }), ...texts];
 }
 
-// The line of the life of a lane's job in a row. If the job is gone later, dots lead from where it was seen last to where the transcript
-// shows that it is gone.
+// The line of the life of a lane's job in a row. If the job is gone later, dots lead from the place at which it was seen last to the one at
+// which the transcript shows that it is gone.
 function drawLife(layout, at, lane, y) {
   const row = layout.rows[at], life = layout.lives.get(lane) || {begins: [0, LEFT], ends: [0, LEFT], gone: [layout.rows.length, 0]};
   const isGone = life.gone[0] < layout.rows.length;
@@ -152,7 +152,7 @@ function legendItems(story) {
   return [...letters, ...kinds];
 }
 
-// The legend below the rows: its parts and where it ends.
+// The legend below the rows: its parts and its lower end.
 function drawLegend(story, top, layout, span) {
   const out = [svgLine(EDGE, top, LEFT + span, top, "#ccc")], items = legendItems(story), columns = span > 900 ? 2 : 1;
   let y = top + 22;
@@ -184,15 +184,16 @@ function svgOf(parts, name, width, height, enlarged) {
           ...parts, "</svg>"].join("\n") + "\n";
 }
 
-// The picture of a story: its SVG, its size, where each piece is (spots: piece, row, left edge, width, the upper edge of the bars of its
-// lane), the top and the bottom of each row, and the places of the lanes' names.
+// The picture of a story: its SVG, and in parts the same without a legend: a frame, and what is drawn of each row. Its size, the place of
+// each piece (spots: piece, row, left edge, width, the upper edge of the bars of its lane), the top and the bottom of each row, and the
+// places of the lanes' names.
 function pictureOf(story, name, shape) {
   const whole = {...SHAPE, ...shape}, layout = laidOut(story, whole);
   layout.lives = livesOf(layout.rows, layout.tick);
-  const out = heading(story, name), spots = [], rows = [], names = [];
+  const head = heading(story, name), drawings = [], spots = [], rows = [], names = [];
   let y = 40;
   layout.rows.forEach((row, at) => {
-    const top = y, heads = headsOf(row, layout.lanes[at], layout.longest);
+    const top = y, heads = headsOf(row, layout.lanes[at], layout.longest), out = [];
     layout.lanes[at].forEach((lane, index) => {
       y += heads[index];
       out.push(...drawLane(layout, at, lane, y));
@@ -207,13 +208,10 @@ function pictureOf(story, name, shape) {
     out.push(...drawAxis(row, y - 4, layout.tick));
     y += AXIS;
     rows.push([top, y - AXIS]);
+    drawings.push(out.join("\n"));
   });
-  if (whole.legend) {
-    const [legend, end] = drawLegend(story, y, layout, whole.span);
-    out.push(...legend);
-    y = end;
-  }
-  const width = LEFT + whole.span + EDGE, height = y + 4;
+  const [legend, end] = whole.legend ? drawLegend(story, y, layout, whole.span) : [[], y];
+  const width = LEFT + whole.span + EDGE, height = end + 4, around = parts => svgOf(parts, name, width, height, whole.enlarged);
   spots.sort((one, other) => one.row - other.row || one.x - other.x);
-  return {svg: svgOf(out, name, width, height, whole.enlarged), width, height, spots, rows, names, layout};
+  return {svg: around([...head, ...drawings, ...legend]), frame: around(head), drawings, width, height, spots, rows, names, layout};
 }

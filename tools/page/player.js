@@ -10,37 +10,16 @@ const LETTERS = 48;                      // so many letters of a TICK line are s
 const program = new Program();
 const at = {moment: 0, drawn: -1};       // where the reader is, and what is drawn
 const looking = new Set();               // slots whose jobs are looked at
-const watched = [];                      // addresses that are shown besides, as the reader typed them
+const watched = [];                      // addresses that are shown in addition, as the reader typed them
 const cards = new Map();                 // slot -> the parts of its card
 
-let shown = null;                        // the session that is shown: its name, text, lines, moments and picture
+let shown = null;                        // the session that is shown: its name, text, lines (in parts), moments and picture
 let now = null;                          // what holds at the moment that is drawn
 
 
 // ---------------------------------------------------------------------------------------------------------------------
 // The session that is shown
 // ---------------------------------------------------------------------------------------------------------------------
-
-// The moments of a session, each with how many ticks were made and its place in the picture: [row, x, width, top].
-function momentsIn(outline, picture) {
-  const spots = picture.spots || [], runs = spots.filter(spot => spot.count), marks = spots.filter(spot => !spot.count);
-  const visible = marks.filter(({kind}) => kind !== "gone" && kind !== "seen");
-  let ticks = 0, run = 0, mark = -1;
-  return outline.map(([line, slot, letter]) => {
-    const moment = {line, slot, letter, tick: letter ? ticks += 1 : ticks};
-    if (letter) {
-      while (run < runs.length && runs[run].start + runs[run].count < ticks) run += 1;
-      if (run < runs.length) {
-        const {row, x, width, top, start, count} = runs[run];
-        moment.place = [row, x + width / count * (ticks - 1 - start), width / count, top];
-      }
-    } else {
-      while (mark + 1 < visible.length && visible[mark + 1].line <= line) mark += 1;
-      if (mark >= 0) moment.place = [visible[mark].row, visible[mark].x, visible[mark].width, visible[mark].top];
-    }
-    return moment;
-  });
-}
 
 // How many ticks the session has.
 function allTicks() { return shown.moments[shown.moments.length - 1].tick; }
@@ -181,7 +160,7 @@ function fillForm(card, slot) {
   });
 }
 
-// Shows a job: where it is in a call, and the words of its call.
+// Shows a job: how far it is inside a call, and the words of its call.
 function showJob(slot) {
   const card = cardOf(slot), job = now.jobs[slot], looks = looking.has(slot);
   card.whole.hidden = false;
@@ -228,9 +207,7 @@ function showFrame(card, slot, job) {
 
 // The assembly text of the job in a slot, if one is known: that of the last LOAD that made a job there.
 function sourceOf(slot) {
-  const loads = shown.lines.filter(one => one.line <= now.line && one.text.trim().startsWith("LOAD ") && one.answer[0] === "J " + slot);
-  const last = loads[loads.length - 1];
-  return last && shown.sources.find(source => source.line === last.line);
+  return shown.sources.find(source => source.slot === slot && source.line <= now.line && now.line < source.until);
 }
 
 // The nearest symbol at or below an address, and the line of the assembly text that put the word there.
@@ -281,7 +258,7 @@ function rowsOf(slot, job, looks) {
   return rows;
 }
 
-// The row of a word: what PEEK shows of it, and what somebody finds.
+// The row of a word: what PEEK shows of the word, and what somebody who looks at it finds.
 function rowOf(slot, job, role, address, raw, looks) {
   const found = wordAt(job, value(address)), word = found.word;
   const stale = raw !== "-" && word !== undefined && value(raw) !== value(word);
@@ -381,19 +358,49 @@ function showConsoles() {
   byId("consoles").replaceChildren(...boxes);
 }
 
-// The picture of the session, and the names of its lanes, which stay in sight when the picture is scrolled.
+// The picture of the session. Its rows are drawn when they come into sight.
 function showPicture(picture) {
-  byId("unpictured").hidden = Boolean(picture.svg);
+  byId("unpictured").hidden = Boolean(picture.frame);
   byId("unpictured").textContent = picture.count ? "The picture would have " + picture.count + " pieces; it is drawn of " + MOST_PIECES +
     " at most. tools/timeline --lines draws a part." : "There is nothing to draw.";
-  byId("picture").hidden = !picture.svg;
-  byId("drawing").innerHTML = picture.svg || "";
-  byId("lanes").replaceChildren(...(picture.names || []).map(({top, names}) => {
-    const lane = element("div", "lane", ...names[0].split(": ").map(part => element("span", "", part)));
-    lane.style.top = (top - TITLE - 2) + "px";
-    return lane;
-  }));
+  byId("picture").hidden = !picture.frame;
+  byId("drawing").innerHTML = picture.frame || "";
+  pictured.rows.clear();
+  pictured.range = "";
+  drawRows();
   showLegend(picture);
+}
+
+const pictured = {rows: new Map(), range: ""};      // the rows that are drawn, by their index, and which are
+const NEAR = 400;                        // pixels; a row so near to what is in sight is drawn, too
+
+// Draws the rows in sight, and the names of their lanes, which stay in sight when the picture is scrolled sideways.
+function drawRows() {
+  const {rows, drawings, names} = shown.picture, box = byId("picture"), svg = byId("drawing").querySelector("svg");
+  if (!svg) return;
+  const top = box.scrollTop + TITLE - NEAR, bottom = top + box.clientHeight + 2 * NEAR;
+  const from = rows.findIndex(([, end]) => end >= top), after = rows.findIndex(([start]) => start > bottom);
+  const wanted = drawings.map((_, row) => row).slice(Math.max(0, from), after < 0 ? rows.length : after);
+  if (pictured.range === wanted.join(" ")) return;
+  pictured.range = wanted.join(" ");
+  for (const [row, drawing] of pictured.rows) {
+    if (wanted.includes(row)) continue;
+    drawing.remove();
+    pictured.rows.delete(row);
+  }
+  for (const row of wanted.filter(one => !pictured.rows.has(one))) {
+    const drawing = document.createElementNS(svg.namespaceURI, "g");
+    drawing.innerHTML = drawings[row];
+    svg.append(drawing);
+    pictured.rows.set(row, drawing);
+  }
+  byId("lanes").replaceChildren(...names.filter(({row}) => pictured.rows.has(row)).map(laneElement));
+}
+
+function laneElement({top, names}) {
+  const lane = element("div", "lane", ...names[0].split(": ").map(part => element("span", "", part)));
+  lane.style.top = (top - TITLE - 2) + "px";
+  return lane;
 }
 
 function showLegend(picture) {
@@ -461,31 +468,13 @@ function sentence(moment) {
   if (moment.line === 0) return "Before the first line. " + plural(allTicks(), "tick") + " to come.";
   const where = moment.slot === "" ? "" : whereabouts(moment.slot), of = octal(moment.tick) + " of " + octal(allTicks());
   if (moment.letter) return "Tick " + of + " is “" + moment.letter + "”, " + TABLES.letters[moment.letter][2] + "." + where;
-  const line = shown.lines[moment.line - 1], text = line ? line.text.trim() || "the end of the input" : "the end of the input";
-  const refused = line && line.refused;
+  const line = lineAt(moment.line), text = line && line.text.trim() || "the end of the input", refused = line && line.refused;
   const what = refused ? "is refused as " + refused.reason + ", and the session is over" : "after tick " + of;
-  return "Line " + moment.line + " (octal " + octal(moment.line) + "), " + text + ", " + what + "." + (refused ? "" : where);
+  return "L" + atLine(moment.line).slice(1) + ", " + text + ", " + what + "." + (refused ? "" : where);
 }
 
 // The moment to which a step leads.
-function next(step) {
-  const here = at.moment, moments = shown.moments, last = moments.length - 1;
-  const isEnd = index => index === last || moments[index + 1].line !== moments[index].line;
-  const search = (from, by, holds) => {
-    for (let index = from; index >= 0 && index <= last; index += by) if (holds(index)) return index;
-    return here;
-  };
-  switch (step) {
-    case "first": return 0;
-    case "last": return last;
-    case "tick": return Math.min(here + 1, last);
-    case "tick-back": return Math.max(here - 1, 0);
-    case "star": return search(here + 1, 1, index => moments[index].letter === "*");
-    case "star-back": return search(here - 1, -1, index => moments[index].letter === "*");
-    case "line": return search(here + 1, 1, isEnd);
-    default: return search(here - 1, -1, isEnd);
-  }
-}
+function next(step) { return stepFrom(shown.moments, at.moment, step); }
 
 function go(moment) {
   if (!shown || !shown.moments) return;
@@ -537,7 +526,7 @@ function draw(view) {
   at.drawn = view.moment;
 }
 
-// Shows what the reader has changed, and remembers it.
+// Shows the page after a change by the reader, and remembers the change.
 function update() {
   show();
   remember();

@@ -5,6 +5,9 @@
 const JOB_LINES = ["EXAM", "LIST", "STATE", "DEPOSIT", "STOP", "CONT", "INT", "PEEK"];
 const CLOSES = {LOAD: "GO", FILE: "EOF"};
 
+// The number of a line at its left: decimal, and octal in parentheses.
+function numbered(line) { return line + " (" + octal(line) + ")"; }
+
 // The number of a line as each tool writes it: decimal as an editor counts, and octal as the program does.
 function atLine(line) { return "line " + line + " (octal " + octal(line) + ")"; }
 
@@ -22,7 +25,7 @@ function split(text) {
   return lines;
 }
 
-// The lines of a session with their blocks, and the end of the input after them, where a refusal as CUT is.
+// The lines of a session with their blocks, and after them the end of the input, which is the place of a refusal as CUT.
 function linesOf(text) {
   const lines = [];
   let block = "", since = 0, version = 1;
@@ -94,11 +97,11 @@ function takeAnswer(transcript, line) {
   for (let one = 0; one < count; one += 1) transcript.take(kind);
 }
 
-const MOST_TRIES = 1000;                 // of the turns of RUN lines, where nothing says how many they are
+const MOST_TRIES = 1000;                 // of RUN lines with fewer turns, if nothing says how many they had
 
 // Each line of the session up to its END, its end or the line that is refused, with its answer. A RUN may end early, which the transcript
-// does not say. `turnsOf` gives how many turns the RUN line of a number has, where that is known; else they are as many as may be, so that
-// all lines fit.
+// does not say. `turnsOf` gives how many turns the RUN line of a number has, if that is known; else there are as many as possible such that all
+// lines fit.
 function exchanges(name, lines, transcript, turnsOf = () => undefined) {
   const told = [], fewer = [];       // RUN lines that may have had fewer turns: their places in `told`, and how many
   let complaint = null, turns;
@@ -118,7 +121,7 @@ function exchanges(name, lines, transcript, turnsOf = () => undefined) {
   }
 }
 
-// Goes on with the lines after those that are told. The first, if it is a RUN that is tried again, has so many turns.
+// Goes on with the lines after those in `told`. If the first one is a RUN that is tried again, it has `triedTurns` turns.
 function match(name, lines, transcript, told, fewer, triedTurns, turnsOf) {
   let turns = triedTurns;
   for (let index = told.length; index < lines.length; index += 1) {

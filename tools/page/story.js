@@ -1,5 +1,5 @@
-// The story of a session, as tools/itslib/story.py tells it: what happens in it, job by job, as far as the session and its transcript
-// tell. A lane is a job, or a slot in which no job was seen yet. A run is ticks of one lane with the same letter; a mark falls between two
+// The story of a session, the same as that of tools/itslib/story.py: what happens in it, job by job, as far as the session and its transcript
+// show. A lane is a job, or a slot in which no job was seen yet. A run is ticks of one lane with the same letter; a mark falls between two
 // ticks. A piece with a `letter` is a run.
 "use strict";
 
@@ -59,7 +59,7 @@ class Story {
     return lane;
   }
 
-  // An S line tells the names of the job in a slot; other names than before are another job's.
+  // An S line shows the names of the job in a slot; other names than before are another job's.
   named(slot, names, superior, console) {
     if (!["", names].includes(this.jobOf(slot).names)) this.gone(slot);
     const lane = this.jobOf(slot);

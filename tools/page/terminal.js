@@ -2,27 +2,24 @@
 "use strict";
 
 const SECOND = "36";                     // thirtieths, in octal
+const MOST_SCREEN = 20000;               // characters that the screen keeps
 const WHY = {waits: "All jobs wait.", idle: "No job runs.", long: "The jobs still run after many turns; a key goes on.",
              refused: "A line is refused: "};
 const terminal = {text: "", console: "0", slot: null, queue: [], isBusy: false, isStale: false, begun: false};
 
-// The text of a session without its END and what is behind it, as version 2, which has RUN.
-function openText(text) {
-  const lines = split(text), end = lines.findIndex(line => /^ *END *$/.test(line)), kept = end < 0 ? lines : lines.slice(0, end);
-  const own = kept.filter((line, at) => at > 0 || !/^ *VERSION /.test(line));
-  return ["VERSION 2", ...own].map(line => line + "\n").join("");
-}
+const LOADING = ["LOAD", "a/", "RO", "SYM", "GO", "FILE", "/", "EOF", ""];      // lines that load jobs and files
 
-// The first lines of a session: those that load jobs and files, up to the first that does more.
+// The first lines of a session: those that load jobs and files, up to the first that does more; as version 2, which has RUN.
 function loadsOf(text) {
-  const lines = split(openText(text)), known = ["VERSION", "LOAD", "a/", "RO", "SYM", "GO", "FILE", "/", "EOF", ""];
-  const end = lines.findIndex(line => !known.includes(kindOf(line.split(" ").filter(Boolean))));
-  return (end < 0 ? lines : lines.slice(0, end)).map(line => line + "\n").join("");
+  const lines = split(text), kindAt = at => kindOf(lines[at].split(" ").filter(Boolean)), first = lines.length && kindAt(0) === "VERSION" ? 1 : 0;
+  let end = first;
+  while (end < lines.length && LOADING.includes(kindAt(end))) end += 1;
+  return ["VERSION 2", ...lines.slice(first, end)].map(line => line + "\n").join("");
 }
 
 // Begins anew with the jobs of a session.
 function beginTerminal() {
-  const name = byId("terminal-example").value, text = name ? exampleOf(name) : byId("text").value;
+  const name = byId("terminal-example").value, text = name ? exampleOf(name) : fields.text.text;
   terminal.text = loadsOf(text);
   const loads = [...terminal.text.matchAll(/^ *LOAD +\S+ +\S+ +(\S+)/gm)].map(([, console]) => console);
   const consoles = [...new Set(loads.filter(console => console !== "-").map(console => octal(value(console))))];
@@ -37,8 +34,8 @@ function beginTerminal() {
   typeLines([]);
 }
 
-// Puts lines behind the session and goes on, one call after the other. If another session was begun meanwhile, an answer is of the one
-// before, and is not shown.
+// Adds lines at the end of the session and goes on, one call after the other. If another session was begun meanwhile, an answer belongs to
+// the one before, and is not shown.
 async function typeLines(lines) {
   terminal.queue.push(...lines);
   if (terminal.isBusy) return;
@@ -69,7 +66,7 @@ function print(bytes) {
   const text = bytes.map(byte => byte === 0o12 ? "\n" : byte === 0o15 ? "" : byte === 0o177 ? "" :
     isPrinting(byte) || byte === 9 ? String.fromCharCode(byte) : "^" + String.fromCharCode(byte + 64)).join("");
   const isReturn = bytes.includes(0o15) && !bytes.includes(0o12);
-  byId("screen-text").textContent += text + (isReturn ? "\n" : "");
+  byId("screen-text").textContent = (byId("screen-text").textContent + text + (isReturn ? "\n" : "")).slice(-MOST_SCREEN);
   byId("screen").scrollTop = byId("screen").scrollHeight;
 }
 
@@ -103,7 +100,7 @@ function fieldKey(event) {
   event.target.value = "";
 }
 
-// Stops the job of the console, and shows what STATE and PEEK say of it. Keys that are typed meanwhile follow.
+// Stops the job of the console, and shows what STATE and PEEK say of this job. Keys that are typed meanwhile follow.
 async function stopAndLook() {
   if (!terminal.begun || terminal.isBusy) return;
   const lines = ["PEEK " + terminal.slot, "STOP " + terminal.slot, "STATE " + terminal.slot];

@@ -5,7 +5,7 @@
 // Something does not fit, with one line that says what.
 class Wrong extends Error {}
 
-// A number, 0 where the text is empty or no octal number.
+// A number; 0 if the text is empty or no octal number.
 function value(word) { return parseInt(word, 8) || 0; }
 function octal(number) { return number.toString(8); }
 
@@ -26,7 +26,7 @@ function isOn(number, bit) { return Math.floor(number / bit) % 2 === 1; }
 function twelve(word) { return word.padStart(12, "0").slice(-12); }
 function short(word) { return word.replace(/^0+/, "") || "0"; }
 
-// The name that a word stands for in SIXBIT, without the spaces at its end.
+// The name that a word holds in SIXBIT, without the spaces at its end.
 function sixbit(word) {
   return [0, 1, 2, 3, 4, 5].map(at => String.fromCharCode(bits(word, 6 * at, 6 * at + 5) + 32)).join("").trimEnd();
 }
@@ -38,7 +38,7 @@ function asSixbit(name) {
 
 function isPrinting(code) { return code >= 32 && code < 127; }
 
-// A byte as a character: in quotes where it can be printed, else its code.
+// A byte as a character: in quotes if it can be printed, else its code.
 function character(code) { return isPrinting(code) ? "'" + String.fromCharCode(code) + "'" : "<" + octal(code) + ">"; }
 
 // Bytes as text in quotes: what can be printed as it is, any other byte as its code.
@@ -46,7 +46,7 @@ function typed(words) {
   return '"' + words.map(number).map(code => isPrinting(code) ? String.fromCharCode(code) : "<" + octal(code) + ">").join("") + '"';
 }
 
-// The characters of a word that holds text in five bytes of 7 bits, zeros at its end; nothing where it cannot be text.
+// The characters of a word that holds text in five bytes of 7 bits, zeros at its end; nothing if it cannot be text.
 function asciiOf(word) {
   const codes = [0, 1, 2, 3, 4].map(at => bits(word, 7 * at, 7 * at + 6));
   while (codes.length && codes[codes.length - 1] === 0) codes.pop();
@@ -78,7 +78,7 @@ function signed(word) {
   return whole >= 2 ** 35 ? whole - 2 ** 36 : whole;
 }
 
-// A byte pointer in words; nothing where the word is none that SIOT takes.
+// A byte pointer in words; nothing if the word is none that SIOT takes.
 function bytePointer(word) {
   const place = bits(word, 0, 5), size = bits(word, 6, 11), address = octal(bits(word, 18, 35));
   if (size === 0 || size > 36 || bits(word, 12, 17) || place > 36) return "";
@@ -93,7 +93,7 @@ function held(word, pointer) {
   return pointer.slice(2, 4) === "44" || number(word) > 127 ? short(word) : character(number(word));
 }
 
-// A PC word in words, where the word is one: the flag `user` is on, and only flags are in its left half.
+// A PC word in words, if the word is one: the flag `user` is on, and only flags are in its left half.
 function pcWord(word) {
   const left = number(word.slice(0, 6)), user = value("10000");
   const known = TABLES.flags.reduce((sum, [bit]) => sum + (isOn(left, value(bit)) ? value(bit) : 0), 0);

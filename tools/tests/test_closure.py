@@ -69,7 +69,7 @@ class Checks(unittest.TestCase):
         turns = os.path.join("crates", "its_plain", "specs", "Turns.antt")
         lines = os.path.join("crates", "its_stepped", "specs", "Lines.antt")
         checking = os.path.join("crates", "its_top", "specs", "Checking.antt")
-        no_place = ": more takes %s apart, and is no place for it (tools/itslib/splits.py)"
+        no_place = ": more distinguishes %s, and is no place for that (tools/itslib/splits.py)"
         more = "more : Event → ℕ\nmore (events.Run n q) = n\nmore e = 0\n"
         with open(os.path.join(TOP, turns), encoding="utf-8") as file:
             place = file.read().splitlines().index(highest) + 2
@@ -79,14 +79,14 @@ class Checks(unittest.TestCase):
         more = "more : List Item → ℕ\nmore [] = 0\nmore (Read e ∷ es) = more es + 1\n"
         self.split(checking, "abbrev pub checked_text", more + "abbrev pub checked_text", no_place % "a session")
         more = "data More : List Item → Type 0 where\n  rule : {e : Event} → More (Unread r ∷ [])\n\n"
-        self.split(checking, "abbrev pub checked_text", more + "abbrev pub checked_text", ": More takes a session apart")
-        self.split(turns, "turns_asked", "turns_wanted", "turns_wanted takes the kinds of line apart", "says that turns_asked takes")
+        self.split(checking, "abbrev pub checked_text", more + "abbrev pub checked_text", ": More distinguishes a session")
+        self.split(turns, "turns_asked", "turns_wanted", "turns_wanted distinguishes the kinds of line", "says that turns_asked distinguishes")
         more = "use Rattle.its_word.specs.Item.{Read as Seen}\nmore : List Item → ℕ\nmore (Seen e ∷ es) = 1\nmore es = 0\n"
         with changed(fair, "\n\n", "\n" + more + "\n"):
             self.assertIn(no_place % "a session", " ".join(REAL.complaints(self.parts)))
 
     def split(self, name, old, new, *words):
-        """Where a file has `new` for `old`, these are the complaints about the places where events are taken apart."""
+        """If a file has `new` for `old`, these are the complaints about the places that distinguish events."""
         with changed(name, old, new):
             found = list(REAL.wrong_splits(REAL.all_splits(), {part.name for part in self.parts}))
         self.assertEqual(len(found), len(words), found)
@@ -100,7 +100,7 @@ class Checks(unittest.TestCase):
         self.assertEqual(wrong, ["%s: tools/itslib/splits.py has it in the wrong table" % course])
 
     def test_counts(self):
-        words = "docs/PROVED.md: of the definitions that take events apart"
+        words = "docs/PROVED.md: of the definitions that distinguish events"
         self.refused(os.path.join("docs", "PROVED.md"), "of them walk a session", "walk", words)
 
 

@@ -1,6 +1,6 @@
-"""tools/midas: texts in MIDAS and by hand, compared word by word; what is refused; and where literals are placed.
+"""tools/midas: texts in MIDAS and by hand, compared word by word; what is refused; and the places of literals.
 
-What the program assembles is compared where the proved build is there (tools/proved); the words that the translation itself
+What the program assembles is compared if the proved build is there (tools/proved); the words that the translation itself
 gives are compared always.
 """
 
@@ -293,7 +293,7 @@ S:      IOR 1,2
 """),
 }
 
-# Texts in MIDAS with the words that the manuals give, in octal: from 100 on, where the text says nothing else.
+# Texts in MIDAS with the words that the manuals give, in octal: from 100 on, if the text says nothing else.
 BY_HAND = {
     "an instruction each": ("S: MOVEI 1,5 ? MOVEM 1,200 ? MOVE 2,@100(3) ? .CALL 120 ? .IOT 2,3 ? .BREAK 16,\n END S\n",
                             "201040000005 202040000200 200123000100 043000000120 040100000003 045700000000"),
@@ -409,7 +409,7 @@ def own(one: Made) -> Image:
 
 
 def examples() -> List[Tuple[str, str]]:
-    """The examples in MIDAS, each with its text by hand where there is one."""
+    """The examples in MIDAS, each with its text by hand if there is one."""
     found = sorted(glob.glob(os.path.join(TOP, "sessions", "midas", "*.mid")))
     return [(path, os.path.join(TOP, "sessions", os.path.basename(path)[:-len(".mid")] + ".asm")) for path in found]
 
@@ -495,7 +495,7 @@ class Text(unittest.TestCase):
 
 
 class Literals(unittest.TestCase):
-    """Where the literals are that are left at the end."""
+    """The places of the literals that are left at the end."""
 
     def placed(self, source: str, octal: str) -> None:
         """The only literal of a text has to be at this address."""
@@ -526,7 +526,7 @@ class Literals(unittest.TestCase):
 
 
 class Refusals(unittest.TestCase):
-    """What is refused, and how it is told."""
+    """What is refused, and how that is said."""
 
     def test_causes(self):
         for source, line, column, cause in REFUSED:

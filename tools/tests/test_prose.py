@@ -10,6 +10,7 @@ from typing import Dict, List
 TOOLS = os.path.dirname(os.path.dirname(os.path.abspath(__file__)))
 sys.path.insert(0, TOOLS)
 
+from itslib.comments import comments_of                                            # noqa: E402
 from itslib.links import Document, anchor, citations_in, document_of, faults_in    # noqa: E402
 from itslib.program import TOP                                                     # noqa: E402
 
@@ -40,6 +41,35 @@ class Words(unittest.TestCase):
 
     def test_line(self) -> None:
         self.assertEqual([line for line, _, _ in REAL.uses_in("README.md", "One.\n\nTwo is\nbehind it.\n")], [4])
+
+
+class Comments(unittest.TestCase):
+    """What is read of a source text."""
+
+    # a file, its text, and what is read of each line
+    TEXTS = (
+        ("a.py", '"""One.\n\n    code\nmore"""\nX = "behind"   # two\n', ["# One.", "", "    code", "more", "# two"]),
+        ("tool", '#!/usr/bin/env python3\n"""Who."""\n', ["# /usr/bin/env python3", "# Who."]),
+        ("b.js", 'const a = "// no"; // yes\n/* of\n * two lines */ const r = /["/*]/;\n// x\n// y\n', ["# yes", "# of", "two lines", "# x", "y"]),
+        ("c.css", "a::after { content: \"/* no */\"; }   /* yes */\n", ["# yes"]),
+        ("c.rt", "//! Head.\n/// Of `f`.\nlet q = '\"'; let s = \"// no\"; // 'tis\n", ["# Head.", "Of `f`.", "# 'tis"]),
+        ("D.antt", "-- What it is.\nx = y -- why\n", ["# What it is.", "# why"]),
+        ("its", "#!/usr/bin/env bash\n# one\necho $# ${a#b} '# no' \"# no\" # two\ncat <<'END'\n# no\nEND\n",
+         ["# /usr/bin/env bash", "# one", "# two"]),
+        ("crates.txt", "# all\nits_word\n", ["# all"]),
+        ("x.json", "# no\n", [""]),
+    )
+
+    def test_comments(self) -> None:
+        for path, text, lines in self.TEXTS:
+            with self.subTest(path=path):
+                self.assertEqual(comments_of(path, text).rstrip("\n").split("\n"), lines)
+
+    def test_place(self) -> None:
+        self.assertEqual([use[:2] for use in REAL.uses_in("a.py", comments_of("a.py", "x = 1\n# It comes\n# behind.\n"))], [(3, "behind")])
+
+    def test_place_at_the_beginning(self) -> None:
+        self.assertEqual(list(REAL.uses_in("a.py", comments_of("a.py", "x = 1   # where it begins\n"))), [])
 
 
 class Links(unittest.TestCase):
@@ -83,10 +113,16 @@ class Links(unittest.TestCase):
 
 
 class Repository(unittest.TestCase):
-    """The documents as they are."""
+    """The documents and the comments as they are."""
+
+    def test_files(self) -> None:
+        files = REAL.written()
+        for path in ("crates/its_top/specs/Promise.antt", "crates/its_core/src/lib.rt", "tools/page/words.js", "tools/page/page.css", "tools/web", "its"):
+            self.assertIn(path, files)
+        self.assertEqual([path for path in files if "/out/" in path], [])
 
     def test_nothing_is_refused(self) -> None:
-        self.assertEqual(list(REAL.faults()), [])
+        self.assertEqual(list(REAL.faults()) + list(REAL.faults_of_comments()), [])
 
 
 if __name__ == "__main__":

@@ -4,6 +4,7 @@ import glob
 import json
 import os
 import re
+import shutil
 import subprocess
 import sys
 import tempfile
@@ -15,10 +16,9 @@ sys.path.insert(0, os.path.dirname(HERE))
 
 from itslib.cutting import count_of_ticks, ticks_of                                 # noqa: E402
 from itslib.meaning import NAMES, frame                                             # noqa: E402
-from itslib.moments import MOST, count_of_moments, moments_of                       # noqa: E402
 from itslib.page import tables                                                      # noqa: E402
 from itslib.program import TOP, at_hand, run_all, run_each                          # noqa: E402
-from itslib.session import Transcript, Wrong, exchanges, lines_of, unrolled         # noqa: E402
+from itslib.session import Texts, Transcript, Wrong, exchanges, lines_of, split     # noqa: E402
 from itslib.telling import tell                                                     # noqa: E402
 from itslib.unlicensed import runs_of, unlicensed                                   # noqa: E402
 from itslib.words import WAITS                                                      # noqa: E402
@@ -39,9 +39,9 @@ def told_of(session, transcript):
 
 
 def tool(name, *words):
-    """Runs a tool: its status, what it writes, and what it says."""
+    """Runs a tool: its status, what it writes, and what it says, without the line that names an unproved program."""
     done = subprocess.run([os.path.join(TOP, "tools", name), *words], stdout=subprocess.PIPE, stderr=subprocess.PIPE, universal_newlines=True)
-    return done.returncode, done.stdout, done.stderr
+    return done.returncode, done.stdout, re.sub(r"(?m)^its: unproved build of .*\n", "", done.stderr)
 
 
 class Misfits(unittest.TestCase):
@@ -245,40 +245,65 @@ class Long(unittest.TestCase):
             some = [tick for tick in ticks if 3 <= tick.number <= 9 and tick.slot == 0]
             self.assertEqual(list(ticks_of(told, 3, 9, 0)), some)
             self.assertEqual(count_of_ticks(told, 3, 9, 0), len(some))
-            self.assertEqual(len(moments_of(unrolled(told))), count_of_moments(unrolled(told)))
+
+    def test_lines_of_a_text(self):
+        for text in ("", "\n", "a", "a\n", "a\nb", "\na\n\nbc\n"):
+            with self.subTest(text=text):
+                texts, lines = Texts(text), split(text)
+                self.assertEqual((list(texts), len(texts), texts[1:], texts[-1:]), (lines, len(lines), lines[1:], lines[-1:]))
+                self.assertRaises(IndexError, lambda: texts[len(lines)])
+
+
+class Memory(unittest.TestCase):
+    """The memory of the tools on long sessions, and what they say of those that are too long. A substitute for the program, which knows one job
+    that jumps to itself, answers at once."""
+
+    MOST = 200 * 1024        # in KB
+    LINES = 200000           # of a session
+
+    def setUp(self):
+        folder = tempfile.TemporaryDirectory()
+        self.addCleanup(folder.cleanup)
+        self.top = folder.name
+        shutil.copytree(os.path.join(TOP, "tools"), os.path.join(self.top, "tools"), ignore=shutil.ignore_patterns("__pycache__", "tests"))
+        os.symlink(os.path.join(TOP, "docs"), os.path.join(self.top, "docs"))
+        os.makedirs(os.path.join(self.top, "crates", "its", "out"))
+        self.write("crates.txt", "")
+        program = self.write(os.path.join("crates", "its", "out", "its"), text_of("tools/tests/looping_program.py"))
+        os.chmod(program, 0o755)
+
+    def write(self, name, text):
+        """Writes a file of the folder, and returns its path."""
+        path = os.path.join(self.top, name)
+        with open(path, "w", encoding="ascii") as file:
+            file.write(text)
+        return path
+
+    def within(self, status, *words):
+        """Runs a tool, which has to end with this status and to stay below the limit, and returns what it says."""
+        with open(os.devnull, "wb") as nowhere, tempfile.TemporaryFile() as said:
+            process = subprocess.Popen([os.path.join(self.top, "tools", words[0]), *words[1:]], stdout=nowhere, stderr=said)
+            _, ended, usage = os.wait4(process.pid, 0)
+            process.returncode = os.WEXITSTATUS(ended)
+            said.seek(0)
+            written = said.read().decode()
+        self.assertEqual(process.returncode, status, written)
+        self.assertLess(usage.ru_maxrss, self.MOST, words)
+        return written
+
+    def test_many_lines(self):
+        path = self.write("long.its", LOOP + "TICK 0 1\nEXAM 0 100 1\n" * (self.LINES // 2))
+        for words in (["explain"], ["timeline", "--lines", "100-200"], ["disturb", "--to", "1"], ["player", "--to", "200"]):
+            self.within(0, *words, path)
+        for name, narrow in (("disturb", "narrow them by --from, --to or --slot"), ("timeline", "narrow it by --lines A-B"),
+                             ("player", "take a part by --from and --to")):
+            self.assertIn(narrow, self.within(1, name, path))
 
     def test_ten_million_ticks(self):
-        count = 20000
-        told = told_of(LOOP + "TICK 0 1000\n" * count, "J 0\n" + "T 0 1000*\n" * count)
-        with self.assertRaisesRegex(Wrong, "a page has at most %d moments, and this session has 10240002" % MOST):
-            moments_of(told)
-
-    def test_moments_share_their_lines(self):
-        told = told_of(LOOP + "EXAM 0 100 1\n" * 4000, "J 0\n" + "E 0 000100 254000000100\n" * 4000)
-        moments = moments_of(told)
-        self.assertTrue(all(moment.lines is moments[0].lines for moment in moments))
-        self.assertEqual(moments[2].session(["PEEK 0"]).decode(), LOOP + "EXAM 0 100 1\nPEEK 0\n")
-
-    def peak(self, name, *words):
-        """Runs a tool: its status, and the most memory that it has had, in KB."""
-        with open(os.devnull, "wb") as nowhere:
-            process = subprocess.Popen([os.path.join(TOP, "tools", name), *words], stdout=nowhere, stderr=nowhere)
-        _, status, usage = os.wait4(process.pid, 0)
-        process.returncode = status
-        return status, usage.ru_maxrss
-
-    def test_memory(self):
-        count = 100000
-        with tempfile.TemporaryDirectory() as folder:
-            paths = [os.path.join(folder, name) for name in ("long.its", "long.out")]
-            for path, text in zip(paths, (LOOP + "TICK 0 1\nEXAM 0 100 1\n" * count, "J 0\n" + "T 0 1*\nE 0 000100 254000000100\n" * count)):
-                with open(path, "w", encoding="ascii") as file:
-                    file.write(text)
-            for words in (["explain"], ["timeline", "--lines", "100-200"]):
-                status, most = self.peak(*words, *paths)
-                self.assertEqual(status, 0)
-                self.assertLess(most, 200 * 1024, words)
-            self.assertIn("narrow it by --lines A-B", tool("timeline", *paths)[2])
+        path = self.write("ticks.its", LOOP + "TICK 0 1000\n" * 20000 + "EXAM 0 100 1\n")
+        for status, tool_name, said in ((0, "timeline", ""), (0, "explain", ""), (1, "disturb", "narrow them by --from, --to or --slot"),
+                                        (1, "player", "take a part by --from and --to")):
+            self.assertIn(said, self.within(status, tool_name, path))
 
 
 @unittest.skipUnless(at_hand(), "the program is not at hand")

@@ -1,4 +1,4 @@
-"""Words of 36 bits and what stands in them, and the nearest symbols."""
+"""Words of 36 bits and what is in them, and the nearest symbols."""
 
 import os
 import sys
@@ -13,7 +13,7 @@ from itslib.words import (as_sixbit, ascii_of, call_name, character, flags_of, n
 
 
 class Words(unittest.TestCase):
-    """What stands in a word."""
+    """What is in a word."""
 
     def test_number(self):
         self.assertEqual([number(word) for word in ("0", "17", "000000000005")], [0, 15, 5])
@@ -60,7 +60,7 @@ class Nearest(unittest.TestCase):
 
 
 class Lines(unittest.TestCase):
-    """What is told of a line."""
+    """What is said of a line."""
 
     def test_numbers_in_both_forms(self):
         told = Told(9, "TYPE 10 101", refused={"reason": "NOCONS", "octal": "11", "column": 6, "cause": "no such console"})

@@ -11,14 +11,14 @@ extern unsigned char __heap_base[];
 static struct head *lists[MOST + 1];
 static unsigned char *top;
 
-/* The least k such that 2^k bytes hold a head and n bytes; more than MOST where there is none. */
+/* The least k such that 2^k bytes hold a head and n bytes; more than MOST if there is none. */
 static word class_of(word n) {
   word k = LEAST;
   while (k <= MOST && ((word)1 << k) - HEAD < n) k += 1;
   return k;
 }
 
-/* Memory that was never used: nothing where it cannot grow. */
+/* Memory that was never used: nothing if it cannot grow. */
 static void *fresh(word bytes) {
   if (!top) top = (unsigned char *)(((word)__heap_base + 15) / 16 * 16);
   word end = (word)__builtin_wasm_memory_size(0) * WASM_PAGE, wanted = (word)top + bytes;
@@ -62,6 +62,6 @@ struct tried rattle_realloc(void *old, word kept, word n, word align) {
 
 void rattle_dealloc(void *place) { give(place); }
 
-/* Room for the bytes of the host: nothing where there is none. */
+/* Room for the bytes of the host: nothing if there is none. */
 __attribute__((export_name("its_take"))) void *its_take(word n) { return take(n); }
 __attribute__((export_name("its_give"))) void its_give(void *place) { if (place) give(place); }

@@ -20,7 +20,7 @@ enum its_status {
   ITS_NO_TEXT = 7    /* a word is not UTF-8. Nothing is given */
 };
 
-/* Obeys a command (run, check, gen, verify or asm) with a number, which is empty (length 0) where the command has none, on an input. What the
+/* Obeys a command (run, check, gen, verify or asm) with a number, which is empty (length 0) if the command has none, on an input. What the
    program writes is in the first *count bytes of out. No pointer may be null, and out and count overlap nothing else. The call keeps nothing;
    its memory comes from malloc. It may be called by several threads at once. */
 uint8_t its_call(const uint8_t *command, size_t command_length, const uint8_t *number, size_t number_length,

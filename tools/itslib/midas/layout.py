@@ -1,4 +1,4 @@
-"""Where everything of a text is: the first pass, which gives addresses to words, literals and variables."""
+"""The places of all parts of a text: the first pass, which gives addresses to words, literals and variables."""
 
 from bisect import bisect_left
 from dataclasses import dataclass, field, replace
@@ -10,7 +10,7 @@ from .tree import (HALF, Here, Item, Literal, Minus, Name, Node, Number, Place, 
 from .values import Entry, Unknown, Values, several_values
 from .known import why_unknown
 
-START = 0o100                 # where a text without LOC begins; below are the accumulators and the word of the interrupts
+START = 0o100                 # a text without LOC begins here; below are the accumulators and the word of the interrupts
 PAGE = 0o2000                 # words of a page
 FAR = 0o400000                # the upper half of core, which no buffer below reaches soon
 END_OF_CORE = 1 << 18
@@ -18,7 +18,7 @@ END_OF_CORE = 1 << 18
 
 @dataclass
 class Placed:
-    """A statement with its location, and with its content where names that change and `.` have their values."""
+    """A statement with its location, and with its content, in which names that change and `.` have their values."""
     statement: Statement
     location: int
     content: Union[Word, Text, None] = None
@@ -26,9 +26,9 @@ class Placed:
 
 @dataclass
 class Pool:
-    """Literals and variables, and where they are."""
+    """Literals and variables, and their places."""
     at: Place
-    location: int                     # where they begin
+    location: int                     # of the first one
     slots: List[Slot]
     variables: List[Tuple[str, int]]  # names, each with its number of words
     moved: str = ""                   # why they are not at the location that the text has there
@@ -122,7 +122,7 @@ class Laying:
         return self.waiting[key]
 
     def key(self, items: Tuple[Item, ...]) -> Tuple[object, ...]:
-        """What equal literals share: their words, or what is written where the words are not known yet."""
+        """What equal literals share: their words, or what is written if the words are not known yet."""
         try:
             return tuple(word for item in items for word in (
                 item.content.words if isinstance(item.content, Text) else (self.values.of(item.content),)))
@@ -176,7 +176,7 @@ class Laying:
         return location
 
     def equals(self, statement: Statement, content: Union[Word, Text]) -> None:
-        """A symbol gets a value, now or where all is known."""
+        """A symbol gets a value, now or when all is known."""
         entry = Entry(statement.name, statement.at, node=content, changes=statement.name in self.changing)
         try:
             entry.value = self.values.of(content)
@@ -264,7 +264,7 @@ class Search:
         return names[max(inside + below)] if inside + below else ""
 
     def next_word(self, address: int) -> int:
-        """The first address from this one on that has a word; the end of core where none has."""
+        """The first address from this one on that has a word; the end of core if none has."""
         rank = bisect_left(self.order, address)
         return self.order[rank] if rank < len(self.order) else END_OF_CORE
 

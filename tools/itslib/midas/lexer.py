@@ -22,7 +22,7 @@ class Token:
     """A token. The kind is SYMBOL, NUMBER, TEXT, REST (of a line), MARK, LINE (its end), BREAK (a `?`) or END (of the text)."""
     kind: str
     at: Place
-    start: int                          # where it begins and ends in the source
+    start: int                          # its beginning and its end in the source
     end: int
     name: str = ""                      # of a symbol or mark, the comment of LINE, the text of REST
     value: Optional[Number] = None      # of a number

@@ -26,7 +26,7 @@ class Parser:
         self.lexer = Lexer(source)
         self.source = self.lexer.source
         self.ahead: List[Token] = []
-        self.last_end = 0                    # where the last token ends that was taken
+        self.last_end = 0                    # the end of the last token that was taken
         self.operations: Set[str] = set()    # symbols that are words with a left half, as CALL=PUSHJ P,
         self.variables: Set[str] = set()
         self.found: List[Statement] = []
@@ -58,7 +58,7 @@ class Parser:
         return self.peek().kind in ("LINE", "BREAK", "END") or self.is_mark(")", ">", "]")
 
     def declare(self, token: Token) -> None:
-        """A variable: its word is reserved where VARIABLES stands, or at the end."""
+        """A variable: its word is reserved at VARIABLES, or at the end."""
         if token.name not in self.variables:
             self.variables.add(token.name)
             self.found.append(Statement("RESERVE", token.at, name=token.name, content=Word(address=Number(1))))

@@ -26,7 +26,7 @@ class Phrase:
 
 
 class Phrasing:
-    """Writes expressions and words at one location. Only symbols of `above` are named, where that is given."""
+    """Writes expressions and words at one location. Only symbols of `above` are named, if that is given."""
 
     def __init__(self, values: Values, naming: Naming, location: int, above: Optional[Container[str]] = None):
         self.values, self.naming, self.location, self.above = values, naming, location, above
@@ -125,7 +125,7 @@ class Phrasing:
         return terms + ([(1, Number(more, False))] if more else [])
 
     def halves(self, word: Word, less: bool) -> Phrase:
-        """A word by its halves. The left one is a number where the source has no such half."""
+        """A word by its halves. The left one is a number if the source has no such half."""
         value = self.values.of(word) >> 18
         left = Phrase("%o" % value, value > 0)
         if word.left is not None and not word.indirect and not parts(word.address)[1]:
@@ -134,7 +134,7 @@ class Phrasing:
         return Phrase("WORD ", less).then(left).then(Phrase(",,")).then(right if right.text else Phrase("0"))
 
     def instruction(self, word: Word) -> Optional[Phrase]:
-        """An instruction with its operands; None where it cannot be written as one."""
+        """An instruction with its operands; None if it cannot be written as one."""
         base = self.values.operation(word.operation)
         name = known.operations().get(base >> 27)
         address = self.address(word)
@@ -157,7 +157,7 @@ class Phrasing:
         return self.expression(word.accumulator).then(Phrase(","))
 
     def address(self, word: Word) -> Optional[Phrase]:
-        """The address of an instruction; None where it has a left half that is no index register."""
+        """The address of an instruction; None if it has a left half that is no index register."""
         halves = parts(word.address)[1]
         more = self.values.sum_of(halves)
         if more >> 18 > MOST:

@@ -65,7 +65,7 @@ class Swapped:
 
 @dataclass(frozen=True)
 class Operation:
-    """An instruction's name as it is written, with the word that it is by itself."""
+    """An instruction's name as it is written, with the word that it is alone."""
     name: str
     value: int
 

@@ -19,7 +19,7 @@ class Unknown(Exception):
 
 @dataclass
 class Entry:
-    """A symbol: its value where that is known, and its expression where it has one."""
+    """A symbol: its value if that is known, and its expression if it has one."""
     name: str
     at: Place
     value: Optional[int] = None
@@ -124,7 +124,7 @@ class Values:
         return sum(sign * self.of(node) for sign, node in found) & WORD
 
     def operation(self, operation: Union[Operation, Name]) -> int:
-        """The word that the name of an instruction is by itself."""
+        """The word that the name of an instruction is alone."""
         return operation.value if isinstance(operation, Operation) else self.named(operation.name, operation.at)
 
     def accumulator(self, word: Word) -> int:

@@ -41,7 +41,7 @@ def shown(comment: str) -> str:
 
 
 def source_of(statement: str) -> str:
-    """A statement as it is written, for a comment: in one line, and cut where it is long."""
+    """A statement as it is written, for a comment: in one line, and cut if it is long."""
     lines = [" ".join(line.partition(";")[0].split()) for line in statement.split("\n")] if "\n" in statement else [statement]
     text = shown(" ".join(" ? ".join(line for line in lines if line).split()))
     return text if len(text) <= PREVIEW else text[:PREVIEW - 3].rstrip(" ?") + " .."
@@ -56,7 +56,7 @@ class Writer:
         self.naming = Naming(self.values, sum(len(pool.slots) for pool in pools))
         self.lines: List[str] = []
         self.words: Dict[int, int] = {}
-        self.given: Dict[int, Place] = {}        # where the word of an address comes from
+        self.given: Dict[int, Place] = {}        # the source of the word of an address
         self.above: Set[str] = set()             # symbols that lines above define
         self.symbols: Dict[str, int] = {}        # what lines define, by the names that are written
         self.start = 0
@@ -98,7 +98,7 @@ class Writer:
         return self.define(self.naming.names[name], self.values.entries[name].value, at)
 
     def head(self, name: str) -> None:
-        """What the text begins with: where it is from, which names are others, and the job."""
+        """What the text begins with: its source, which names are others, and the job."""
         self.lines.append(shown("; Made by tools/midas from %s. Numbers are octal." % name)[:LONGEST])
         for long, short in self.layout.shortened.items():
             if short in self.values.entries:
@@ -120,7 +120,7 @@ class Writer:
         self.begun = self.begun or bool(asks)
 
     def comment(self, phrase: Phrase, source: str, comment: str) -> str:
-        """The comment of a line: what the source says, where the line says less, and the comment of the source."""
+        """The comment of a line: what the source says, if the line says less, and the comment of the source."""
         told = source_of(source) if phrase.less else ""
         return shown(" ".join(part for part in ("; " + told if told else "", comment) if part))
 
@@ -185,7 +185,7 @@ class Writer:
         self.words[location], self.given[location] = value, at
 
     def equals(self, one: Placed, labels: List[str]) -> None:
-        """A symbol that gets a value: a line of its own, or a comment where its uses are written as numbers."""
+        """A symbol that gets a value: a line of its own, or a comment if its uses are written as numbers."""
         statement = one.statement
         if labels:
             self.line(labels, "")
