@@ -1,4 +1,4 @@
-"""The names of instructions, read from the chart of the assembler itself, crates/its_asm/src/mnemonic.rt."""
+"""The names of instructions, read from the chart of the assembler itself, crates/its_chart/src/mnemonic.rt."""
 
 import os
 import re
@@ -8,7 +8,7 @@ from typing import Dict
 from .program import TOP
 from .session import Wrong
 
-CHART = os.path.join(TOP, "crates", "its_asm", "src", "mnemonic.rt")
+CHART = os.path.join(TOP, "crates", "its_chart", "src", "mnemonic.rt")
 OPCODES = 0o700               # so many opcodes have a place in the chart
 
 

@@ -58,7 +58,7 @@ class Readings(unittest.TestCase):
     """What is read of assembly texts."""
 
     def test_mnemonics(self):
-        with open(os.path.join(TOP, "crates", "its_asm", "src", "mnemonic.rt"), encoding="utf-8") as file:
+        with open(os.path.join(TOP, "crates", "its_chart", "src", "mnemonic.rt"), encoding="utf-8") as file:
             chart = re.search(r'b"\\\n(.*?)";', file.read(), re.S).group(1).replace("\\", "").split()
         self.assertEqual(MNEMONICS, set(chart) - {"-"})
 

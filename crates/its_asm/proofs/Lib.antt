@@ -1,10 +1,8 @@
 pub mod CutLaws
 pub mod ReadingLaws
-pub mod ChartLaws
 pub mod NumberLaws
 pub mod WordLaws
 pub mod TypeLaws
-pub mod TableLaws
 pub mod SymbolLaws
 pub mod LayoutLaws
 pub mod LineLaws

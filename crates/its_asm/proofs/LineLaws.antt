@@ -2,7 +2,8 @@
 use Rattle.std.proofs.Common.{◌≡◌, ◌<◌, ◌≤◌, ◌+◌, ◌^◌, ℕ, zero, suc, true, false, Option, Some, None, Err, List, [], ◌∷◌, length, get_or, take, refl, arith, add-one, inl, inr}
 use Rattle.std.proofs.lemmas.Bool.{cases_lt, ltb-false, or_from, or_right}
 use Rattle.its_asm.specs.declared.layout.Layout.{Layout}
-use Rattle.its_asm.specs.Text.{cut, pieces}
+use Rattle.its_chart.specs.Text.{cut}
+use Rattle.its_asm.specs.Text.{pieces}
 use Rattle.its_asm.specs.Layout.{laid, laid_out}
 use Rattle.its_asm.specs.Assembly.{Assembly, any_given, ended, from_line, inserted, is_given, lines_of, literals_past, placed, unless, whole_lines, with_line}
 use Rattle.its_asm.specs.declared.reason.AsmReason.{AsmReason}

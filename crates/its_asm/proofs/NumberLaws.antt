@@ -1,24 +1,20 @@
 -- The digits of a number as an expression, and texts without marks.
 use Rattle.std.proofs.Common.{◌≡◌, ◌<◌, ◌≤◌, ◌+◌, ◌-◌, ◌%◌, ◌^◌, ◌==◌, ℕ, Bool, true, false, not, nat_eq, nat_le, Some, None, Ok, List, [], ◌∷◌, ◌++◌, length, take, slice_index, refl, ◌∙◌, arith, codes, inl, inr}
 use Rattle.std.specs.List.{list_all}
-use Rattle.std.proofs.lemmas.Bool.{cases_Bool, le-leb, and_from}
+use Rattle.std.proofs.lemmas.Bool.{cases_Bool, le-leb}
 use Rattle.std.proofs.lemmas.Bool.Decides.{nat_tests}
 use Rattle.std.proofs.lemmas.List.{get_or_push, length_push}
 use Rattle.std.proofs.Math.Seq.{take-append_seam}
 use Rattle.its_word.specs.Text.{digits_of, is_code, is_octal, octal_value}
 use Rattle.its_word.proofs.DigitLaws.{digits_are_codes, digits_are_octal, digits_value, few_digits, some_digits}
-use Rattle.its_asm.specs.Text.{closed, cut, is_mark, is_symbol}
+use Rattle.its_chart.specs.Text.{cut, is_mark}
+use Rattle.its_chart.proofs.BytesLaws.{all_imp, both_true}
+use Rattle.its_asm.specs.Text.{closed, is_symbol}
 use Rattle.its_asm.specs.Expression.{Scope, expression, register, term}
-use Rattle.its_asm.proofs.ReadingLaws.{both_true, summed_whole}
+use Rattle.its_asm.proofs.ReadingLaws.{summed_whole}
 
 abbrev pub unmarked : List ℕ → ℕ → Bool
 unmarked marks b = not (is_mark marks b)
-
-pub all_imp : (p q : ℕ → Bool) → ((b : ℕ) → p b ≡ true → q b ≡ true) → (xs : List ℕ) → list_all p xs ≡ true → list_all q xs ≡ true
-all_imp p q f [] h = refl
-all_imp p q f (x ∷ xs) h =
-    let parts = both_true (p x) (list_all p xs) h in
-    and_from (q x) (list_all q xs) (f x parts.0) (all_imp p q f xs parts.1)
 
 pub cut_unmarked : (marks xs : List ℕ) → list_all (unmarked marks) xs ≡ true → cut marks xs ≡ None
 cut_unmarked marks [] h = refl

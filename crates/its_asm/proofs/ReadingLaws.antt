@@ -1,11 +1,13 @@
 -- The terms of an expression, taken off one after another; symbols.
-use Rattle.std.proofs.Common.{◌≡◌, ◌&&◌, ℕ, Bool, true, false, Some, None, Result, List, [], ◌∷◌, length, refl, arith, codes, nat_le, inl, inr}
+use Rattle.std.proofs.Common.{◌≡◌, ◌&&◌, ℕ, true, false, nat_le, Some, None, Result, List, [], ◌∷◌, length, refl, arith, codes, inl, inr}
 use Rattle.std.specs.List.{list_all}
 use Rattle.std.proofs.lemmas.Bool.{cases_Bool}
 use Rattle.std.proofs.lemmas.Bool.Decides.{nat_tests}
 use Rattle.its_word.specs.Text.{is_code, is_name}
+use Rattle.its_chart.specs.Text.{cut}
+use Rattle.its_chart.proofs.BytesLaws.{both_true}
 use Rattle.its_asm.specs.declared.reason.AsmReason.{AsmReason}
-use Rattle.its_asm.specs.Text.{cut, is_symbol, is_symbol_byte}
+use Rattle.its_asm.specs.Text.{is_symbol, is_symbol_byte}
 use Rattle.its_asm.specs.Expression.{Scope, added, sum_with, term}
 use Rattle.its_asm.proofs.CutLaws.{cut_split, cut_whole}
 
@@ -36,10 +38,6 @@ codes_of_bytes (b ∷ rest) h =
       | inl hit ↦ (let more : list_all is_symbol_byte rest ≡ true = rw hit at h in rw (code_of_byte b hit, codes_of_bytes rest more) refl)
       | inr miss ↦ (let e : false ≡ true = rw miss at h in cc)
     ]
-
-pub both_true : (x y : Bool) → (x && y) ≡ true → (x ≡ true) × (y ≡ true)
-both_true true y h = (refl, h)
-both_true false y h = cc
 
 pub symbol_is_name : (text : List ℕ) → is_symbol text ≡ true → is_name text ≡ true
 unfolding is_symbol is_name

@@ -1,71 +1,27 @@
 -- What a typed word reads as.
-use Rattle.std.proofs.Common.{if◌then◌else◌, ◌≡◌, ◌<◌, ◌≤◌, ◌+◌, ◌*◌, ◌^◌, ◌==◌, ◌&&◌, ◌||◌, ℕ, Bool, true, false, not, nat_eq, nat_le, Option, Some, None, Ok, List, [], ◌∷◌, ◌++◌, length, slice_get, refl, ap, ◌∙◌, arith, codes, bytes_eq, inl, inr, length-append}
-use Rattle.std.specs.List.{list_all, position_or_len}
-use Rattle.std.proofs.lemmas.Bool.{agree_below_at, cases_Bool, cases_lt, le-leb, leb-true, and_from, eqb-true, not-true, or_parts}
+use Rattle.std.proofs.Common.{◌≡◌, ◌<◌, ◌≤◌, ◌+◌, ◌*◌, ◌^◌, ◌&&◌, ◌||◌, ℕ, true, false, not, nat_le, Option, Some, None, Ok, List, [], ◌∷◌, ◌++◌, length, refl, ap, ◌∙◌, arith, codes, bytes_eq, length-append}
+use Rattle.std.specs.List.{list_all}
+use Rattle.std.proofs.lemmas.Bool.{le-leb, leb-true, not-true, or_parts}
 use Rattle.std.proofs.lemmas.Bool.Decides.{nat_tests}
-use Rattle.std.proofs.lemmas.List.Folds.{list_all-append}
 use Rattle.its_word.specs.Text.{digits_of, is_code, words_of}
 use Rattle.its_word.specs.Word.{left_of, right_of, pair_of}
-use Rattle.its_word.specs.Opcode.{ac_of, opcode_of, instruction_of, monitor_opcode, byte_opcode, full_word_opcode, shift_opcode, branch_opcode, stack_opcode, compare_opcode, test_opcode, mode_of, mask_of}
-use Rattle.its_word.specs.Table.{table}
-use Rattle.its_word.proofs.DigitLaws.{digits_are_codes, few_digits, some_digits}
+use Rattle.its_word.specs.Opcode.{ac_of, opcode_of}
+use Rattle.its_word.proofs.DigitLaws.{some_digits}
 use Rattle.its_word.proofs.WordsLaws.{words_first, words_one}
-use Rattle.its_asm.specs.Text.{cut, is_printable, statement_words}
+use Rattle.its_chart.specs.Text.{cut}
+use Rattle.its_chart.specs.Mnemonic.{mnemonic_of, opcode_named}
+use Rattle.its_chart.specs.TypeOut.{index_of, indirect_of, typed, typed_by, typed_operand}
+use Rattle.its_chart.proofs.BytesLaws.{all_imp, all_two, both_true}
+use Rattle.its_chart.proofs.ChartLaws.{named_first}
+use Rattle.its_chart.proofs.NameLaws.{is_letter, is_op, is_other, stood}
+use Rattle.its_chart.proofs.OperandLaws.{halves_bytes, is_operand, operand_bytes, operand_length, six_digits}
+use Rattle.its_chart.proofs.TypedLaws.{letter_printable, operand_printable}
+use Rattle.its_asm.specs.Text.{statement_words}
 use Rattle.its_asm.specs.Instruction.{alone, instruction, whole}
-use Rattle.its_asm.specs.Mnemonic.{is_named, mnemonic_of, names, opcode_named}
-use Rattle.its_asm.specs.Reading.{first_named}
-use Rattle.its_asm.specs.Statement.{body, no_names, statement_of, with_one, word_of}
+use Rattle.its_asm.specs.Statement.{body, no_names, statement_of, with_one}
 use Rattle.its_asm.specs.declared.statements.Statement.TheVariants.{Gives}
-use Rattle.its_asm.specs.TypeOut.{index_of, indirect_of, typed, typed_ac, typed_by, typed_index, typed_indirect, typed_operand}
-use Rattle.its_asm.proofs.ChartLaws.{named_first, names_at, no_more_names}
-use Rattle.its_asm.proofs.NumberLaws.{all_imp, cut_unmarked, unmarked}
-use Rattle.its_asm.proofs.ReadingLaws.{both_true}
-use Rattle.its_asm.proofs.WordLaws.{halves_bytes, instruction_number, is_operand, operand_bytes, whole_number}
-
-pub six_digits : (n : ℕ) → n < 2 ^ 18 → length (digits_of n) ≤ 6
-six_digits n h = few_digits 6 n (omega arith) (omega arith)
-
--- a name of the chart: letters and `.`, no other statement's first word
-abbrev is_letter : ℕ → Bool
-is_letter b = is_code 65 90 b || nat_eq b 46
-
-abbrev is_other : List ℕ → Bool
-is_other n = bytes_eq n (codes "LOC") || (bytes_eq n (codes "GO") || (bytes_eq n (codes "WORD") || bytes_eq n (codes "SIXBIT")))
-
-abbrev is_op : List ℕ → Bool
-is_op n = (nat_le 1 (length n) && nat_le (length n) 7) && (list_all is_letter n && not (is_other n))
-
--- a name that occurs at its own place alone
-abbrev stands_by : List (Option (List ℕ)) → ℕ → Option (Option (List ℕ)) → Bool
-stands_by ns k (Some (Some n)) = is_op n && nat_eq (position_or_len (is_named n) ns) k
-stands_by ns k other = true
-
-abbrev stands : List (Option (List ℕ)) → ℕ → Bool
-stands ns k = stands_by ns k (slice_get ns k)
-
-abbrev always : ℕ → Bool
-always k = true
-
-names_stand : (k : ℕ) → k < 512 → stands names k ≡ true
-unfolding names table mnemonic_of instruction_of monitor_opcode byte_opcode full_word_opcode shift_opcode branch_opcode stack_opcode compare_opcode test_opcode mode_of mask_of
-names_stand k h = agree_below_at (stands names) always 512 k refl h
-
--- the first opcode with a name is its own, and it is written as an operation
-record Stood (op : ℕ) (n : List ℕ) : Type 0 where
-  pub operation : is_op n ≡ true
-  pub first : first_named n ≡ op
-
-stood : (op : ℕ) (n : List ℕ) → op < 512 → mnemonic_of op ≡ Some n → Stood op n
-unfolding first_named
-stood op n below e =
-    let here : slice_get names op ≡ Some (Some n) = names_at op below ∙ ap Some e in
-    let own = names_stand op below in
-    let both : (is_op n && nat_eq (position_or_len (is_named n) names) op) ≡ true = rw here at own in
-    let parts = both_true (is_op n) (nat_eq (position_or_len (is_named n) names) op) both in
-    record { operation = parts.0; first = eqb-true _ _ parts.1 }
-
-pub stood_first : (op : ℕ) (n : List ℕ) → op < 512 → mnemonic_of op ≡ Some n → first_named n ≡ op
-stood_first op n below e = (stood op n below e).first
+use Rattle.its_asm.proofs.NumberLaws.{cut_unmarked, unmarked}
+use Rattle.its_asm.proofs.WordLaws.{instruction_number, whole_number}
 
 letter_visible : (b : ℕ) → is_letter b ≡ true → is_code 33 126 b ≡ true
 letter_visible b h = grind (arith, nat_tests)
@@ -73,23 +29,11 @@ letter_visible b h = grind (arith, nat_tests)
 letter_code_free : (b : ℕ) → is_letter b ≡ true → unmarked (codes ";") b ≡ true
 letter_code_free b h = grind (arith, nat_tests)
 
-letter_printable : (b : ℕ) → is_letter b ≡ true → is_code 32 126 b ≡ true
-letter_printable b h = grind (arith, nat_tests)
-
 operand_visible : (b : ℕ) → is_operand b ≡ true → is_code 33 126 b ≡ true
 operand_visible b h = grind (arith, nat_tests)
 
 operand_code_free : (b : ℕ) → is_operand b ≡ true → unmarked (codes ";") b ≡ true
 operand_code_free b h = grind (arith, nat_tests)
-
-operand_printable : (b : ℕ) → is_operand b ≡ true → is_code 32 126 b ≡ true
-operand_printable b h = grind (arith, nat_tests)
-
-all_two : (p : ℕ → Bool) (xs ys : List ℕ) → list_all p xs ≡ true → list_all p ys ≡ true → p 32 ≡ true → list_all p (xs ++ 32 ∷ ys) ≡ true
-all_two p [] ys h k t = rw t k
-all_two p (x ∷ xs) ys h k t =
-    let parts = both_true (p x) (list_all p xs) h in
-    and_from (p x) (list_all p (xs ++ 32 ∷ ys)) parts.0 (all_two p xs ys parts.1 k t)
 
 words_plain : (line : List ℕ) → cut (codes ";") line ≡ None → statement_words line ≡ words_of line
 unfolding statement_words
@@ -133,41 +77,6 @@ read_halves w h =
     let long = length-append (digits_of (left_of w)) (44 ∷ (44 ∷ digits_of (right_of w))) in
     read_line (codes "WORD") (digits_of (left_of w) ++ (codes ",," ++ digits_of (right_of w))) w (omega arith) (omega arith) (omega arith) (omega arith) refl
     (halves_bytes (left_of w) (right_of w) (omega arith) (omega arith)) (halves_made w h)
-
--- the length of an operand
-short_ac : (a : ℕ) → a < 16 → length (typed_ac a) ≤ 7
-short_ac a h =
-    elim (cases_Bool (a == 0)) [
-      | inl hit ↦ rw hit (omega arith)
-      | inr miss ↦ (let d = six_digits a (omega arith) in let long = length-append (digits_of a) (codes ",") in rw miss (omega arith))
-    ]
-
-short_indirect : (i : ℕ) → length (typed_indirect i) ≤ 1
-short_indirect i =
-    elim (cases_Bool (i == 0)) [
-      | inl hit ↦ rw hit (omega arith)
-      | inr miss ↦ rw miss (omega arith)
-    ]
-
-short_index : (x : ℕ) → x < 16 → length (typed_index x) ≤ 8
-short_index x h =
-    elim (cases_Bool (x == 0)) [
-      | inl hit ↦ rw hit (omega arith)
-      | inr miss ↦ (let d = six_digits x (omega arith) in let long = length-append (digits_of x) (41 ∷ []) in rw miss (omega arith))
-    ]
-
-operand_length : (a i y x : ℕ) → a < 16 → y < 2 ^ 18 → x < 16
-    → (1 ≤ length (typed_ac a ++ (typed_indirect i ++ (digits_of y ++ typed_index x)))) × (length (typed_ac a ++ (typed_indirect i ++ (digits_of y ++ typed_index x))) ≤ 40)
-operand_length a i y x ha hy hx =
-    let la = short_ac a ha in
-    let li = short_indirect i in
-    let lx = short_index x hx in
-    let ly = six_digits y hy in
-    let some = some_digits y in
-    let l1 = length-append (digits_of y) (typed_index x) in
-    let l2 = length-append (typed_indirect i) (digits_of y ++ typed_index x) in
-    let l3 = length-append (typed_ac a) (typed_indirect i ++ (digits_of y ++ typed_index x)) in
-    (omega (arith, l1, l2, l3), omega (arith, l1, l2, l3))
 
 -- an operation by its name
 operation_made : (n t : List ℕ) (op v : ℕ) → is_other n ≡ false → opcode_named n ≡ Some op → instruction no_names op t ≡ Ok (alone v) → with_one no_names no_names n t ≡ Some (Gives (Ok (alone v)))
@@ -216,41 +125,3 @@ read_by w (Some n) h e = read_operation w n h e
 pub read_back : (w : ℕ) → w < 2 ^ 36 → statement_of (typed w) ≡ Some w
 unfolding typed
 read_back w h = read_by w (mnemonic_of (opcode_of w)) h refl
-
--- a typed word has at most as many bytes as a line may have
-pub typed_short : (w : ℕ) → w < 2 ^ 36 → length (typed w) ≤ 255
-unfolding statement_of
-typed_short w h = go (nat_le (length (typed w)) 255) refl (read_back w h)
-  where
-    go : (b : Bool) → nat_le (length (typed w)) 255 ≡ b
-        → (if b then (if is_printable (typed w) then word_of (body no_names no_names (statement_words (typed w))) else None) else None) ≡ Some w → length (typed w) ≤ 255
-    go true s e = leb-true (length (typed w)) 255 s
-    go false s e = cc
-
--- and bytes from 40 to 176
-digit_printable : (b : ℕ) → is_code 48 55 b ≡ true → is_code 32 126 b ≡ true
-digit_printable b h = grind (arith, nat_tests)
-
-halves_printable : (w : ℕ) → is_printable (typed_by None w) ≡ true
-halves_printable w =
-    let digits = λ (n : ℕ). all_imp (is_code 48 55) (is_code 32 126) digit_printable (digits_of n) (digits_are_codes n) in
-    rw (list_all-append (is_code 32 126) (digits_of (left_of w)) (44 ∷ (44 ∷ digits_of (right_of w))), digits (left_of w)) (digits (right_of w))
-
-operation_printable : (w : ℕ) (n : List ℕ) → opcode_of w < 512 → mnemonic_of (opcode_of w) ≡ Some n → is_printable (typed_by (Some n) w) ≡ true
-operation_printable w n below e =
-    let op : is_op n ≡ true = (stood (opcode_of w) n below e).operation in
-    let letters = (both_true (list_all is_letter n) (not (is_other n)) (both_true (nat_le 1 (length n) && nat_le (length n) 7) (list_all is_letter n && not (is_other n)) op).1).0 in
-    let operand = operand_bytes (ac_of w) (indirect_of w) (right_of w) (index_of w) (omega arith) (omega arith) (omega arith) in
-    all_two (is_code 32 126) n (typed_operand w) (all_imp is_letter (is_code 32 126) letter_printable n letters) (all_imp is_operand (is_code 32 126) operand_printable (typed_operand w) operand) refl
-
-printable_by : (w : ℕ) (r : Option (List ℕ)) → mnemonic_of (opcode_of w) ≡ r → is_printable (typed_by r w) ≡ true
-printable_by w None e = halves_printable w
-printable_by w (Some n) e =
-    elim (cases_lt (opcode_of w) 512) [
-      | inl below ↦ operation_printable w n below e
-      | inr above ↦ (let none = no_more_names (opcode_of w) (omega arith) in cc)
-    ]
-
-pub typed_printable : (w : ℕ) → is_printable (typed w) ≡ true
-unfolding typed
-typed_printable w = printable_by w (mnemonic_of (opcode_of w)) refl

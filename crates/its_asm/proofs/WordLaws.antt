@@ -1,24 +1,18 @@
 -- The operand of a typed word as the operand of an instruction.
-use Rattle.std.proofs.Common.{◌≡◌, ◌<◌, ◌+◌, ◌*◌, ◌^◌, ◌==◌, ◌||◌, ℕ, zero, suc, Bool, true, false, nat_eq, Some, None, Ok, List, [], ◌∷◌, ◌++◌, slice_index, refl, arith, codes, inl, inr, append_assoc}
-use Rattle.std.specs.List.{list_all}
-use Rattle.std.proofs.lemmas.Bool.{cases_Bool, and_from, eqb-true}
+use Rattle.std.proofs.Common.{◌≡◌, ◌<◌, ◌+◌, ◌*◌, ◌^◌, ◌==◌, ℕ, zero, suc, true, false, Some, None, Ok, List, [], ◌∷◌, ◌++◌, slice_index, refl, arith, codes, inl, inr, append_assoc}
+use Rattle.std.proofs.lemmas.Bool.{cases_Bool, eqb-true}
 use Rattle.std.proofs.lemmas.Bool.Decides.{nat_tests}
 use Rattle.std.proofs.lemmas.List.{append-nil}
-use Rattle.std.proofs.lemmas.List.Folds.{list_all-append}
 use Rattle.its_word.specs.Text.{digits_of, is_code}
 use Rattle.its_word.specs.Word.{pair_of}
-use Rattle.its_asm.specs.Text.{closed, cut}
+use Rattle.its_chart.specs.Text.{cut}
+use Rattle.its_chart.specs.TypeOut.{typed_ac, typed_index, typed_indirect}
+use Rattle.its_chart.proofs.BytesLaws.{all_imp}
+use Rattle.its_chart.proofs.OperandLaws.{inner_address, is_inner}
+use Rattle.its_asm.specs.Text.{closed}
 use Rattle.its_asm.specs.Expression.{Scope, expression, register}
 use Rattle.its_asm.specs.Instruction.{address, alone, indexed, instruction, place, whole}
-use Rattle.its_asm.specs.TypeOut.{typed_ac, typed_index, typed_indirect}
-use Rattle.its_asm.proofs.NumberLaws.{IsNumber, all_imp, closed_last, cut_marked, cut_unmarked, digits_number, expression_number, first_digit, register_number, unmarked}
-
--- the bytes of an address: digits, `@` and parentheses; with the comma, those of an operand
-abbrev pub is_inner : ℕ → Bool
-is_inner b = is_code 48 55 b || (is_code 40 41 b || nat_eq b 64)
-
-abbrev pub is_operand : ℕ → Bool
-is_operand b = is_inner b || nat_eq b 44
+use Rattle.its_asm.proofs.NumberLaws.{IsNumber, closed_last, cut_marked, cut_unmarked, digits_number, expression_number, first_digit, register_number, unmarked}
 
 bracket_free : (b : ℕ) → is_code 48 55 b ≡ true → unmarked (codes "(") b ≡ true
 bracket_free b h = grind (arith, nat_tests)
@@ -31,12 +25,6 @@ digit_comma_free b h = grind (arith, nat_tests)
 
 lone_comma_free : (b : ℕ) → is_code 48 55 b ≡ true → unmarked (codes ",") b ≡ true
 lone_comma_free b h = grind (arith, nat_tests)
-
-digit_inner : (b : ℕ) → is_code 48 55 b ≡ true → is_inner b ≡ true
-digit_inner b h = grind (arith, nat_tests)
-
-inner_operand : (b : ℕ) → is_inner b ≡ true → is_operand b ≡ true
-inner_operand b h = grind (arith, nat_tests)
 
 place_number : (s : Scope) (n : ℕ) (t : List ℕ) → n < 2 ^ 18 → IsNumber n t → place s t ≡ Ok (alone n)
 place_number s n [] h k = let some = k.some in absurd (omega arith)
@@ -79,32 +67,6 @@ address_number s zero y x hi hy hx = rw (no_at y (digits_of y) (typed_index x) (
 address_number s (suc zero) y x hi hy hx = indexed_number s 1 y x hy hx
 address_number s (suc (suc i)) y x hi hy hx = absurd (omega arith)
 
--- the bytes of an address and of an operand
-all_append : (p : ℕ → Bool) (xs ys : List ℕ) → list_all p xs ≡ true → list_all p ys ≡ true → list_all p (xs ++ ys) ≡ true
-all_append p xs ys h k = rw (list_all-append p xs ys) (and_from (list_all p xs) (list_all p ys) h k)
-
-inner_digits : (n : ℕ) → n < 2 ^ 18 → list_all is_inner (digits_of n) ≡ true
-inner_digits n h = all_imp (is_code 48 55) is_inner digit_inner (digits_of n) ((digits_number n h).digits)
-
-inner_index : (x : ℕ) → x < 16 → list_all is_inner (typed_index x) ≡ true
-inner_index x h =
-    elim (cases_Bool (x == 0)) [
-      | inl hit ↦ rw hit refl
-      | inr miss ↦ (let more : list_all is_inner (digits_of x ++ 41 ∷ []) ≡ true = all_append is_inner (digits_of x) (41 ∷ []) (inner_digits x (omega arith)) refl in rw miss more)
-    ]
-
-inner_indirect : (i : ℕ) → list_all is_inner (typed_indirect i) ≡ true
-inner_indirect i =
-    elim (cases_Bool (i == 0)) [
-      | inl hit ↦ rw hit refl
-      | inr miss ↦ rw miss refl
-    ]
-
-inner_address : (i y x : ℕ) → y < 2 ^ 18 → x < 16 → list_all is_inner (typed_indirect i ++ (digits_of y ++ typed_index x)) ≡ true
-inner_address i y x hy hx =
-    all_append is_inner (typed_indirect i) (digits_of y ++ typed_index x) (inner_indirect i)
-    (all_append is_inner (digits_of y) (typed_index x) (inner_digits y hy) (inner_index x hx))
-
 -- the operand of an instruction
 pub instruction_number : (s : Scope) (op a i y x : ℕ) → a < 16 → i < 2 → y < 2 ^ 18 → x < 16
     → instruction s op (typed_ac a ++ (typed_indirect i ++ (digits_of y ++ typed_index x))) ≡ Ok (alone (op * 2 ^ 27 + a * 2 ^ 23 + (i * 2 ^ 22 + x * 2 ^ 18 + y)))
@@ -127,17 +89,6 @@ instruction_number s op a i y x ha hi hy hx =
           rw (miss, grouped, two, ra, found) refl)
     ]
 
-pub operand_bytes : (a i y x : ℕ) → a < 16 → y < 2 ^ 18 → x < 16 → list_all is_operand (typed_ac a ++ (typed_indirect i ++ (digits_of y ++ typed_index x))) ≡ true
-operand_bytes a i y x ha hy hx =
-    let inner = all_imp is_inner is_operand inner_operand (typed_indirect i ++ (digits_of y ++ typed_index x)) (inner_address i y x hy hx) in
-    elim (cases_Bool (a == 0)) [
-      | inl hit ↦ rw hit inner
-      | inr miss ↦
-          (let digits = all_imp is_inner is_operand inner_operand (digits_of a) (inner_digits a (omega arith)) in
-          let ac : list_all is_operand (digits_of a ++ codes ",") ≡ true = all_append is_operand (digits_of a) (codes ",") digits refl in
-          rw miss (all_append is_operand (digits_of a ++ codes ",") (typed_indirect i ++ (digits_of y ++ typed_index x)) ac inner))
-    ]
-
 -- two halves
 pub whole_number : (s : Scope) (l r : ℕ) → l < 2 ^ 18 → r < 2 ^ 18 → whole s (digits_of l ++ (codes ",," ++ digits_of r)) ≡ Ok (pair_of l r)
 unfolding whole
@@ -149,9 +100,3 @@ whole_number s l r hl hr =
     let el : expression s (digits_of l) ≡ Ok l = expression_number s l (digits_of l) hl nl in
     let er : expression s (digits_of r) ≡ Ok r = expression_number s r (digits_of r) hr nr in
     rw (two, el, er) refl
-
-pub halves_bytes : (l r : ℕ) → l < 2 ^ 18 → r < 2 ^ 18 → list_all is_operand (digits_of l ++ (codes ",," ++ digits_of r)) ≡ true
-halves_bytes l r hl hr =
-    let dl = all_imp is_inner is_operand inner_operand (digits_of l) (inner_digits l hl) in
-    let dr = all_imp is_inner is_operand inner_operand (digits_of r) (inner_digits r hr) in
-    all_append is_operand (digits_of l) (44 ∷ (44 ∷ digits_of r)) dl dr

@@ -5,7 +5,8 @@ use Rattle.std.specs.Map.{lookup}
 use Rattle.std.specs.Option.{ok_or}
 use Rattle.its_word.specs.Text.{is_octal, octal_value, sixbit_of}
 use Rattle.its_word.specs.Word.{right_of}
-use Rattle.its_asm.specs.Text.{is_mark, pieces, is_symbol}
+use Rattle.its_chart.specs.Text.{is_mark}
+use Rattle.its_asm.specs.Text.{pieces, is_symbol}
 use Rattle.its_asm.specs.declared.reason.AsmReason.{AsmReason}
 use Rattle.its_asm.specs.declared.reason.AsmReason.TheVariants.{Syntax, Range, Undef}
 

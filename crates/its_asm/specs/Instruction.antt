@@ -3,7 +3,8 @@
 use Rattle.std.specs.Prelude.{if◌then◌else◌, ℕ, ◌+◌, ◌*◌, ◌^◌, ◌==◌, Option, Some, None, Result, Ok, Err, List, [], ◌∷◌, drop, slice_index, codes}
 use Rattle.its_word.specs.Text.{is_octal, octal_value}
 use Rattle.its_word.specs.Word.{pair_of}
-use Rattle.its_asm.specs.Text.{closed, cut}
+use Rattle.its_chart.specs.Text.{cut}
+use Rattle.its_asm.specs.Text.{closed}
 use Rattle.its_asm.specs.Expression.{Scope, both, expression, given, register}
 use Rattle.its_asm.specs.declared.instruction.Item.{Item}
 use Rattle.its_asm.specs.declared.reason.AsmReason.{AsmReason}

@@ -2,7 +2,8 @@
 -- A promise rests on this.
 use Rattle.std.specs.Prelude.{if◌then◌else◌, ℕ, ◌+◌, ◌%◌, ◌^◌, Bool, true, false, Option, Some, None, Ok, List, [], ◌∷◌, ◌++◌, length, drop, fold, nat_le, nat_eq, is_some}
 use Rattle.std.specs.Map.{lookup}
-use Rattle.its_asm.specs.Text.{is_printable, statement_words}
+use Rattle.its_chart.specs.Text.{is_printable}
+use Rattle.its_asm.specs.Text.{statement_words}
 use Rattle.its_asm.specs.Expression.{Scope}
 use Rattle.its_asm.specs.Statement.{body, job, labels_of}
 use Rattle.its_asm.specs.declared.layout.Stage.{Stage}

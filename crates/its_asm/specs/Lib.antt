@@ -2,12 +2,9 @@ pub use Rattle.arrayvec.specs.ArrayVec
 pub mod Text
 pub mod Expression
 pub mod Instruction
-pub mod Mnemonic
 pub mod Statement
-pub mod TypeOut
 pub mod Layout
 pub mod Assembly
 pub mod Cells
 pub mod Making
-pub mod Table
 pub mod Reading

@@ -2,10 +2,11 @@
 -- A promise rests on this.
 use Rattle.std.specs.Prelude.{if◌then◌else◌, ℕ, Option, Some, None, Result, Ok, Err, List, [], ◌∷◌, length, nat_le, bytes_eq, codes}
 use Rattle.its_word.specs.Text.{is_name, is_octal, octal_value, sixbit_of}
-use Rattle.its_asm.specs.Text.{is_printable, label_of, symbol_of, statement_words}
+use Rattle.its_chart.specs.Text.{is_printable}
+use Rattle.its_chart.specs.Mnemonic.{opcode_named}
+use Rattle.its_asm.specs.Text.{label_of, symbol_of, statement_words}
 use Rattle.its_asm.specs.Expression.{Scope, expression, given}
 use Rattle.its_asm.specs.Instruction.{alone, instruction, whole}
-use Rattle.its_asm.specs.Mnemonic.{opcode_named}
 use Rattle.its_asm.specs.declared.instruction.Item.{Item}
 use Rattle.its_asm.specs.declared.statements.Statement.{Statement}
 use Rattle.its_asm.specs.declared.statements.Statement.TheVariants.{Nothing, Job, Equals, Loc, Gives, Go}

@@ -1,22 +1,9 @@
--- Texts cut at marks, the words of a line, and symbols (docs/ASM.md). Characters are their ASCII codes.
+-- The runs of a text between marks, the words of a line, and symbols (docs/ASM.md). Characters are their ASCII codes.
 -- A promise rests on this.
-use Rattle.std.specs.Prelude.{if◌then◌else◌, ℕ, ◌-◌, Bool, true, false, ◌&&◌, ◌||◌, ◌==◌, Option, Some, None, List, [], ◌∷◌, length, take, slice_index, nat_eq, nat_le, codes}
-use Rattle.std.specs.List.{list_all, list_any, slice_split}
+use Rattle.std.specs.Prelude.{if◌then◌else◌, ℕ, ◌-◌, Bool, false, ◌&&◌, ◌||◌, ◌==◌, Option, Some, None, List, [], ◌∷◌, length, take, slice_index, nat_le, codes}
+use Rattle.std.specs.List.{list_all, slice_split}
 use Rattle.its_word.specs.Text.{is_code, sixbit_of, words_of}
-
-abbrev pub is_mark : List ℕ → ℕ → Bool
-is_mark marks b = list_any (λ m. nat_eq m b) marks
-
--- a byte that is a mark or not, before the rest of a text and what that is cut into
-abbrev pub cut_at : Bool → ℕ → List ℕ → Option (List ℕ × ℕ × List ℕ) → Option (List ℕ × ℕ × List ℕ)
-cut_at true b rest parts = Some ([], b, rest)
-cut_at false b rest None = None
-cut_at false b rest (Some p) = Some (b ∷ p.0, p.1, p.2)
-
--- a text cut at its first mark: what is before the mark, the mark, and what is after it
-abbrev pub cut : List ℕ → List ℕ → Option (List ℕ × ℕ × List ℕ)
-cut marks [] = None
-cut marks (b ∷ rest) = cut_at (is_mark marks b) b rest (cut marks rest)
+use Rattle.its_chart.specs.Text.{is_mark, up_to}
 
 -- the runs of a text between its marks
 abbrev pub pieces : List ℕ → List ℕ → List (List ℕ)
@@ -26,21 +13,9 @@ pieces marks text = slice_split (is_mark marks) text
 abbrev pub closed : ℕ → List ℕ → Option (List ℕ)
 closed mark text = if slice_index text (length text - 1) == mark then Some (take (length text - 1) text) else None
 
--- a text up to its first mark
-abbrev pub before : List ℕ → Option (List ℕ × ℕ × List ℕ) → List ℕ
-before text None = text
-before text (Some p) = p.0
-
-abbrev pub up_to : List ℕ → List ℕ → List ℕ
-up_to marks text = before text (cut marks text)
-
 -- the words of a line are those before its comment
 unfoldable pub statement_words : List ℕ → List (List ℕ)
 statement_words line = words_of (up_to (codes ";") line)
-
--- all bytes of a line are from 40 to 176, in its comment too
-abbrev pub is_printable : List ℕ → Bool
-is_printable line = list_all (is_code 32 126) line
 
 -- a letter, a digit or `.`
 abbrev pub is_symbol_byte : ℕ → Bool

@@ -10,8 +10,8 @@ use super::layout::{Layout, Stage};
 use super::reason::{AsmFault, AsmReason};
 use super::statements::Statement;
 use super::symbols::Symbols;
-use super::words::cut;
 use indexmap::IndexSet;
+use its_chart::cut;
 use its_word::Word;
 use std::alloc::{AllocError, Global};
 

@@ -5,7 +5,7 @@ ghost use Rattle.its_asm.specs.Reading.{scope_of};
 
 use super::reason::AsmReason;
 use super::symbols::{Symbols, symbol};
-use super::words::cut;
+use its_chart::cut;
 use its_word::{Word, read_octal};
 
 /// What an expression may name: symbols, if there are any, and the location, if there is one.

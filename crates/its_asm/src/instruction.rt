@@ -3,11 +3,13 @@ ghost use Rattle.std.specs.Prelude.{◌≡◌, ◌<◌, ◌≤◌, ◌^◌, ◌*
 ghost use Rattle.its_asm.specs.Expression.{expression, given};
 ghost use Rattle.its_asm.specs.Instruction.{address, alone, indexed, indexed_by, index, instruction, joined, literal, place, whole};
 ghost use Rattle.its_asm.specs.Reading.{scope_of};
-ghost use Rattle.its_asm.specs.Text.{closed, cut};
+ghost use Rattle.its_chart.specs.Text.{cut};
+ghost use Rattle.its_asm.specs.Text.{closed};
 
 use super::expression::{Names, both, expression, register};
 use super::reason::AsmReason;
-use super::words::{closed, cut};
+use super::words::closed;
+use its_chart::cut;
 use its_word::{Word, read_octal};
 
 /// A word, and the literal whose address is still to be added to it, if it has one.

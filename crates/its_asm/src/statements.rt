@@ -1,17 +1,17 @@
 //! The statements of lines.
 ghost use Rattle.std.specs.Prelude.{◌≡◌, [], map, Ok, bytes_eq};
+ghost use Rattle.its_chart.specs.Mnemonic.{opcode_named};
 ghost use Rattle.its_asm.specs.Expression.{expression, given};
 ghost use Rattle.its_asm.specs.Instruction.{alone, instruction, whole};
-ghost use Rattle.its_asm.specs.Mnemonic.{opcode_named};
 ghost use Rattle.its_asm.specs.Reading.{scope_of};
 ghost use Rattle.its_asm.specs.Statement.{body, console_of, equals, gives, job, labels_of, operation, sixbit, with_one, formed};
 ghost use Rattle.its_asm.specs.Text.{symbol_of};
 
 use super::expression::{Names, expression};
 use super::instruction::{Item, instruction, whole};
-use super::mnemonic::opcode_named;
 use super::reason::AsmReason;
 use super::symbols::symbol;
+use its_chart::opcode_named;
 use its_word::{Word, read_octal, read_sixbit};
 
 /// A statement, with the values of its expressions or the reasons against them.

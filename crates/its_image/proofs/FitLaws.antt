@@ -4,7 +4,8 @@ use Rattle.std.proofs.Common.{sym, subst, arith}
 use Rattle.std.proofs.lemmas.Bool.Decides.{nat_tests}
 use Rattle.std.proofs.lemmas.List.Elements.{All-cons, All-head, All-nil, All-push, All-tail}
 use Rattle.its_session.specs.Fits.{IsNameWord}
-use Rattle.its_asm.specs.Text.{is_printable, statement_words}
+use Rattle.its_chart.specs.Text.{is_printable}
+use Rattle.its_asm.specs.Text.{statement_words}
 use Rattle.its_asm.specs.Statement.{labels_of}
 use Rattle.its_asm.specs.Layout.{before_all, defined, defined_by, equated, is_defined, labelled, laid_out, read, stage_after, statement_at, symbols_after, with_labels}
 use Rattle.its_asm.specs.Assembly.{Assembly, addressed, assembly, behind, ended, first_reason, from_line, inserted, is_full, is_location_twice, is_past, is_symbol_twice, is_undefined, lines_of, literals_past, made, nothing_made, onwards, placed, reason_against, spoken, unless, with_line}

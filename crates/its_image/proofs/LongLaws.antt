@@ -6,7 +6,8 @@ use Rattle.std.proofs.lemmas.Bool.{cases_Bool}
 use Rattle.std.proofs.lemmas.Bool.Decides.{nat_tests}
 use Rattle.std.proofs.lemmas.List.{length-append}
 use Rattle.its_session.specs.Events.{most_lines}
-use Rattle.its_asm.specs.Text.{is_printable, statement_words}
+use Rattle.its_chart.specs.Text.{is_printable}
+use Rattle.its_asm.specs.Text.{statement_words}
 use Rattle.its_asm.specs.Statement.{labels_of}
 use Rattle.its_asm.specs.Layout.{earlier_at, scope_at, statement_at, with_labels, read, labelled, passed_by, laid_by, laid, laid_out, before_all}
 use Rattle.its_asm.specs.declared.layout.Layout.{Layout}

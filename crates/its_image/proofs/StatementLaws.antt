@@ -5,11 +5,12 @@ use Rattle.std.proofs.lemmas.Bool.Decides.{nat_tests}
 use Rattle.std.proofs.lemmas.List.Elements.{All-cons, All-nil}
 use Rattle.its_word.specs.Text.{is_name, is_octal, octal_value, sixbit_of}
 use Rattle.its_session.specs.Fits.{IsNameWord}
-use Rattle.its_asm.specs.Text.{closed, is_mark, is_symbol, pieces, label_by, label_of, symbol_of}
+use Rattle.its_chart.specs.Text.{is_mark}
+use Rattle.its_chart.specs.Mnemonic.{opcode_named}
+use Rattle.its_asm.specs.Text.{closed, is_symbol, pieces, label_by, label_of, symbol_of}
 use Rattle.its_asm.specs.Expression.{Scope, added, both, expression, given, summed, sum_with, term}
 use Rattle.its_asm.specs.Statement.{body, console_of, equals, equals_by, formed, gives, job, job_by, labels_by, labels_of, operation, sixbit, with_one}
 use Rattle.its_asm.specs.Instruction.{alone, instruction, whole}
-use Rattle.its_asm.specs.Mnemonic.{opcode_named}
 use Rattle.its_asm.specs.Layout.{statement_at}
 use Rattle.its_asm.specs.declared.instruction.Item.{Item}
 use Rattle.its_asm.specs.declared.layout.Stage.{Stage}

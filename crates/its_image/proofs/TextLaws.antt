@@ -5,7 +5,8 @@ use Rattle.std.specs.List.{slice_split, list_all}
 use Rattle.std.proofs.lemmas.Bool.{cases_Bool}
 use Rattle.std.proofs.lemmas.Bool.Decides.{nat_tests}
 use Rattle.std.proofs.lemmas.List.Splits.{slice_split-cons_yes, slice_split-cons_no}
-use Rattle.its_asm.specs.Text.{is_mark, pieces}
+use Rattle.its_chart.specs.Text.{is_mark}
+use Rattle.its_asm.specs.Text.{pieces}
 use Rattle.its_asm.specs.Assembly.{lines_of, whole_lines}
 use Rattle.its_session.specs.Events.{last_line, lines_from}
 use Rattle.its_image.specs.Text.{joined}

@@ -11,7 +11,7 @@ use Rattle.its_word.specs.declared.show.PeekState.{PeekState}
 use Rattle.its_word.specs.declared.show.PeekState.TheVariants.{User, Entered, Parsed, Asked, Holding, Waiting, Moving, Ending}
 use Rattle.its_word.proofs.DigitLaws.{few_digits, few_for_count}
 use Rattle.its_word.proofs.SpacedLaws.{length_spaced, room_of}
-use Rattle.its_asm.proofs.TypeLaws.{typed_short}
+use Rattle.its_chart.proofs.TypedLaws.{typed_short}
 use Rattle.its_print.specs.Printing.{Line, Loaded, Ticks, Typed, Drained, Words, Listed, State, Peeked, Dir, Filed, Shown, Row, Refused, letter_of, run_of, runs_from, runs_of, word_or_dash, number_or_dash, run_or_stop, state_name, reason_name, keyword, symbol_or_dashes, symbol_fields, fields_of, text_of_line}
 use Rattle.its_print.specs.Sizes.{Fits8, Fits32, IsPrinted}
 

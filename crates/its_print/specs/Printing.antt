@@ -11,7 +11,7 @@ use Rattle.its_word.specs.declared.show.JobShow.{JobShow}
 use Rattle.its_word.specs.declared.show.Peek.{Peek}
 use Rattle.its_word.specs.declared.show.PeekState.{PeekState}
 use Rattle.its_word.specs.declared.show.PeekState.TheVariants.{User, Entered, Parsed, Asked, Holding, Waiting, Moving, Ending}
-use Rattle.its_asm.specs.TypeOut.{typed}
+use Rattle.its_chart.specs.TypeOut.{typed}
 
 -- a line of a transcript
 pub data Line : Type 0 where

@@ -2,14 +2,14 @@
 ghost use Rattle.std.specs.Prelude.{◌≡◌, ◌+◌, ◌*◌, ◌<◌, ◌≤◌, [], ◌∷◌, length, map};
 ghost use Rattle.arrayvec.specs.ArrayVec.{array_vec_len};
 ghost use Rattle.its_word.specs.Text.{digits_of, octal12_of, octal6_of, spaced};
-ghost use Rattle.its_asm.specs.TypeOut.{typed};
+ghost use Rattle.its_chart.specs.TypeOut.{typed};
 ghost use Rattle.its_print.specs.Printing.{number_or_dash, run_of, runs_of, symbol_fields, symbol_or_dashes, word_or_dash};
 ghost use Rattle.its_print.specs.Runs.{paces_in};
 
 use super::names::letter;
 use super::runs::Run;
 use arrayvec::ArrayVec;
-use its_asm::type_out;
+use its_chart::type_out;
 use its_word::{Word, octal, octal6};
 
 /// A word as it is.

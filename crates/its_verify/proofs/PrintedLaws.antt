@@ -17,9 +17,9 @@ use Rattle.its_word.specs.declared.show.Peek.{Peek}
 use Rattle.its_word.specs.declared.show.PeekState.{PeekState}
 use Rattle.its_word.specs.declared.show.PeekState.TheVariants.{User, Entered, Parsed, Asked, Holding, Waiting, Moving, Ending}
 use Rattle.its_word.proofs.DigitLaws.{digits_are_codes}
-use Rattle.its_asm.specs.TypeOut.{typed}
-use Rattle.its_asm.proofs.NumberLaws.{all_imp}
-use Rattle.its_asm.proofs.TypeLaws.{typed_printable}
+use Rattle.its_chart.specs.TypeOut.{typed}
+use Rattle.its_chart.proofs.BytesLaws.{all_imp}
+use Rattle.its_chart.proofs.TypedLaws.{typed_printable}
 use Rattle.its_print.specs.Printing.{Line, Loaded, Ticks, Typed, Drained, Words, Listed, State, Peeked, Dir, Filed, Shown, Row, Refused, letter_of, run_of, runs_from, runs_of, word_or_dash, number_or_dash, run_or_stop, job_fields, symbol_or_dashes, symbol_fields, state_name, reason_name, keyword, fields_of, text_of_line, text}
 use Rattle.its_print.specs.Sizes.{IsPrinted}
 use Rattle.its_print.proofs.LongestLine.{longest}

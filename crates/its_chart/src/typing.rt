@@ -1,9 +1,8 @@
 //! Words as text.
-ghost use Rattle.std.specs.Prelude.{◌≡◌, ◌<◌, ◌≤◌, ◌+◌, ◌++◌, ◌^◌, [], ℕ, Some, codes, length};
+ghost use Rattle.std.specs.Prelude.{◌≡◌, ◌<◌, ◌≤◌, ◌+◌, ◌++◌, ◌^◌, length};
 ghost use Rattle.arrayvec.specs.ArrayVec.{array_vec_len};
 ghost use Rattle.its_word.specs.Text.{digits_of};
-ghost use Rattle.its_asm.specs.Statement.{statement_of};
-ghost use Rattle.its_asm.specs.TypeOut.{typed, typed_ac, typed_index, typed_indirect, typed_operand};
+ghost use Rattle.its_chart.specs.TypeOut.{typed, typed_ac, typed_index, typed_indirect, typed_operand};
 
 use super::mnemonic::mnemonic;
 use arrayvec::ArrayVec;
@@ -19,7 +18,7 @@ fn put(out: &mut ArrayVec<u8, 64>, text: &[u8])
 }
 
 /// Adds the octal digits of a number below 2^18.
-#[tactic(auto, using(crate::proofs::TypeLaws::six_digits))]
+#[tactic(auto, using(crate::proofs::OperandLaws::six_digits))]
 fn put_number(out: &mut ArrayVec<u8, 64>, n: u32)
     requires below { n < 2 ^ 18 }
     requires room { array_vec_len out.old + 6 ≤ 64 }
@@ -68,13 +67,11 @@ fn put_operand(out: &mut ArrayVec<u8, 64>, w: Word)
     put_index(out, (w.value() >> 18 & 0o17) as u32);
 }
 
-/// Writes a word as a line from which `statement` makes it again: the name of its opcode and its operand; `WORD` and
-/// its halves if its opcode has no name.
-#[tactic(auto, using(crate::proofs::TypeLaws::read_back), unfolding(crate::specs::TypeOut::typed))]
+/// Writes a word as a line: the name of its opcode and its operand; `WORD` and its halves if its opcode has no name.
+#[tactic(auto, unfolding(crate::specs::TypeOut::typed))]
 pub fn type_out(w: Word, out: &mut ArrayVec<u8, 64>)
     requires { array_vec_len out.old ≡ 0 }
     ensures text { out.new.items ≡ typed w }
-    ensures read_back { statement_of (typed w) ≡ Some w }
 {
     match mnemonic((w.value() >> 27) as u32) {
         Some(name) => {

@@ -1,10 +1,10 @@
 //! The names of opcodes (processor reference manual, "User operations").
 ghost use Rattle.std.specs.Prelude.{◌≡◌, ◌<◌, ◌≤◌, ℕ, length, option_map, IfSome};
-ghost use Rattle.its_asm.specs.Mnemonic.{is_named, mnemonic_of, opcode_named};
-ghost use Rattle.its_asm.specs.Reading.{cell_of};
-ghost use Rattle.its_asm.specs.Table.{IsNamed};
+ghost use Rattle.its_chart.specs.Mnemonic.{is_named, mnemonic_of, opcode_named};
+ghost use Rattle.its_chart.specs.Reading.{cell_of};
+ghost use Rattle.its_chart.specs.Table.{IsNamed};
 
-use super::words::up_to;
+use super::text::up_to;
 
 /// How many opcodes there are, and how many of them the chart has.
 const OPCODES: u32 = 0o1000;

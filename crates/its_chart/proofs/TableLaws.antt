@@ -3,10 +3,10 @@ use Rattle.std.proofs.Common.{◌≡◌, ◌<◌, ℕ, Option, Some, None, List,
 use Rattle.its_word.specs.Opcode.{instruction_of}
 use Rattle.its_word.specs.declared.instruction.Instruction.{Instruction}
 use Rattle.its_word.specs.declared.instruction.Instruction.TheVariants.{Illegal}
-use Rattle.its_asm.specs.Mnemonic.{mnemonic_of, name_of, opcode_named}
-use Rattle.its_asm.specs.Table.{IsNamed, is_legal}
-use Rattle.its_asm.proofs.ChartLaws.{named_first}
-use Rattle.its_asm.proofs.TypeLaws.{stood_first}
+use Rattle.its_chart.specs.Mnemonic.{mnemonic_of, name_of, opcode_named}
+use Rattle.its_chart.specs.Table.{IsNamed, is_legal}
+use Rattle.its_chart.proofs.ChartLaws.{named_first}
+use Rattle.its_chart.proofs.NameLaws.{stood_first}
 
 legal_named : (i : Instruction) → is_some (name_of i) ≡ is_legal i
 legal_named Illegal = refl

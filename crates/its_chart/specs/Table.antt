@@ -4,7 +4,7 @@ use Rattle.std.specs.Prelude.{◌≡◌, ℕ, Bool, true, false, Some, IfSome, i
 use Rattle.its_word.specs.Opcode.{instruction_of}
 use Rattle.its_word.specs.declared.instruction.Instruction.{Instruction}
 use Rattle.its_word.specs.declared.instruction.Instruction.TheVariants.{Illegal}
-use Rattle.its_asm.specs.Mnemonic.{mnemonic_of, opcode_named}
+use Rattle.its_chart.specs.Mnemonic.{mnemonic_of, opcode_named}
 
 abbrev pub is_legal : Instruction → Bool
 is_legal Illegal = false

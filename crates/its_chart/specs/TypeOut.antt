@@ -4,7 +4,7 @@ use Rattle.std.specs.Prelude.{if◌then◌else◌, ℕ, ◌/◌, ◌%◌, ◌^�
 use Rattle.its_word.specs.Text.{digits_of}
 use Rattle.its_word.specs.Word.{left_of, right_of}
 use Rattle.its_word.specs.Opcode.{opcode_of, ac_of}
-use Rattle.its_asm.specs.Mnemonic.{mnemonic_of}
+use Rattle.its_chart.specs.Mnemonic.{mnemonic_of}
 
 -- bit 13, I, and bits 14 to 17, X
 abbrev pub indirect_of : ℕ → ℕ

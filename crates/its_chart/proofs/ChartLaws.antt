@@ -7,10 +7,10 @@ use Rattle.its_word.specs.Table.{table}
 use Rattle.its_word.proofs.TableLaws.{get-table, length-table}
 use Rattle.its_word.specs.declared.instruction.Instruction.{Instruction}
 use Rattle.its_word.specs.declared.instruction.Instruction.TheVariants.{Boolean, Half, Illegal}
-use Rattle.its_asm.specs.declared.mnemonic.TheConstants.{CHART}
-use Rattle.its_asm.specs.Text.{up_to}
-use Rattle.its_asm.specs.Mnemonic.{is_named, mnemonic_of, name_of, names, opcode_named}
-use Rattle.its_asm.specs.Reading.{cell_of, first_named}
+use Rattle.its_chart.specs.declared.mnemonic.TheConstants.{CHART}
+use Rattle.its_chart.specs.Text.{up_to}
+use Rattle.its_chart.specs.Mnemonic.{is_named, mnemonic_of, name_of, names, opcode_named}
+use Rattle.its_chart.specs.Reading.{cell_of, first_named}
 
 pub chart_length : length CHART.now ≡ 3136
 chart_length = refl

@@ -1,5 +1,0 @@
-use Rattle.its_asm.proofs.TableLaws.{table_named}
-use Rattle.its_asm.proofs.mnemonic.each_opcode_named.Goals as goal
-
-pub returns : goal.returns
-returns c = λ op below. table_named op below
