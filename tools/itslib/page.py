@@ -8,6 +8,7 @@ import hashlib
 import json
 import os
 import re
+import zlib
 from typing import Dict, List
 
 from .calls import INPUTS
@@ -23,6 +24,7 @@ FOLDER = os.path.join(TOP, "tools", "page")
 PAGE = os.path.join(TOP, "docs", "its.html")
 CORE = ("words", "session", "meaning", "causes", "story", "layout", "picture", "calls", "moments", "engine")
 VIEW = ("worker", "steps", "player", "field", "editor", "terminal", "page")
+GZIP = 16 + zlib.MAX_WBITS       # packs as gzip does, without a time, and alike in each version of Python
 ITEM = '<script type="application/json" id="%s">\n%s\n</script>'
 
 
@@ -67,7 +69,8 @@ def as_json(value) -> str:
 
 def module_of(module: bytes, built: Dict[str, object]) -> dict:
     """A module in the page: its source, its sum, and its bytes, packed."""
-    packed = gzip.compress(module, 9, mtime=0)
+    packer = zlib.compressobj(9, zlib.DEFLATED, GZIP)
+    packed = packer.compress(module) + packer.flush()
     return {**built, "sum": hashlib.sha256(module).hexdigest(), "bytes": base64.b64encode(packed).decode()}
 
 

@@ -1,21 +1,13 @@
 """tools/closure --check: what it refuses."""
 
-import importlib.machinery
-import importlib.util
 import os
-import sys
 import unittest
 from unittest import mock
 
-TOOLS = os.path.dirname(os.path.dirname(os.path.abspath(__file__)))
-sys.path.insert(0, TOOLS)
-
-from itslib.program import TOP                                  # noqa: E402
+from shared import TOP, called, loaded, path_of
 
 PROMISE = os.path.join("crates", "its_top", "specs", "Promise.antt")
-REAL = importlib.util.module_from_spec(importlib.util.spec_from_loader(
-    "closure", importlib.machinery.SourceFileLoader("closure", os.path.join(TOOLS, "closure"))))
-REAL.__spec__.loader.exec_module(REAL)
+REAL = loaded("closure")
 
 
 def changed(name, old, new):
@@ -98,6 +90,21 @@ class Checks(unittest.TestCase):
         course = os.path.join("crates", "its_plain", "specs", "Course.antt")
         wrong = list(REAL.wrong_splits(found, inside - {course}))
         self.assertEqual(wrong, ["%s: tools/itslib/splits.py has it in the wrong table" % course])
+
+    def test_forms(self):
+        path = path_of(PROMISE)
+        crates = called(REAL, path).written.split("\n")
+        files = called(REAL, "--files", path).written.split("\n")[:-1]
+        self.assertEqual(sum(int(line.split()[0]) for line in files), sum(part.lines for part in self.parts))
+        self.assertEqual([line for line in files if PROMISE in line][0].split()[1], PROMISE)
+        self.assertTrue(any("its_plain" in line for line in crates))
+        splits = called(REAL, "--splits", path).written.split("\n")
+        self.assertIn(REAL.counted_splits(REAL.all_splits(), {part.name for part in self.parts}), splits)
+        self.assertEqual(called(REAL, "--check", path), (0, "", ""))
+
+    def test_refused(self):
+        for name in ("README.md", "crates.txt", os.path.join("crates", "its_top", "src", "top.rt")):
+            self.assertEqual(called(REAL, path_of(name)), (1, "", "closure: %s: no file of definitions of a crate\n" % path_of(name)))
 
     def test_counts(self):
         words = "docs/PROVED.md: of the definitions that distinguish events"

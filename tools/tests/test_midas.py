@@ -16,6 +16,8 @@ TOP = os.path.dirname(os.path.dirname(os.path.dirname(os.path.abspath(__file__))
 sys.path.insert(0, os.path.join(TOP, "tools"))
 
 from itslib.midas import Job, Made, Refused, translate  # noqa: E402
+from itslib.midas.lexer import line_of  # noqa: E402
+from itslib.midas.tree import Place  # noqa: E402
 from itslib.program import proved  # noqa: E402
 
 PROGRAM = proved()
@@ -456,6 +458,24 @@ class Words(unittest.TestCase):
             with self.subTest(name):
                 one = made(midas)
                 self.assertEqual(assembled(one.text), own(one))
+
+
+class Own(unittest.TestCase):
+    """The words that the translation itself gives, without the program."""
+
+    def test_variables(self):
+        one = made("\tLOC 100\nGO:\tMOVEM 1,FOO'\n\tMOVEM 2,FOO\n\t.SCALAR BAR\n\t.VECTOR BAZ(3),QUX\n\tVARIABLES\nLAST:\t0\n\tEND GO\n")
+        self.assertEqual(one.symbols, {"GO": 0o100, "FOO": 0o102, "BAR": 0o103, "BAZ": 0o104, "QUX": 0o107, "LAST": 0o110})
+        self.assertEqual((one.words[0o100], one.words[0o101], one.words[0o106]), (0o202040000102, 0o202100000102, 0))
+
+    def test_shifts(self):
+        one = made("\tLOC 100\nGO:\t1_3 ? 400_<-2> ? 1_43 ? 1_44 ? <-1>_<-43>\n\tEND GO\n")
+        self.assertEqual([one.words[at] for at in range(0o100, 0o105)], [0o10, 0o100, 1 << 35, 0, 1])
+        self.assertRaises(Refused, made, "\tLOC 100\nGO:\t-1_3\n\tEND GO\n")
+
+    def test_places(self):
+        self.assertEqual(line_of("A\r\n\tB\x01\u00e9C\n", Place(2, 5)), ("        B??C", 11))
+        self.assertEqual(line_of("A", Place(3, 1)), ("", 0))
 
 
 class Text(unittest.TestCase):

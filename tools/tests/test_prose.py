@@ -1,22 +1,14 @@
 """tools/prose: the words, links and headings that it refuses."""
 
-import importlib.machinery
-import importlib.util
-import os
-import sys
 import unittest
 from typing import Dict, List
+from unittest import mock
 
-TOOLS = os.path.dirname(os.path.dirname(os.path.abspath(__file__)))
-sys.path.insert(0, TOOLS)
+from shared import TOP, called, loaded
+from itslib.comments import comments_of
+from itslib.links import Document, anchor, citations_in, document_of, faults_in
 
-from itslib.comments import comments_of                                            # noqa: E402
-from itslib.links import Document, anchor, citations_in, document_of, faults_in    # noqa: E402
-from itslib.program import TOP                                                     # noqa: E402
-
-REAL = importlib.util.module_from_spec(importlib.util.spec_from_loader(
-    "prose", importlib.machinery.SourceFileLoader("prose", os.path.join(TOOLS, "prose"))))
-REAL.__spec__.loader.exec_module(REAL)
+REAL = loaded("prose")
 
 CALLS = "# Calls\n\n## `.IOT` of a word\n\n## Files\n\n## Files\n\n```\n# no heading\n```\n"
 
@@ -123,6 +115,11 @@ class Repository(unittest.TestCase):
 
     def test_nothing_is_refused(self) -> None:
         self.assertEqual(list(REAL.faults()) + list(REAL.faults_of_comments()), [])
+
+    def test_status(self) -> None:
+        for found, status in (([], 0), (["README.md:1: 'behind': write after; past\n"], 1)):
+            with mock.patch.multiple(REAL, faults=lambda: found, faults_of_comments=lambda: []):
+                self.assertEqual(called(REAL), (status, "".join(found), ""))
 
 
 if __name__ == "__main__":

@@ -6,36 +6,22 @@ import os
 import re
 import shutil
 import subprocess
-import sys
 import tempfile
 import time
 import unittest
+from concurrent.futures import ThreadPoolExecutor
 
-HERE = os.path.dirname(os.path.abspath(__file__))
-sys.path.insert(0, os.path.dirname(HERE))
-
-from itslib.cutting import count_of_ticks, ticks_of                                 # noqa: E402
-from itslib.meaning import NAMES, frame                                             # noqa: E402
-from itslib.page import tables                                                      # noqa: E402
-from itslib.program import TOP, at_hand, run_all, run_each                          # noqa: E402
-from itslib.session import Texts, Transcript, Wrong, exchanges, lines_of, split     # noqa: E402
-from itslib.telling import tell                                                     # noqa: E402
-from itslib.unlicensed import runs_of, unlicensed                                   # noqa: E402
-from itslib.words import WAITS                                                      # noqa: E402
+from shared import LOOP, TOP, text_of, told_of
+from itslib.cutting import count_of_ticks, ticks_of
+from itslib.meaning import NAMES, frame
+from itslib.page import tables
+from itslib.program import at_hand, run_all, run_each
+from itslib.session import Texts, Wrong, split
+from itslib.telling import tell
+from itslib.unlicensed import runs_of, unlicensed
+from itslib.words import WAITS
 
 SECONDS = 1.0             # of processor time, for many lines
-LOOP = "LOAD U J 0\n100/ 254000000100\nGO 100\n"
-
-
-def text_of(name):
-    """A file of the repository."""
-    with open(os.path.join(TOP, name), encoding="latin-1") as file:
-        return file.read()
-
-
-def told_of(session, transcript):
-    """The lines of a session with their answers."""
-    return exchanges("the session", lines_of(session), Transcript("the transcript", transcript))
 
 
 def tool(name, *words):
@@ -291,19 +277,23 @@ class Memory(unittest.TestCase):
         self.assertLess(usage.ru_maxrss, self.MOST, words)
         return written
 
+    def each_within(self, path, *runs):
+        """Runs tools on a session, a few at once: each with its status, what it says, and its words."""
+        with ThreadPoolExecutor(os.cpu_count()) as pool:
+            ended = [(said, pool.submit(self.within, status, *words, path)) for status, said, *words in runs]
+        for said, one in ended:
+            self.assertIn(said, one.result())
+
     def test_many_lines(self):
         path = self.write("long.its", LOOP + "TICK 0 1\nEXAM 0 100 1\n" * (self.LINES // 2))
-        for words in (["explain"], ["timeline", "--lines", "100-200"], ["disturb", "--to", "1"], ["player", "--to", "200"]):
-            self.within(0, *words, path)
-        for name, narrow in (("disturb", "narrow them by --from, --to or --slot"), ("timeline", "narrow it by --lines A-B"),
-                             ("player", "take a part by --from and --to")):
-            self.assertIn(narrow, self.within(1, name, path))
+        self.each_within(path, (0, "", "explain"), (0, "", "timeline", "--lines", "100-200"), (0, "", "disturb", "--to", "1"),
+                         (0, "", "player", "--to", "200"), (1, "narrow them by --from, --to or --slot", "disturb"),
+                         (1, "narrow it by --lines A-B", "timeline"), (1, "take a part by --from and --to", "player"))
 
     def test_ten_million_ticks(self):
         path = self.write("ticks.its", LOOP + "TICK 0 1000\n" * 20000 + "EXAM 0 100 1\n")
-        for status, tool_name, said in ((0, "timeline", ""), (0, "explain", ""), (1, "disturb", "narrow them by --from, --to or --slot"),
-                                        (1, "player", "take a part by --from and --to")):
-            self.assertIn(said, self.within(status, tool_name, path))
+        self.each_within(path, (0, "", "timeline"), (0, "", "explain"), (1, "narrow them by --from, --to or --slot", "disturb"),
+                         (1, "take a part by --from and --to", "player"))
 
 
 @unittest.skipUnless(at_hand(), "the program is not at hand")

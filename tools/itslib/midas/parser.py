@@ -267,7 +267,7 @@ class Parser:
         first = self.peek()
         node = self.signed()
         while self.is_mark("_"):
-            if isinstance(node, Minus):
+            if isinstance(node, Minus) and first.name in ("+", "-"):
                 raise Refused(first.at, "put < and > around the number before _ and its sign")
             sign = self.take()
             node = Two("_", node, self.signed(), sign.at)

@@ -1,0 +1,203 @@
+"""tools/bench, tools/measure and tools/refused-memory: what they count, and the limits in docs/COST.md."""
+
+import os
+import stat
+import tempfile
+import unittest
+from types import SimpleNamespace
+from unittest import mock
+
+from shared import called, loaded, text_of
+from itslib.session import Wrong, lines_of
+
+BENCH, MEASURE, REFUSED = loaded("bench"), loaded("measure"), loaded("refused-memory")
+
+TABLE = BENCH.HEAD + """
+|---|---|---|
+| `gen 100`: all that it takes, by its ticks (and more) | 584 | 400 |
+| a tick of `SIOT` to a console (of 64 bytes) | 250 | 12 |
+| a line | 4599 | |
+
+| another | table | 7 |
+"""
+
+
+def script(folder, text):
+    """A program in a folder."""
+    path = os.path.join(folder, "program")
+    with open(path, "w", encoding="ascii") as file:
+        file.write("#!/bin/sh\n" + text)
+    os.chmod(path, stat.S_IRWXU)
+    return path
+
+
+class Limits(unittest.TestCase):
+    """The limits of tools/bench."""
+
+    def rows(self):
+        """What is counted, without a program."""
+        with mock.patch.object(BENCH, "assembled", lambda program, text: "LOAD U B -\nGO 0\n"):
+            return BENCH.rows("none")
+
+    def test_table(self):
+        self.assertEqual(BENCH.limits_of("# Cost\n\n" + TABLE), {"gen 100": 400, "a tick of SIOT to a console": 12})
+
+    def test_no_table(self):
+        with self.assertRaisesRegex(Wrong, "docs/COST.md has no table"):
+            BENCH.limits_of(TABLE.replace("At most", "Limit"))
+
+    def test_the_page(self):
+        page = text_of("docs/COST.md")
+        limits = BENCH.limits_of(page)
+        for name in [BENCH.GEN] + [row.name for row in self.rows()]:
+            self.assertIn("| %s" % name, page.replace("`", ""))
+            wanted = 110 if "SOJG" in name else 120 if "mixed" in name else 400 if name.startswith(("gen", "a tick")) else None
+            self.assertEqual(limits.get(name), wanted, name)
+        self.assertEqual(len(limits), 7)
+
+    def test_sessions(self):
+        for row in self.rows():
+            few, more = (row.session(n).count("\n") for n in (row.rounds, row.rounds + 1))
+            self.assertGreater(more, few, row.name)
+            self.assertNotIn("", {line.kind for line in lines_of(row.session(1))[:-1]})
+
+    def test_line(self):
+        self.assertEqual(BENCH.line_of("a", 401.4, {"a": 400}, True), "PAST    401  a (at most 400)\n")
+        self.assertEqual(BENCH.line_of("b", 7.0, {"a": 400}, False), "          7  b\n")
+
+
+class Counting(unittest.TestCase):
+    """What tools/bench counts, and how it ends."""
+
+    def test_unit(self):
+        row = BENCH.Row("a", lambda n: "x" * n, 10, 4)
+        with mock.patch.object(BENCH, "spent", lambda program, words, text: 1000.0 + 8 * text.count("x")):
+            self.assertEqual(BENCH.counted("its", row), 2.0)
+
+    def test_status(self):
+        row = BENCH.Row("a tick", str, 1, 1)
+        for counter, number, status in (("valgrind", 400.0, 0), ("valgrind", 401.0, 1), (None, 401.0, 0)):
+            with mock.patch.multiple(BENCH, rows=lambda program: [row], counted=lambda program, row: number, spent=lambda *words: 0.0,
+                                     limits_of=lambda page: {"a tick": 400}), mock.patch("shutil.which", lambda name: counter):
+                ended = called(BENCH, "/bin/sh")
+            self.assertEqual((ended.status, "PAST" in ended.written), (status, status == 1))
+            self.assertIn("%6.0f  a tick (at most 400)\n" % number, ended.written)
+
+    def test_assembled(self):
+        with tempfile.TemporaryDirectory() as folder:
+            program = script(folder, "cat >/dev/null; printf 'VERSION 2\\nLOAD U B -\\nGO 100\\nEND\\n'")
+            self.assertEqual(BENCH.assembled(program, ""), "LOAD U B -\nGO 100\n")
+            for text in ("cat >/dev/null; echo '? 1 SYNTAX'", "cat >/dev/null; exit 5"):
+                self.assertRaises(Wrong, BENCH.assembled, script(folder, text), "")
+
+    def test_no_program(self):
+        for module in (BENCH, MEASURE):
+            for path in ("/none", "/"):
+                ended = called(module, path)
+                self.assertEqual(ended, (1, "", "%s: %s is no program\n" % (module.__name__, path)))
+
+
+class Refused(unittest.TestCase):
+    """tools/refused-memory, with runs that end as they would with so much memory."""
+
+    def counted(self, status_of):
+        """How the runs of a session are counted, if a run with so much memory ends with this status and output."""
+        def run(program, words, session, limit=None):
+            """One run."""
+            status, written = status_of(limit or 1 << 40)
+            return SimpleNamespace(returncode=status, stdout=written)
+
+        with mock.patch.object(REFUSED, "run", run), mock.patch("builtins.print"):
+            return REFUSED.tried("its", ["run"], b"")
+
+    def test_session(self):
+        step, whole = REFUSED.STEP, (0, b"J 0\n")
+        self.assertEqual(self.counted(lambda limit: (5, b"") if limit < 11 * step else whole), (8, 10, 0))
+        self.assertEqual(self.counted(lambda limit: (127, b"") if limit < 3 * step else (5, b"") if limit < 11 * step else whole), (8, 8, 0))
+        self.assertEqual(self.counted(lambda limit: (5, b"J") if limit < 11 * step else whole), (8, 0, 10))
+        self.assertEqual(self.counted(lambda limit: whole), (8, 0, 0))
+
+    def test_words(self):
+        def run(program, words, session, limit):
+            """One run with many words."""
+            rooms = limit // REFUSED.WORDS_STEP
+            good, wrong = REFUSED.NO_ROOM if rooms < 4 else REFUSED.NO_LIST if rooms < 6 else REFUSED.ROOM
+            return SimpleNamespace(returncode=wrong if words[-1] else good)
+
+        with mock.patch.object(REFUSED, "run", run):
+            self.assertEqual(REFUSED.tried_words("its"), (3, 2, 8, 0))
+
+    def test_usage(self):
+        for words, status in (([], 1), (["--help"], 0), (["a", "b"], 1)):
+            ended = called(REFUSED, *words)
+            self.assertEqual((ended.status, ended.written.split("\n")[0]), (status, "refused-memory PROGRAM"))
+
+
+class Measures(unittest.TestCase):
+    """tools/measure, with a substitute for the program."""
+
+    def test_sessions(self):
+        self.assertEqual(len(lines_of(MEASURE.looking(5).decode())), 3 + 5 + 1 + 1)
+        session, transcript = MEASURE.crowd()
+        self.assertEqual((session.count(b"LOAD "), transcript.split()[-1], transcript.count(b"\n")), (64, b"77", 64))
+        self.assertEqual(MEASURE.reading(3).count(b"TICK 0 1000\n"), 3)
+        self.assertEqual(MEASURE.reading(0).count(b" 1" * 16), MEASURE.WORDS // 16)
+
+    def test_words_read(self):
+        with tempfile.TemporaryDirectory() as folder:
+            program = script(folder, "cat >/dev/null; printf 'T 0 1*\\nE 0 000002 000000000123\\n'")
+            self.assertEqual(MEASURE.words_read(program, 0), 0o123)
+            with self.assertRaisesRegex(Wrong, "the session that reads a long file ends with status 5"):
+                MEASURE.words_read(script(folder, "cat >/dev/null; echo E 1; exit 5"), 0)
+
+    def test_resident(self):
+        with tempfile.TemporaryDirectory() as folder:
+            self.assertGreater(MEASURE.resident(script(folder, "echo J 0; cat >/dev/null"), b"CLOCK 1\nEND\n", b"J 0\n"), 100)
+            with self.assertRaisesRegex(Wrong, "does not have its transcript"), mock.patch.object(MEASURE, "PATIENCE", 0.3):
+                MEASURE.resident(script(folder, "exec cat >/dev/null"), b"END\n", b"J 0\n")
+
+    def test_halves(self):
+        words = MEASURE.WORDS
+        with mock.patch.multiple(MEASURE, words_read=lambda program, lines: lines * 512, seconds=lambda program, lines: lines / 100):
+            first, second = MEASURE.halves("its")
+        self.assertAlmostEqual(first, words // 512 * 98 // 100 / 200, 1)
+        self.assertAlmostEqual(first, second, 1)
+        with mock.patch.object(MEASURE, "words_read", lambda program, lines: 64), self.assertRaisesRegex(Wrong, "lines of ticks do not read the long file"):
+            MEASURE.halves("its")
+
+    def test_runs(self):
+        with tempfile.TemporaryDirectory() as folder:
+            ended = MEASURE.run(script(folder, "cat; exit 5"), b"CLOCK 1\n")
+            self.assertEqual((ended.status, ended.output), (5, b"CLOCK 1\n"))
+            self.assertEqual(MEASURE.run(script(folder, "kill -9 $$"), b"").status, -9)
+            refused = MEASURE.with_data(script(folder, "ulimit -d"), b"", 12288)
+            self.assertEqual(refused.output, b"12288\n")
+        self.assertGreater(MEASURE.writes(b"E 0 000100 000000000000\n" * 100), 0)
+
+    def test_limits(self):
+        def rows(**changed):
+            """Whether each number is within its limit."""
+            found = dict(halves=lambda program: (1.0, 1.3), resident=lambda *words: 6144, looks=lambda program: (2.0, 1.0), with_data=runs)
+            with mock.patch.multiple(MEASURE, **{**found, **changed}):
+                return [within for _, within in MEASURE.measured("its")]
+
+        def runs(program, session, kilobytes):
+            """A run with so much memory."""
+            wanted = text_of("sessions/first.out").encode()
+            return MEASURE.Run(0, wanted, 0.0) if kilobytes >= MEASURE.ENOUGH else MEASURE.Run(5, b"", 0.0)
+
+        self.assertEqual(rows(), [True] * 6)
+        self.assertEqual(rows(halves=lambda program: (1.0, 1.31)), [False] + [True] * 5)
+        self.assertEqual(rows(looks=lambda program: (2.1, 1.0)), [True, False] + [True] * 4)
+        self.assertEqual(rows(resident=lambda *words: 6145), [True] * 3 + [False] + [True] * 2)
+        self.assertEqual(rows(with_data=lambda *words: MEASURE.Run(5, b"", 0.0)), [True] * 4 + [False, True])
+        self.assertEqual(rows(with_data=lambda *words: MEASURE.Run(0, b"", 0.0)), [True] * 4 + [False] * 2)
+
+    def test_status(self):
+        for within, status, written in ((True, 0, "ok    a\n"), (False, 1, "PAST  a\n")):
+            with mock.patch.object(MEASURE, "measured", lambda program: [("a", within)]):
+                self.assertEqual(called(MEASURE, "/bin/sh"), (status, written, ""))
+
+
+if __name__ == "__main__":
+    unittest.main()
