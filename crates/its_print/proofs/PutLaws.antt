@@ -1,10 +1,11 @@
 -- The words of a line, written one after another.
 use Rattle.std.specs.Prelude.{replicate}
-use Rattle.std.proofs.Common.{if◌then◌else◌, ◌≡◌, ◌≢◌, ◌<◌, ◌≤◌, ◌+◌, ◌-◌, ◌==◌, ◌∙◌, ap, sym, ℕ, zero, suc, true, false, List, [], ◌∷◌, ◌++◌, length, get_or, take, drop, refl, add-one, append_assoc, arith}
+use Rattle.std.proofs.Common.{if◌then◌else◌, ◌≡◌, ◌≢◌, ◌<◌, ◌≤◌, ◌+◌, ◌-◌, ◌/◌, ◌%◌, ◌^◌, ◌==◌, ◌∙◌, ap, sym, ℕ, zero, suc, true, false, List, [], ◌∷◌, ◌++◌, length, get_or, take, drop, refl, add-one, append_assoc, arith}
 use Rattle.std.proofs.Math.Seq.{drop-cons}
 use Rattle.std.proofs.lemmas.Bool.Decides.{nat_tests}
-use Rattle.its_word.specs.Text.{spaced}
+use Rattle.its_word.specs.Text.{digits_of, spaced}
 use Rattle.its_word.specs.declared.calls.Pace.{Pace}
+use Rattle.its_word.proofs.DigitLaws.{digits_below_8, digits_from_8, few_digits}
 use Rattle.its_word.proofs.SpacedLaws.{spaced-append}
 use Rattle.std.proofs.lemmas.List.{length-append, length-replicate, take_all}
 use Rattle.its_print.specs.declared.runs.Run.{Run}
@@ -14,6 +15,24 @@ use Rattle.its_print.specs.Runs.{paces_in}
 -- a run is its digits and then its letter
 pub run_text : (text digits : List ℕ) (letter : ℕ) → (text ++ 32 ∷ digits) ++ letter ∷ [] ≡ text ++ 32 ∷ (digits ++ letter ∷ [])
 run_text text digits letter = append_assoc text (32 ∷ digits) (letter ∷ [])
+
+-- a number of 64 bits has at most 22 digits
+pub number_fits : (n : ℕ) → n < 2 ^ 64 → length (digits_of n) ≤ 22
+number_fits n below = few_digits 22 n (omega arith) (omega arith)
+
+-- a space and digits
+pub digits_text : (text digits : List ℕ) → (text ++ 32 ∷ []) ++ digits ≡ text ++ 32 ∷ digits
+digits_text text digits = append_assoc text (32 ∷ []) digits
+
+-- the digits of a number: one, or those of an eighth of it and one more
+pub one_digit : (n : ℕ) → n < 8 → length (digits_of n) ≡ 1
+one_digit n small = ap length (digits_below_8 n small)
+
+pub more_digits : (n : ℕ) → 8 ≤ n → length (digits_of n) ≡ length (digits_of (n / 8)) + 1
+more_digits n large = ap length (digits_from_8 n large) ∙ length-append (digits_of (n / 8)) ((48 + n % 8) ∷ [])
+
+pub last_digit : (n : ℕ) (text : List ℕ) → 8 ≤ n → (text ++ digits_of (n / 8)) ++ (48 + n % 8) ∷ [] ≡ text ++ digits_of n
+last_digit n text large = append_assoc text (digits_of (n / 8)) ((48 + n % 8) ∷ []) ∙ ap (λ ds. text ++ ds) (sym (digits_from_8 n large))
 
 -- more paces of the same letter
 more_go_on : (c n letter : ℕ) (p : Pace) (ps : List Pace) → letter_of p ≡ letter → runs_from n letter (replicate c p ++ ps) ≡ runs_from (n + c) letter ps

@@ -1,5 +1,5 @@
 //! The words of a line: each call writes a space and a word at the end, or one for each of a list.
-ghost use Rattle.std.specs.Prelude.{◌≡◌, ◌+◌, ◌*◌, ◌<◌, ◌≤◌, [], ◌∷◌, length, map};
+ghost use Rattle.std.specs.Prelude.{◌≡◌, ◌+◌, ◌*◌, ◌<◌, ◌≤◌, [], ◌∷◌, ◌++◌, length, map};
 ghost use Rattle.arrayvec.specs.ArrayVec.{array_vec_len};
 ghost use Rattle.its_word.specs.Text.{digits_of, octal12_of, octal6_of, spaced};
 ghost use Rattle.its_chart.specs.TypeOut.{typed};
@@ -10,7 +10,7 @@ use super::names::letter;
 use super::runs::Run;
 use arrayvec::ArrayVec;
 use its_chart::type_out;
-use its_word::{Word, octal, octal6};
+use its_word::{Word, octal6};
 
 /// A word as it is.
 #[tactic(auto, unfolding(its_word::specs::Text::spaced))]
@@ -24,12 +24,29 @@ pub fn put(out: &mut ArrayVec<u8, 2048>, word: &[u8])
 }
 
 /// A number without leading zeros.
+#[tactic(auto, using(crate::proofs::PutLaws::number_fits, crate::proofs::PutLaws::digits_text), unfolding(its_word::specs::Text::spaced))]
 pub fn put_number(out: &mut ArrayVec<u8, 2048>, n: u64)
     requires { array_vec_len out.old + 22 < 2048 }
     ensures text { out.new.items ≡ spaced out.old.items (digits_of n ∷ []) }
     ensures len { array_vec_len out.new ≤ array_vec_len out.old + 23 }
 {
-    put(out, octal(n).as_slice());
+    out.push(b' ');
+    put_digits(out, n);
+}
+
+/// The digits of a number, without leading zeros and with no space before them.
+#[tactic(auto, using(its_word::proofs::DigitLaws::digits_below_8, crate::proofs::PutLaws::one_digit, crate::proofs::PutLaws::more_digits, crate::proofs::PutLaws::last_digit))]
+fn put_digits(out: &mut ArrayVec<u8, 2048>, n: u64)
+    requires room { array_vec_len out.old + length (digits_of n) ≤ 2048 }
+    ensures text { out.new.items ≡ out.old.items ++ digits_of n }
+    ensures len { array_vec_len out.new ≡ array_vec_len out.old + length (digits_of n) }
+{
+    if n < 8 {
+        out.push(b'0' + n as u8);
+    } else {
+        put_digits(out, n / 8);
+        out.push(b'0' + (n % 8) as u8);
+    }
 }
 
 /// A word of 12 digits.
@@ -143,14 +160,15 @@ pub fn put_bytes(out: &mut ArrayVec<u8, 2048>, bytes: &[u8])
 }
 
 /// A run of `n` of one letter, in at most `3 * n` bytes.
-#[tactic(auto, using(its_word::proofs::DigitLaws::few_for_count, crate::proofs::PutLaws::run_text), unfolding(its_word::specs::Text::spaced))]
+#[tactic(auto, using(its_word::proofs::DigitLaws::few_for_count, crate::proofs::PutLaws::digits_text, crate::proofs::PutLaws::run_text), unfolding(its_word::specs::Text::spaced))]
 fn put_run(out: &mut ArrayVec<u8, 2048>, n: u32, letter: u8)
     requires some { 1 ≤ n }
     requires room { array_vec_len out.old + 3 * n < 2048 }
     ensures text { out.new.items ≡ spaced out.old.items (run_of n letter ∷ []) }
     ensures len { array_vec_len out.new ≤ array_vec_len out.old + 3 * n }
 {
-    put(out, octal(u64::from(n)).as_slice());
+    out.push(b' ');
+    put_digits(out, u64::from(n));
     out.push(letter);
 }
 

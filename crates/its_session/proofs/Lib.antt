@@ -5,3 +5,4 @@ pub mod NameLaws
 pub mod RoundTrip
 pub mod FitsLaws
 pub mod GeneratedLaws
+pub mod KindLaws

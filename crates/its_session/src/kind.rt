@@ -95,10 +95,15 @@ pub fn kind_of(first: &[u8]) -> Option<Kind>
     }
 }
 
-/// Whether a word is this one.
+/// Whether a word is this one. Most words have another length, which is seen at once.
+#[tactic(auto, using(crate::proofs::KindLaws::other_length))]
+#[inline]
 fn is(word: &[u8], name: &[u8]) -> bool
     ensures { result ≡ bytes_eq word.now name.now }
 {
+    if word.len() != name.len() {
+        return false;
+    }
     word == name
 }
 

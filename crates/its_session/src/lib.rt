@@ -7,6 +7,7 @@
 //! None exactly past its end.
 #![tactic(auto)]
 
+mod few;
 mod fields;
 mod generator;
 mod kind;

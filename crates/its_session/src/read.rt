@@ -1,12 +1,14 @@
 //! Reading a line.
-ghost use Rattle.std.specs.Prelude.{◌≡◌, map, IfOk};
+ghost use Rattle.std.specs.Prelude.{◌≡◌, ◌≤◌, length, map, IfOk};
 ghost use Rattle.std.specs.List.{list_all};
-ghost use Rattle.its_word.specs.Text.{is_code};
+ghost use Rattle.its_word.specs.Text.{is_code, words_of};
 ghost use Rattle.its_session.specs.Fits.{EventFits, Stands};
 ghost use Rattle.its_session.specs.Grammar.{event_of_words, is_comment, line_event, line_of_kind};
 
+use super::few::few_words;
 use super::kind::{Kind, before_slash, kind_of, may_stand};
 use super::rows;
+use arrayvec::ArrayVec;
 use its_word::{Bad, Event, Place, words};
 
 /// The event of a line (without its LF) at a place of a session of this version, or the first reason why it is none: `Long` for more
@@ -24,6 +26,20 @@ pub fn read_line(line: &[u8], place: Place, version: u8) -> Result<Event, Bad>
     if !is_printable(line) {
         return Err(Bad::Syntax);
     }
+    let mut few = ArrayVec::new();
+    if few_words(line, &mut few) {
+        event_of_words(place, version, &few)
+    } else {
+        event_of_many(line, place, version)
+    }
+}
+
+/// The event of a line of many words. Its array for them is made here alone, since most lines have few.
+#[inline(never)]
+fn event_of_many(line: &[u8], place: Place, version: u8) -> Result<Event, Bad>
+    requires { length line.now ≤ 255 }
+    ensures { result ≡ event_of_words place version (words_of line.now) }
+{
     event_of_words(place, version, words(line).as_slice())
 }
 
