@@ -32,7 +32,7 @@ use Rattle.its_world.specs.World.{alarm_at, state_of, raw_of, raw_at, frame_at, 
 use Rattle.its_world.specs.declared.world.World.{World}
 use Rattle.its_world.proofs.SiteLaws.{site_fits, block_words}
 use Rattle.its_world.proofs.StateLaws.{kept_turn, retaken, turned_state, kept_state}
-use Rattle.its_pclsr.proofs.ApartLaws.{becomes_pages, tidy_kept}
+use Rattle.its_commit.proofs.TidyLaws.{becomes_pages, tidy_kept}
 use Rattle.its_pclsr.proofs.RowLaws.{paged_becomes}
 use Rattle.its_pclsr.proofs.UnwindingLaws.{stands_at}
 use Rattle.its_operator.specs.Kept.{Kept}

@@ -31,9 +31,9 @@ use Rattle.its_world.specs.declared.world.World.{World}
 use Rattle.its_parts.proofs.BareLaws.{deliverable_bare, delivered_bare}
 use Rattle.its_world.proofs.StateLaws.{raw_job, raw_some, raw_none}
 use Rattle.its_world.proofs.StorageLaws.{frame_is}
-use Rattle.its_pclsr.specs.Carried.{standing_of}
+use Rattle.its_commit.specs.Carried.{standing_of}
 use Rattle.its_pclsr.specs.Pages.{pages_unwound}
-use Rattle.its_pclsr.proofs.ApartLaws.{becomes_pages}
+use Rattle.its_commit.proofs.TidyLaws.{becomes_pages}
 use Rattle.its_monitor.specs.Pages.{pages_tried, pages_held, pages_user, pages_in, pages_unless, pages_of, pages_ticked}
 use Rattle.its_monitor.specs.Ticks.{UnitIn}
 use Rattle.its_monitor.proofs.UserLaws.{raw_fact, stop_same}

@@ -32,7 +32,7 @@ use Rattle.its_parts.proofs.BareLaws.{bare_outcome, deliverable_bare, unit_bare}
 use Rattle.its_world.proofs.StateLaws.{raw_job, state_is, turned_state}
 use Rattle.its_world.proofs.StorageLaws.{frame_is}
 use Rattle.its_world.proofs.WorldLaws.{core_becomes}
-use Rattle.its_pclsr.proofs.ApartLaws.{becomes_pages, tidy_put}
+use Rattle.its_commit.proofs.TidyLaws.{becomes_pages, tidy_put}
 use Rattle.its_operator.specs.Kept.{Kept}
 use Rattle.its_operator.proofs.RegisterLaws.{raw_is, raw_is_none}
 use Rattle.its_monitor.specs.Ticks.{UnitIn, UnitsMade, due_of, is_made, unit_due}

@@ -6,11 +6,12 @@ use Rattle.its_jobs.specs.Table.{job_at}
 use Rattle.its_frame.specs.declared.decision.Decision.{Decision}
 use Rattle.its_frame.specs.declared.frame.Frame.{Frame}
 use Rattle.its_frame.specs.declared.frame.Holding.{Holding}
-use Rattle.its_pclsr.specs.Pages.{pages_carried, pages_unwound}
+use Rattle.its_commit.specs.Pages.{pages_carried}
+use Rattle.its_pclsr.specs.Pages.{pages_unwound}
 use Rattle.its_monitor.specs.Pages.{pages_tried, pages_in}
 use Rattle.its_monitor.proofs.FramesLaws.{tried_pages}
-use Rattle.its_pclsr.specs.Carried.{standing_of, pace_of, Ready}
-use Rattle.its_pclsr.proofs.TriesLaws.{Cleared, Tries, prepared, cleared, tries, job_there, ready_there}
+use Rattle.its_commit.specs.Carried.{standing_of, pace_of, Ready}
+use Rattle.its_commit.proofs.TriesLaws.{Cleared, Tries, prepared, cleared, tries, job_there, ready_there}
 use Rattle.its_plain.specs.CallStep.{decision}
 use Rattle.its_plain.specs.Decide.{reach}
 use Rattle.its_plain.specs.Machine.{Whole}

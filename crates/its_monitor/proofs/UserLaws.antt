@@ -46,7 +46,7 @@ use Rattle.its_world.proofs.StateLaws.{kept_turn, raw_job, raw_some, state_is, t
 use Rattle.its_world.proofs.WorldLaws.{then_becomes, alike, frames_still}
 use Rattle.its_world.proofs.PlaceLaws.{user_ringed}
 use Rattle.its_world.specs.Rings.{heads}
-use Rattle.its_pclsr.proofs.ApartLaws.{tidy_put}
+use Rattle.its_commit.proofs.TidyLaws.{tidy_put}
 use Rattle.its_operator.specs.Kept.{Kept}
 use Rattle.its_operator.proofs.RegisterLaws.{raw_is}
 use Rattle.its_monitor.specs.Ticks.{Made, ticked, with_channels}

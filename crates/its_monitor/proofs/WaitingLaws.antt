@@ -39,9 +39,10 @@ use Rattle.its_world.specs.World.{alarm_at, frame_at, raw_at, state_of}
 use Rattle.its_world.specs.declared.world.World.{World}
 use Rattle.its_world.proofs.StateLaws.{raw_job, raw_some}
 use Rattle.its_world.proofs.StorageLaws.{frame_is}
-use Rattle.its_pclsr.specs.Carried.{standing_of}
-use Rattle.its_pclsr.specs.Pages.{pages_carried, pages_unwound}
-use Rattle.its_pclsr.proofs.TriesLaws.{tries}
+use Rattle.its_commit.specs.Carried.{standing_of}
+use Rattle.its_commit.specs.Pages.{pages_carried}
+use Rattle.its_pclsr.specs.Pages.{pages_unwound}
+use Rattle.its_commit.proofs.TriesLaws.{tries}
 use Rattle.its_operator.specs.Kept.{Kept}
 use Rattle.its_operator.proofs.WaitsLaws.{Placed, placed, stands_there, stands_here, held_place, ring_within, frame_none, housed_at, raw_is, sound_at, waits_decided, waits_place}
 use Rattle.its_monitor.specs.Pages.{pages_in, pages_ticked}

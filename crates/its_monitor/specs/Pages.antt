@@ -14,7 +14,8 @@ use Rattle.its_stepped.specs.State.{State}
 use Rattle.its_stepped.specs.Tick.{helped_if, helps, quarters, reserves}
 use Rattle.its_stepped.specs.Unwind.{all_unwound, unwind_one}
 use Rattle.its_world.specs.World.{frames_after}
-use Rattle.its_pclsr.specs.Pages.{pages_carried, pages_unwound}
+use Rattle.its_commit.specs.Pages.{pages_carried}
+use Rattle.its_pclsr.specs.Pages.{pages_unwound}
 
 -- a call is tried: those that it reaches are unwound, and its decision is then carried out
 abbrev pub pages_tried : State → ℕ → Whole → Ask → Frames → Frames

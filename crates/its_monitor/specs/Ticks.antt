@@ -13,7 +13,7 @@ use Rattle.its_core.specs.Cores.{core_at, clear_at}
 use Rattle.its_jobs.specs.Table.{job_at}
 use Rattle.its_frame.specs.declared.frame.Frame.{Frame}
 use Rattle.its_frame.specs.declared.frame.Frame.TheVariants as frames
-pub use Rattle.its_pclsr.specs.Carried.{pace_of}
+pub use Rattle.its_commit.specs.Carried.{pace_of}
 pub use Rattle.pdp_exec.specs.Units.{Left, left, after_outcome, unit_unless, after_unit, after_units}
 use Rattle.its_frame.specs.declared.name.CallName.{CallName}
 use Rattle.its_frame.specs.declared.name.CallName.TheVariants.{Logout, Uclose}

@@ -6,7 +6,7 @@ ghost use Rattle.its_calls.specs.Calls.{entered_in, parsed_in};
 ghost use Rattle.its_core.specs.Cores.{clear_at};
 ghost use Rattle.its_jobs.specs.Table.{job_at};
 ghost use Rattle.its_world.specs.Tidy.{Tidy};
-ghost use Rattle.its_pclsr.specs.Carried.{standing_of};
+ghost use Rattle.its_commit.specs.Carried.{standing_of};
 ghost use Rattle.its_plain.specs.CallStep.{decision, faulted};
 ghost use Rattle.its_stepped.specs.Forest.{Forest};
 ghost use Rattle.its_stepped.specs.Duty.{IsTried};
@@ -21,8 +21,9 @@ ghost use Rattle.its_monitor.specs.Ticks.{asked_in, pace_of, pace_decoded, state
 use super::ready::make_ready;
 use call_core::{decide, reserves};
 use its_calls::{Next, View};
+use its_commit::{carry_out, standing};
 use its_frame::Decision;
-use its_pclsr::{carry_out, standing, unwind_one};
+use its_pclsr::unwind_one;
 use its_word::{Fault, Pace};
 use its_world::World;
 
@@ -121,7 +122,7 @@ fn decoded(w: &mut World, slot: u8, answer: Result<(), Fault>) -> Pace
 
 /// Sets the bit of a fault in a slot's job.
 #[inline(never)]
-#[tactic(auto, using(its_pclsr::proofs::ApartLaws::becomes_pages, crate::proofs::CallLaws::fault_set))]
+#[tactic(auto, using(its_commit::proofs::TidyLaws::becomes_pages, crate::proofs::CallLaws::fault_set))]
 fn set_fault(w: &mut World, slot: u8, fault: Fault)
     requires slot { slot < slots }
     requires job { is_some (job_at w.old.jobs slot) ≡ true }

@@ -4,7 +4,7 @@ ghost use Rattle.std.specs.Prelude.{◌≡◌, ◌<◌, true, Some, IfSome, is_s
 ghost use Rattle.its_word.specs.Limits.{slots};
 ghost use Rattle.its_jobs.specs.Table.{job_at, superior_at};
 ghost use Rattle.its_world.specs.Tidy.{Tidy};
-ghost use Rattle.its_pclsr.specs.Carried.{standing_of};
+ghost use Rattle.its_commit.specs.Carried.{standing_of};
 ghost use Rattle.its_pclsr.specs.Pages.{pages_unwound};
 ghost use Rattle.its_plain.specs.Decide.{reach};
 ghost use Rattle.its_stepped.specs.Forest.{Forest};
@@ -17,8 +17,8 @@ ghost use Rattle.its_monitor.specs.Ticks.{call_asked, slots_in, RootFits};
 
 use super::reach::{Reach, reach_of, unwind_reach};
 use call_file::helps;
+use its_commit::standing;
 use its_frame::{CallName, OnFiles};
-use its_pclsr::standing;
 use its_word::Ask;
 use its_world::World;
 

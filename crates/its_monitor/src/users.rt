@@ -18,10 +18,10 @@ ghost use Rattle.pdp_exec.specs.Answer.{IsCalled};
 ghost use Rattle.its_monitor.specs.Ticks.{ticked, with_channels, UnitIn, UnitsMade};
 
 use super::reach::calm;
+use its_commit::apply;
 use its_core::Core;
 use its_frame::Change;
 use its_ints::{deliver, deliverable};
-use its_pclsr::apply;
 use its_word::{Job, Pace, Site};
 use its_world::World;
 use pdp_exec::{run_units, site};
@@ -60,7 +60,7 @@ fn run_delivery(w: &mut World, slot: u8, job: &mut Job) -> bool
 }
 
 /// Writes the registers of a slot's job except its channels.
-#[tactic(auto, using(its_pclsr::proofs::ApartLaws::becomes_pages, crate::proofs::UserLaws::written_back))]
+#[tactic(auto, using(its_commit::proofs::TidyLaws::becomes_pages, crate::proofs::UserLaws::written_back))]
 fn put_back(w: &mut World, slot: u8, job: Job)
     requires slot { slot < slots }
     requires some { is_some (job_at w.old.jobs slot) ≡ true }
@@ -162,7 +162,7 @@ pub fn units_in_place(w: &mut World, slot: u8, n: u32) -> u32
 
 /// The job of a slot enters the monitor.
 #[inline(never)]
-#[tactic(auto, using(its_pclsr::proofs::ApartLaws::becomes_pages))]
+#[tactic(auto, using(its_commit::proofs::TidyLaws::becomes_pages))]
 fn enter(w: &mut World, slot: u8)
     requires slot { slot < slots }
     requires job { is_some (job_at w.old.jobs slot) ≡ true }

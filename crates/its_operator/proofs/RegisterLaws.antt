@@ -32,7 +32,7 @@ use Rattle.its_stepped.proofs.UnwindLaws.{unwound_plain, unwound_none}
 use Rattle.its_world.specs.World.{alarm_at, symbols_at, state_of, in_raw, JobBecomes}
 use Rattle.its_world.specs.declared.world.World.{World}
 use Rattle.its_world.proofs.StateLaws.{raw_job, raw_some, raw_none, changed_state}
-use Rattle.its_pclsr.proofs.ApartLaws.{tidy_put}
+use Rattle.its_commit.proofs.TidyLaws.{tidy_put}
 use Rattle.its_word.specs.Refusals.{reason_of}
 use Rattle.its_operator.specs.Kept.{Kept, Lands, Refused, Calm}
 use Rattle.its_operator.proofs.KeptLaws.{refused_by, Made, made_sound, made_plain, made_forest, made_timed, made_alarmed, Lasts, kept_lasts, put_lasts, lasts_address, lasts_console}

@@ -29,8 +29,8 @@ use Rattle.its_world.specs.declared.world.World.{World}
 use Rattle.its_world.proofs.AlarmLaws.{alarm_state, alarm_tidy}
 use Rattle.its_world.proofs.StateLaws.{changed_state}
 use Rattle.its_pclsr.specs.Pages.{pages_unwound}
-use Rattle.its_pclsr.proofs.ApartLaws.{tidy_put}
-use Rattle.its_pclsr.proofs.RemovalLaws.{alarm_shown}
+use Rattle.its_commit.proofs.TidyLaws.{tidy_put}
+use Rattle.its_commit.proofs.RemovalLaws.{alarm_shown}
 use Rattle.its_operator.specs.Rung.{Rousing, RangAt, RangBelow}
 
 -- slot after slot is unwound

@@ -16,7 +16,7 @@ use Rattle.its_stepped.specs.Lines.{calmed, with_raw}
 use Rattle.its_world.specs.World.{console_at, state_of, typed_at, drained_at, ConsoleBecomes}
 use Rattle.its_world.specs.declared.world.World.{World}
 use Rattle.its_world.proofs.StateLaws.{console_state}
-use Rattle.its_pclsr.proofs.ApartLaws.{tidy_alike}
+use Rattle.its_commit.proofs.TidyLaws.{tidy_alike}
 use Rattle.its_operator.specs.Kept.{Kept, Lands}
 use Rattle.its_operator.proofs.KeptLaws.{Made, made_sound, made_plain, made_forest, made_timed, made_alarmed}
 use Rattle.its_operator.proofs.WaitsLaws.{kept_is}

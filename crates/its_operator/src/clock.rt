@@ -152,7 +152,7 @@ fn go_off(w: &mut World, slot: u8, period: u64, next: u64, clock: u64)
 }
 
 /// ALR is set in a slot's job, which is there as it has an alarm.
-#[tactic(auto, using(crate::proofs::RungLaws::alr_set, crate::proofs::RungLaws::alarm_has, crate::proofs::RungLaws::alr_tidy, its_pclsr::proofs::ApartLaws::becomes_pages))]
+#[tactic(auto, using(crate::proofs::RungLaws::alr_set, crate::proofs::RungLaws::alarm_has, crate::proofs::RungLaws::alr_tidy, its_commit::proofs::TidyLaws::becomes_pages))]
 fn set_alr(w: &mut World, slot: u8)
     requires slot { slot < slots }
     requires alarm { is_some (alarm_at w.old.alarms.items slot) ≡ true }

@@ -52,7 +52,7 @@ fn peek_of(w: &World, slot: u8, frame: &View<'_>, left: u8) -> Peek
 }
 
 /// Whether the close that is half made is that of a slot's call.
-#[tactic(auto, using(its_pclsr::proofs::OwedLaws::owner_some, its_pclsr::proofs::OwedLaws::owner_none))]
+#[tactic(auto, using(its_commit::proofs::OwedLaws::owner_some, its_commit::proofs::OwedLaws::owner_none))]
 fn owns_mark(w: &World, slot: u8) -> bool
     ensures { result ≡ mine (state_of w.now).mark slot }
 {

@@ -14,7 +14,7 @@ use Rattle.its_stepped.specs.State.{State, plain}
 use Rattle.its_stepped.specs.Unwind.{unwound, all_unwound}
 use Rattle.its_stepped.proofs.EffectLaws.{superiors_plain}
 use Rattle.its_stepped.proofs.UnwindLaws.{all_unwound_turn, all_unwound_end, all_unwound_plain}
-use Rattle.its_pclsr.proofs.RemovalLaws.{superiors_are}
+use Rattle.its_commit.proofs.RemovalLaws.{superiors_are}
 use Rattle.its_pclsr.specs.Pages.{pages_unwound}
 use Rattle.its_world.specs.World.{state_of, frames_after}
 use Rattle.its_world.specs.declared.world.World.{World}

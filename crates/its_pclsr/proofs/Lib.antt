@@ -1,16 +1,6 @@
-pub mod OwedLaws
 pub mod RowLaws
 pub mod UnwindingLaws
 pub mod EndingLaws
-pub mod ChangeLaws
-pub mod CarryLaws
-pub mod RemovalLaws
 pub mod BelowLaws
-pub mod StandingLaws
-pub mod CommittingLaws
 pub mod ApartLaws
-pub mod CanLaws
-pub mod ReadyLaws
 pub mod PartLaws
-pub mod IdleLaws
-pub mod TriesLaws

@@ -1,11 +1,7 @@
 -- Each step of unwinding is its row.
-use Rattle.std.specs.Prelude.{◌≡◌, ◌≢◌, ◌<◌, ◌≤◌, ℕ, zero, suc, ◌-◌, Bool, true, false, Option, Some, None, IfSome, is_some, List, [], ◌∷◌, length, slice_index_or, slice_get, unwrap_or, Result, Ok, Err, ◌+◌, ◌%◌, ◌^◌, drop, refl}
-use Rattle.std.specs.Borrow.{Bor}
+use Rattle.std.specs.Prelude.{◌≡◌, ◌≢◌, ◌<◌, ◌≤◌, ℕ, zero, suc, ◌-◌, true, false, Option, Some, None, IfSome, is_some, List, [], ◌∷◌, length, slice_index_or, slice_get, unwrap_or, Result, Ok, Err, ◌%◌, ◌^◌, drop, refl}
 use Rattle.std.proofs.Common.{arith, sym, ap, ◌∙◌, subst}
-use Rattle.std.proofs.lemmas.Bool.{eqb-true}
 use Rattle.std.proofs.lemmas.List.{drop_all}
-use Rattle.its_frame.specs.Left.{kept}
-use Rattle.its_frame.specs.declared.frame.Ending.{Ending}
 use Rattle.its_frame.specs.declared.frame.Frame.{Frame}
 use Rattle.its_frame.specs.declared.frame.Frame.TheVariants as frames
 use Rattle.its_word.specs.Byte.{deposit_of}
@@ -14,33 +10,25 @@ use Rattle.its_word.proofs.CoreLaws.{word_at-can_store}
 use Rattle.its_word.specs.declared.access.NoAccess.{NoAccess}
 use Rattle.its_word.specs.declared.calls.Operand.{Operand}
 use Rattle.its_word.specs.declared.calls.Ask.{Ask}
-use Rattle.its_word.specs.declared.calls.Exit.{Exit}
-use Rattle.its_word.specs.declared.calls.Owed.{Owed}
 use Rattle.its_word.specs.declared.calls.Owed.TheVariants as owed
-use Rattle.its_word.specs.declared.calls.Owed.TheVariants.{GiveBack, Unlink, Link, Free, Leave}
 use Rattle.its_word.specs.declared.calls.Site.{Site}
-use Rattle.its_word.specs.declared.jobs.Job.{Job}
 use Rattle.its_word.specs.declared.plan.Store.{Store}
 use Rattle.its_core.specs.Cores.{core_at, clear_at}
 use Rattle.its_jobs.specs.Table.{job_at}
 use Rattle.its_plain.specs.Arguments.{input, value_in, debts, stores_of}
 use Rattle.its_plain.specs.Change.{poke}
 use Rattle.its_plain.specs.CallStep.{deposited, with_held}
-use Rattle.its_plain.specs.Own.{with_stores, left_with, leave}
+use Rattle.its_plain.specs.Own.{with_stores}
 use Rattle.its_word.specs.Stores.{place, stored}
-use Rattle.its_stepped.specs.State.{Part, Mark, State, held_at, mine, turn, same, reserving, asked, holding, ending}
-use Rattle.its_stepped.specs.Unwind.{first_debt, less, paid, due, with_part, settled, given_back}
-use Rattle.its_stepped.specs.Sound.{Owes, Stored, Debts, backs, EndingPays, MovingPays, Sound, file_parts}
-use Rattle.its_calls.specs.Calls.{after_step, ending_in, gone_to, request_in}
-use Rattle.its_calls.specs.Steps.{is_file}
+use Rattle.its_stepped.specs.State.{State, held_at, turn, same, reserving, asked, holding}
+use Rattle.its_stepped.specs.Unwind.{first_debt, paid, given_back}
+use Rattle.its_stepped.specs.Sound.{Stored, MovingPays}
+use Rattle.its_calls.specs.Calls.{gone_to, request_in}
 use Rattle.its_calls.specs.declared.call.Next.{Next}
-use Rattle.its_calls.proofs.StepLaws.{due_all}
-use Rattle.its_world.specs.World.{state_of, frame_at, Becomes, CoreBecomes, FrameBecomes, PageBecomes, JobBecomes}
+use Rattle.its_world.specs.World.{state_of, frame_at, Becomes, CoreBecomes, FrameBecomes, PageBecomes}
 use Rattle.its_world.specs.declared.world.World.{World}
 use Rattle.its_world.proofs.WorldLaws.{then_becomes}
-use Rattle.its_world.proofs.StateLaws.{job_of, turned_state, kept_state, kept_turn, stored_turn, left_turn, retaken}
-use Rattle.its_pclsr.specs.Owed.{Marks, FirstPart, IsNext}
-use Rattle.its_pclsr.specs.Parts.{NextMade, Taken}
+use Rattle.its_world.proofs.StateLaws.{job_of, turned_state, stored_turn}
 
 each : {X : Type 0} {P Q : X → Type 0} (o : Option X) → ((x : X) → P x → Q x) → IfSome o P → IfSome o Q
 each (Some x) f h = f x h

@@ -8,22 +8,22 @@ ghost use Rattle.its_calls.specs.Calls.{ending_in, gone_to, request_in};
 ghost use Rattle.its_plain.specs.Own.{left_with};
 ghost use Rattle.its_word.specs.Core.{can_store};
 ghost use Rattle.its_word.specs.Stores.{place, stored};
-ghost use Rattle.its_stepped.specs.State.{UnlinkOld, LinkNew, FreeOld, asked, held_at, plain, seen};
+ghost use Rattle.its_stepped.specs.State.{UnlinkOld, LinkNew, FreeOld, asked, held_at, holding, plain, seen};
 ghost use Rattle.its_stepped.specs.Unwind.{left, unwind_one as unwind_one_of, unwound};
 ghost use Rattle.its_stepped.specs.OneChange.{OneChange};
 ghost use Rattle.its_stepped.specs.SlotSame.{SlotSame};
 ghost use Rattle.its_stepped.specs.Sound.{MovingPays, Sound};
-ghost use Rattle.its_world.specs.World.{state_of, frame_at, frames_after, Becomes, JobBecomes};
+ghost use Rattle.its_world.specs.World.{state_of, frame_at, frames_after, Becomes, CoreBecomes, JobBecomes};
 ghost use Rattle.its_pclsr.specs.Apart.{CoresOff};
 ghost use Rattle.its_pclsr.specs.Owed.{IsNext};
 ghost use Rattle.its_pclsr.specs.Parts.{NextMade, Taken};
 ghost use Rattle.its_world.specs.Tidy.{Tidy};
 
-use super::owed::{first_owed, make, owns_mark};
 use its_bytes::deposit;
 use its_calls::{Next, View};
+use its_commit::{first_owed, owns_mark};
 use its_core::Core;
-use its_word::{Ask, Exit, Job, Owed, Store, Word};
+use its_word::{ADDRESSES, Ask, Exit, Job, Owed, Store, Word};
 use its_world::World;
 
 /// One step of unwinding of a slot's job, which is inside a call: at most one word of core, one page's
@@ -74,11 +74,7 @@ fn step(w: &mut World, slot: u8)
                 w.leave_call(slot);
             } else {
                 let store = first_owed(ask, owes);
-                let next = Next::Holding {
-                    page: None,
-                    owes: owes - 1,
-                };
-                pay(w, slot, store, next);
+                pay_held(w, slot, store, owes - 1);
             }
         }
         View::Waiting { ask, owes, .. } => {
@@ -96,11 +92,7 @@ fn step(w: &mut World, slot: u8)
             ..
         } => {
             let store = held_store(&w.core, slot, ask, place, byte);
-            let next = Next::Holding {
-                page: None,
-                owes: 2,
-            };
-            pay(w, slot, store, next);
+            pay_held(w, slot, store, 2);
         }
         View::Ending { .. } => unwind_ending(w, slot),
     }
@@ -135,6 +127,30 @@ fn pay(w: &mut World, slot: u8, store: Store, next: Next)
 {
     make(w, slot, store);
     w.go_to(slot, next);
+}
+
+/// A store is performed for a call, which then holds no page, and of which this many arguments are pending.
+fn pay_held(w: &mut World, slot: u8, store: Store, owes: u8)
+    requires slot { slot < slots }
+    requires job { is_some (job_at w.old.jobs slot) ≡ true }
+    requires request { is_some (request_in (frame_at w.old.frames.items slot)) ≡ true }
+    requires can { can_store (core_at w.old.core slot) (place store) ≡ true }
+    requires tidy { Tidy w.old }
+    ensures row { IfSome (request_in (frame_at w.old.frames.items slot)) (λ r. Becomes w.old w.new slot (stored (core_at w.old.core slot) (store ∷ [])) (job_at w.old.jobs slot) (Some (holding r.site r.ask None owes)) (clear_at w.old.core slot)) }
+    ensures cores { CoresOff w.old w.new slot }
+    ensures tidy { Tidy w.new }
+{
+    pay(w, slot, store, Next::Holding { page: None, owes });
+}
+
+/// Makes a store that can be made. Its address is taken modulo 1000000 (octal).
+#[tactic(auto, using(its_commit::proofs::OwedLaws::one_stored))]
+fn make(w: &mut World, slot: u8, store: Store)
+    requires slot { slot < slots }
+    requires can { can_store (core_at w.old.core slot) (place store) ≡ true }
+    ensures { CoreBecomes w.old w.new slot (stored (core_at w.old.core slot) (store ∷ [])) }
+{
+    w.store(slot, store.at % ADDRESSES, store.word);
 }
 
 /// A held byte in its word, as a store.

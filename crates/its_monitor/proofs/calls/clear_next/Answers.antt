@@ -1,5 +1,5 @@
 use Rattle.std.proofs.lemmas.Bool.{lt-ltb}
-use Rattle.its_pclsr.proofs.ApartLaws.{tidy_backed}
+use Rattle.its_commit.proofs.TidyLaws.{tidy_backed}
 use Rattle.its_monitor.proofs.CallLaws.{clearing, clear_page, cleared_goes, cleared_held, cleared_row}
 use Rattle.its_monitor.proofs.FramesLaws.{quarter_frames, quarter_pages}
 use Rattle.its_monitor.proofs.calls.clear_next.Goals as goal

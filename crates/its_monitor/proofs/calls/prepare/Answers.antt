@@ -1,4 +1,4 @@
-use Rattle.its_pclsr.proofs.ApartLaws.{tidy_backed, tidy_kept}
+use Rattle.its_commit.proofs.TidyLaws.{tidy_backed, tidy_kept}
 use Rattle.its_monitor.proofs.FramesLaws.{asked_pages, page_prepared_frames, none_prepared_frames}
 use Rattle.its_monitor.proofs.CallLaws.{asking, asked_unreserved, bare_held, bare_row, paged_goes, paged_held, paged_row}
 use Rattle.its_monitor.proofs.calls.prepare.Goals as goal

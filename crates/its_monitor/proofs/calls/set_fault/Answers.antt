@@ -1,5 +1,5 @@
 use Rattle.std.proofs.Common.{◌∙◌, refl, sym}
-use Rattle.its_pclsr.proofs.ApartLaws.{tidy_put}
+use Rattle.its_commit.proofs.TidyLaws.{tidy_put}
 use Rattle.its_monitor.proofs.calls.set_fault.Goals as goal
 
 pub returns-in-Some-clause-tidy : goal.returns-in-Some-clause-tidy

@@ -7,7 +7,7 @@ use Rattle.its_world.specs.declared.world.World.{World}
 use Rattle.its_monitor.specs.Ticks.{with_channels}
 use Rattle.its_monitor.proofs.UserLaws.{delivery_done, some_is, stop_done, stop_sound, stop_stands}
 use Rattle.its_monitor.proofs.users.deliver_to.Goals.{then-run_delivery, else-run_delivery}
-use Rattle.its_pclsr.proofs.ApartLaws.{becomes_pages}
+use Rattle.its_commit.proofs.TidyLaws.{becomes_pages}
 use Rattle.its_monitor.proofs.FramesLaws.{stop_frames, quiet_frames}
 use Rattle.its_monitor.proofs.users.deliver_to.Goals as goal
 

@@ -1,4 +1,4 @@
-use Rattle.its_pclsr.proofs.ApartLaws.{tidy_kept}
+use Rattle.its_commit.proofs.TidyLaws.{tidy_kept}
 use Rattle.its_monitor.proofs.UserLaws.{call_row}
 use Rattle.its_monitor.proofs.users.enter.Goals as goal
 

@@ -1,6 +1,6 @@
 use Rattle.std.proofs.Common.{◌∙◌, ap, sym}
 use Rattle.its_word.specs.declared.jobs.Job.{Job}
-use Rattle.its_pclsr.proofs.ApartLaws.{tidy_put}
+use Rattle.its_commit.proofs.TidyLaws.{tidy_put}
 use Rattle.its_monitor.proofs.users.put_back.Goals as goal
 
 pub returns-in-Some-clause-tidy : goal.returns-in-Some-clause-tidy

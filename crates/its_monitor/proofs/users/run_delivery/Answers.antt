@@ -1,6 +1,6 @@
 use Rattle.std.proofs.Common.{refl}
 use Rattle.its_world.proofs.WorldLaws.{core_becomes}
-use Rattle.its_pclsr.proofs.ApartLaws.{tidy_core}
+use Rattle.its_commit.proofs.TidyLaws.{tidy_core}
 use Rattle.its_monitor.proofs.users.run_delivery.Goals as goal
 
 pub returns-clause-core : goal.returns-clause-core

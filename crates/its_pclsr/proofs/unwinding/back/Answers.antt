@@ -1,6 +1,7 @@
-use Rattle.its_pclsr.proofs.ApartLaws.{off_back, tidy_kept}
+use Rattle.its_commit.proofs.TidyLaws.{tidy_kept}
+use Rattle.its_pclsr.proofs.ApartLaws.{off_back}
 use Rattle.its_pclsr.proofs.RowLaws.{backed_row, still}
-use Rattle.its_pclsr.proofs.StandingLaws.{of_some}
+use Rattle.its_commit.proofs.StandingLaws.{of_some}
 use Rattle.its_pclsr.proofs.unwinding.back.Goals as goal
 
 pub go_to-requires-clause-request : goal.go_to-requires-clause-request

@@ -1,6 +1,6 @@
 use Rattle.std.proofs.Common.{sym, ◌∙◌}
 use Rattle.its_word.specs.Byte.{deposit_of}
-use Rattle.its_pclsr.proofs.OwedLaws.{enough}
+use Rattle.its_commit.proofs.OwedLaws.{enough}
 use Rattle.its_pclsr.proofs.RowLaws.{held_there, held_stored}
 use Rattle.its_pclsr.proofs.unwinding.held_store.Goals as goal
 

@@ -1,5 +1,5 @@
 use Rattle.std.proofs.Common.{sym, ◌∙◌}
-use Rattle.its_pclsr.proofs.ApartLaws.{tidy_left}
+use Rattle.its_commit.proofs.TidyLaws.{tidy_left}
 use Rattle.its_pclsr.proofs.unwinding.leave.Goals as goal
 
 pub returns-in-Some-clause-tidy : goal.returns-in-Some-clause-tidy

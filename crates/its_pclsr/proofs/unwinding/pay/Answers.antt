@@ -1,6 +1,7 @@
-use Rattle.its_pclsr.proofs.ApartLaws.{off_one, tidy_core}
+use Rattle.its_commit.proofs.TidyLaws.{tidy_core}
+use Rattle.its_pclsr.proofs.ApartLaws.{off_one}
 use Rattle.its_pclsr.proofs.RowLaws.{paid_row, still}
-use Rattle.its_pclsr.proofs.StandingLaws.{of_some}
+use Rattle.its_commit.proofs.StandingLaws.{of_some}
 use Rattle.its_pclsr.proofs.unwinding.pay.Goals as goal
 
 pub go_to-requires-clause-request : goal.go_to-requires-clause-request

@@ -1,5 +1,5 @@
 use Rattle.std.proofs.Common.{refl, sym, ◌∙◌}
-use Rattle.its_pclsr.proofs.ApartLaws.{tidy_kept}
+use Rattle.its_commit.proofs.TidyLaws.{tidy_kept}
 use Rattle.its_pclsr.proofs.RowLaws.{first_can, moving_can}
 use Rattle.its_pclsr.proofs.UnwindingLaws.{job_there, holding_pays, waiting_pays, moving_pays, entered_row, parsed_row, asked_row, holding_backed, holding_dropped, holding_paid, waiting_dropped, waiting_paid, moving_row, page_kept}
 use Rattle.its_pclsr.proofs.unwinding.step.Goals as goal
@@ -40,15 +40,15 @@ returns-then-owes-eq0-clause-tidy c = tidy_kept _ _ _ _ _ c.leave_call-then-owes
 pub first_owed-store-requires-clause-read : goal.first_owed-store-requires-clause-read
 first_owed-store-requires-clause-read c = (holding_pays _ _ _ c.frame.ensures c.requires.sound _ _ _ _ c.in-Holding.is).debts.read
 
-pub pay-requires-clause-job : goal.pay-requires-clause-job
-pay-requires-clause-job c = job_there _ _ _ c.frame.ensures c.requires.sound _ _ c.in-Holding.is refl
+pub pay_held-requires-clause-job : goal.pay_held-requires-clause-job
+pay_held-requires-clause-job c = job_there _ _ _ c.frame.ensures c.requires.sound _ _ c.in-Holding.is refl
 
-pub pay-requires-clause-can : goal.pay-requires-clause-can
-pay-requires-clause-can c = first_can _ _ _ (holding_pays _ _ _ c.frame.ensures c.requires.sound _ _ _ _ c.in-Holding.is).debts.stored c.first_owed-store.ensures
+pub pay_held-requires-clause-can : goal.pay_held-requires-clause-can
+pay_held-requires-clause-can c = first_can _ _ _ (holding_pays _ _ _ c.frame.ensures c.requires.sound _ _ _ _ c.in-Holding.is).debts.stored c.first_owed-store.ensures
 
 pub returns-else-owes-eq0-clause-row : goal.returns-else-owes-eq0-clause-row
 returns-else-owes-eq0-clause-row c =
-    holding_paid _ _ _ c.frame.ensures c.requires.sound _ _ _ _ c.in-Holding.is _ _ (sym c.is_some.ensures ∙ c.if-is_some.false) c.if-owes-eq0.false c.first_owed-store.ensures c.pay.ensures.row
+    holding_paid _ _ _ c.frame.ensures c.requires.sound _ _ _ _ c.in-Holding.is _ _ (sym c.is_some.ensures ∙ c.if-is_some.false) c.if-owes-eq0.false c.first_owed-store.ensures c.pay_held.ensures.row
 
 pub returns-then-owes-eq0-2-clause-row : goal.returns-then-owes-eq0-2-clause-row
 returns-then-owes-eq0-2-clause-row c = waiting_dropped _ _ _ c.frame.ensures c.requires.sound _ _ _ c.in-Waiting.is _ c.if-owes-eq0-2.true c.leave_call-then-owes-eq0-2.ensures
@@ -59,26 +59,26 @@ returns-then-owes-eq0-2-clause-tidy c = tidy_kept _ _ _ _ _ c.leave_call-then-ow
 pub first_owed-store-requires-else-owes-eq0-2-clause-read : goal.first_owed-store-requires-else-owes-eq0-2-clause-read
 first_owed-store-requires-else-owes-eq0-2-clause-read c = (waiting_pays _ _ _ c.frame.ensures c.requires.sound _ _ _ c.in-Waiting.is).debts.read
 
-pub pay-requires-else-owes-eq0-2-clause-job : goal.pay-requires-else-owes-eq0-2-clause-job
-pay-requires-else-owes-eq0-2-clause-job c = job_there _ _ _ c.frame.ensures c.requires.sound _ _ c.in-Waiting.is refl
+pub pay-requires-clause-job : goal.pay-requires-clause-job
+pay-requires-clause-job c = job_there _ _ _ c.frame.ensures c.requires.sound _ _ c.in-Waiting.is refl
 
-pub pay-requires-else-owes-eq0-2-clause-can : goal.pay-requires-else-owes-eq0-2-clause-can
-pay-requires-else-owes-eq0-2-clause-can c =
+pub pay-requires-clause-can : goal.pay-requires-clause-can
+pay-requires-clause-can c =
     first_can _ _ _ (waiting_pays _ _ _ c.frame.ensures c.requires.sound _ _ _ c.in-Waiting.is).debts.stored c.first_owed-store-else-owes-eq0-2.ensures
 
 pub returns-else-owes-eq0-2-clause-row : goal.returns-else-owes-eq0-2-clause-row
 returns-else-owes-eq0-2-clause-row c =
-    waiting_paid _ _ _ c.frame.ensures c.requires.sound _ _ _ c.in-Waiting.is _ _ c.if-owes-eq0-2.false c.first_owed-store-else-owes-eq0-2.ensures c.pay-else-owes-eq0-2.ensures.row
+    waiting_paid _ _ _ c.frame.ensures c.requires.sound _ _ _ c.in-Waiting.is _ _ c.if-owes-eq0-2.false c.first_owed-store-else-owes-eq0-2.ensures c.pay.ensures.row
 
 pub held_store-store-requires-clause-pays : goal.held_store-store-requires-clause-pays
 held_store-store-requires-clause-pays c = moving_pays _ _ _ c.frame.ensures c.requires.sound _ _ _ _ c.in-Moving.is
 
-pub pay-requires-in-Moving-clause-job : goal.pay-requires-in-Moving-clause-job
-pay-requires-in-Moving-clause-job c = job_there _ _ _ c.frame.ensures c.requires.sound _ _ c.in-Moving.is refl
+pub pay_held-requires-in-Moving-clause-job : goal.pay_held-requires-in-Moving-clause-job
+pay_held-requires-in-Moving-clause-job c = job_there _ _ _ c.frame.ensures c.requires.sound _ _ c.in-Moving.is refl
 
-pub pay-requires-in-Moving-clause-can : goal.pay-requires-in-Moving-clause-can
-pay-requires-in-Moving-clause-can c =
+pub pay_held-requires-in-Moving-clause-can : goal.pay_held-requires-in-Moving-clause-can
+pay_held-requires-in-Moving-clause-can c =
     moving_can _ _ _ _ _ _ (moving_pays _ _ _ c.frame.ensures c.requires.sound _ _ _ _ c.in-Moving.is) c.held_store-store.ensures
 
 pub returns-in-Moving-clause-row : goal.returns-in-Moving-clause-row
-returns-in-Moving-clause-row c = moving_row _ _ _ c.frame.ensures c.requires.sound _ _ _ _ _ _ c.in-Moving.is c.held_store-store.ensures c.pay-in-Moving.ensures.row
+returns-in-Moving-clause-row c = moving_row _ _ _ c.frame.ensures c.requires.sound _ _ _ _ _ _ c.in-Moving.is c.held_store-store.ensures c.pay_held-in-Moving.ensures.row

@@ -1,4 +1,4 @@
-use Rattle.its_pclsr.proofs.ApartLaws.{tidy_kept}
+use Rattle.its_commit.proofs.TidyLaws.{tidy_kept}
 use Rattle.its_pclsr.proofs.EndingLaws.{steps_some, step_taken}
 use Rattle.its_pclsr.proofs.unwinding.take_step.Goals as goal
 

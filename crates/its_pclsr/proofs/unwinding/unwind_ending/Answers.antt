@@ -1,7 +1,8 @@
 use Rattle.std.proofs.Common.{ap, is_some, refl, ◌∙◌}
 use Rattle.its_word.specs.declared.calls.Owed.TheVariants.{Unlink, Link, Free}
 use Rattle.its_stepped.specs.State.{UnlinkOld, LinkNew, FreeOld}
-use Rattle.its_pclsr.proofs.ApartLaws.{off_alike, off_back, off_one, off_then, tidy_core, tidy_kept}
+use Rattle.its_commit.proofs.TidyLaws.{tidy_core, tidy_kept}
+use Rattle.its_pclsr.proofs.ApartLaws.{off_alike, off_back, off_one, off_then}
 use Rattle.its_pclsr.proofs.EndingLaws.{taken_job, store_can, page_there, store_row, back_row, part_row, part_next, leave_row}
 use Rattle.its_pclsr.proofs.unwinding.unwind_ending.Goals as goal
 

@@ -1,0 +1,11 @@
+pub mod OwedLaws
+pub mod ChangeLaws
+pub mod CarryLaws
+pub mod RemovalLaws
+pub mod StandingLaws
+pub mod CommittingLaws
+pub mod TidyLaws
+pub mod CanLaws
+pub mod ReadyLaws
+pub mod IdleLaws
+pub mod TriesLaws

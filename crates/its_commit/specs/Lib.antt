@@ -1,0 +1,4 @@
+pub mod Built
+pub mod Removal
+pub mod Carried
+pub mod Pages

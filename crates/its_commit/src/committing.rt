@@ -1,0 +1,155 @@
+//! The decision of a call carried out.
+ghost use Rattle.std.specs.Prelude.{◌≡◌, ◌<◌, ◌≤◌, ◌++◌, ◌∷◌, [], true, Some, is_some, IfSome, length, map};
+ghost use Rattle.its_word.specs.declared.calls.Owed.TheVariants.{Leave};
+ghost use Rattle.its_word.specs.Limits.{slots};
+ghost use Rattle.its_jobs.specs.Table.{job_at};
+ghost use Rattle.its_plain.specs.Arguments.{debts, revalued};
+ghost use Rattle.its_plain.specs.Decide.{call_named};
+ghost use Rattle.its_stepped.specs.Commit.{committed, gone_on, owed_parts, owed_store, sleeps};
+ghost use Rattle.its_stepped.specs.State.{ending, waiting};
+ghost use Rattle.its_world.specs.Tidy.{Tidy};
+ghost use Rattle.its_commit.specs.Built.{backed};
+ghost use Rattle.its_commit.specs.Pages.{pages_carried};
+ghost use Rattle.its_commit.specs.Carried.{standing_of, next_of, Ready, Endable};
+ghost use Rattle.its_world.specs.World.{state_of, frame_at, FrameBecomes};
+
+use super::carrying::owed_steps;
+use super::changes::apply;
+use super::owed::owns_mark;
+use super::removal::remove_tree;
+use arrayvec::ArrayVec;
+use its_calls::{Next, View};
+use its_frame::{CallName, Decision, Held};
+use its_word::{Ask, Exit, Owed, Store, Word};
+use its_world::World;
+
+/// Carries out the decision of the call of a slot's job, which is in its frame: the changes at once, and the rest as
+/// the frame that it leaves.
+pub fn carry_out(w: &mut World, slot: u8, decision: Decision)
+    requires slot { slot < slots }
+    requires job { is_some (job_at w.old.jobs slot) ≡ true }
+    requires stands { is_some (standing_of (frame_at w.old.frames.items slot)) ≡ true }
+    requires ready { IfSome (standing_of (frame_at w.old.frames.items slot)) (λ f. Ready (state_of w.old) slot f decision) }
+    requires tidy { Tidy w.old }
+    ensures row { IfSome (standing_of (frame_at w.old.frames.items slot)) (λ f. state_of w.new ≡ committed (state_of w.old) slot f.site f.ask f.owes decision) }
+    ensures pages { w.new.core.frames ≡ pages_carried decision slot (state_of w.old) w.old.core.frames }
+    ensures tidy { Tidy w.new }
+{
+    match decision {
+        Decision::Waits(_) => wait(w, slot),
+        Decision::Goes {
+            changes,
+            held,
+            values,
+        } => {
+            apply(w, slot, &changes);
+            go_on(w, slot, held, &values);
+        }
+        Decision::Ends {
+            changes,
+            stores,
+            exit,
+        } => {
+            apply(w, slot, &changes);
+            end(w, slot, &stores, exit);
+        }
+        Decision::Gone { changes } => {
+            remove_tree(w, slot);
+            apply(w, slot, &changes);
+        }
+    }
+}
+
+/// The call of a slot that can be committed: what it asks for, and how many of its last arguments are pending.
+#[tactic(auto, using(crate::proofs::StandingLaws::stands_holding, crate::proofs::StandingLaws::stands_waiting))]
+pub fn standing(w: &World, slot: u8) -> (&Ask, u8)
+    requires slot { slot < slots }
+    requires stands { is_some (standing_of (frame_at w.now.frames.items slot)) ≡ true }
+    ensures { IfSome (standing_of (frame_at w.now.frames.items slot)) (λ f. (result.0.now ≡ f.ask) × (result.1 ≡ f.owes)) }
+{
+    match w.frame(slot) {
+        View::Holding { ask, owes, .. } => (ask, owes),
+        View::Waiting { ask, owes, .. } => (ask, owes),
+        _ => unreachable!(),
+    }
+}
+
+/// The call waits.
+#[tactic(auto, using(crate::proofs::TidyLaws::becomes_pages))]
+fn wait(w: &mut World, slot: u8)
+    requires slot { slot < slots }
+    requires stands { is_some (standing_of (frame_at w.old.frames.items slot)) ≡ true }
+    requires tidy { Tidy w.old }
+    ensures row { IfSome (standing_of (frame_at w.old.frames.items slot)) (λ f. FrameBecomes w.old w.new slot (Some (waiting f.site f.ask f.owes))) }
+    ensures pages { w.new.core.frames ≡ w.old.core.frames }
+    ensures tidy { Tidy w.new }
+{
+    let (_, owes) = standing(w, slot);
+    w.go_to(slot, Next::Waiting { owes });
+}
+
+/// A part of the call is done: its last arguments have new values, whose stores are pending.
+#[tactic(auto, using(crate::proofs::TidyLaws::becomes_pages))]
+fn go_on(w: &mut World, slot: u8, held: Option<Held>, values: &[Word])
+    requires slot { slot < slots }
+    requires stands { is_some (standing_of (frame_at w.old.frames.items slot)) ≡ true }
+    requires few { length values.now ≤ 2 }
+    requires tidy { Tidy w.old }
+    ensures row { IfSome (standing_of (frame_at w.old.frames.items slot)) (λ f. FrameBecomes w.old w.new slot (Some (gone_on f.site (revalued f.ask values.now) (length values.now) held))) }
+    ensures pages { w.new.core.frames ≡ w.old.core.frames }
+    ensures tidy { Tidy w.new }
+{
+    let (ask, _) = standing(w, slot);
+    let next = next_of(ask, values.len() as u8, held);
+    w.go_on(slot, values, next);
+}
+
+/// The next stage of a call of which a part is done.
+fn next_of(ask: &Ask, owes: u8, held: Option<Held>) -> Next
+    ensures { result ≡ next_of ask.now owes held }
+{
+    if let Some(held) = held {
+        return Next::Moving(held);
+    }
+    if is_sleep(ask) {
+        return Next::Waiting { owes };
+    }
+    Next::Holding { page: None, owes }
+}
+
+/// Whether a call is SLEEP, whose part that is done leaves it waiting.
+fn is_sleep(ask: &Ask) -> bool
+    ensures { result ≡ sleeps (call_named ask.now.name) }
+{
+    matches!(CallName::named(ask.name), Some(CallName::Sleep))
+}
+
+/// The call ends: the parts of its close, its reserved page, its arguments, its stores and its registers are pending.
+#[tactic(auto, using(crate::proofs::CommittingLaws::page_reserved, crate::proofs::TidyLaws::becomes_pages))]
+fn end(w: &mut World, slot: u8, stores: &[Store], exit: Exit)
+    requires slot { slot < slots }
+    requires stands { is_some (standing_of (frame_at w.old.frames.items slot)) ≡ true }
+    requires room { IfSome (standing_of (frame_at w.old.frames.items slot)) (λ f. Endable (state_of w.old) slot f (length stores.now)) }
+    requires tidy { Tidy w.old }
+    ensures row { IfSome (standing_of (frame_at w.old.frames.items slot)) (λ f. FrameBecomes w.old w.new slot (Some (ending f.site f.ask (owed_parts (state_of w.old).mark slot ++ (backed (is_some ((state_of w.old).reserved slot)) ++ (map owed_store (debts f.ask f.owes ++ stores.now) ++ Leave exit ∷ [])))))) }
+    ensures pages { w.new.core.frames ≡ w.old.core.frames }
+    ensures tidy { Tidy w.new }
+{
+    let parts = owed_parts(w, slot);
+    let reserved = w.core.has_reserved(slot);
+    let (ask, owes) = standing(w, slot);
+    let owed = owed_steps(&parts, reserved, ask, owes, stores, exit);
+    w.end(slot, owed);
+}
+
+/// The pending parts of the close of a slot's call.
+#[tactic(auto, using(crate::proofs::CommittingLaws::parts_mine, crate::proofs::CommittingLaws::parts_none))]
+fn owed_parts(w: &World, slot: u8) -> ArrayVec<Owed, 3>
+    ensures { result.items ≡ owed_parts (state_of w.now).mark slot }
+{
+    if owns_mark(w, slot) {
+        w.files.owed()
+    } else {
+        ArrayVec::new()
+    }
+}

@@ -1,9 +1,0 @@
-use Rattle.std.proofs.Common.{refl}
-use Rattle.its_world.proofs.MappedLaws.{mapped_becomes}
-use Rattle.its_pclsr.proofs.ChangeLaws.{page_tidy}
-use Rattle.its_pclsr.proofs.changes.map.Goals as goal
-
-pub returns-clause-tidy : goal.returns-clause-tidy
-returns-clause-tidy c =
-    page_tidy c.args.w.now _ c.args.slot c.args.target c.args.page c.requires.can
-    (mapped_becomes _ _ _ _ _ _ c.in-Ok.ensures.mapped c.in-Ok.ensures.quarters c.in-Ok.ensures.frames refl refl refl refl refl refl refl refl refl refl refl) c.requires.tidy

@@ -1,5 +1,0 @@
-use Rattle.its_pclsr.proofs.IdleLaws.{elsewhere_made}
-use Rattle.its_pclsr.proofs.removal.tests.add.Goals as goal
-
-pub open_on-requires-clause-jobs : goal.open_on-requires-clause-jobs
-open_on-requires-clause-jobs g c = elsewhere_made _ _ _ _ _ _ c.in-Ok.ensures.job c.requires

@@ -1,0 +1,35 @@
+//! The jobs below one, unwound.
+ghost use Rattle.std.specs.Prelude.{◌≡◌, ◌<◌};
+ghost use Rattle.its_word.specs.Limits.{slots};
+ghost use Rattle.its_word.specs.Tree.{slots_below};
+ghost use Rattle.its_plain.specs.Change.{superiors};
+ghost use Rattle.its_stepped.specs.Sound.{Sound};
+ghost use Rattle.its_stepped.specs.State.{plain};
+ghost use Rattle.its_stepped.specs.Unwind.{all_unwound};
+ghost use Rattle.its_world.specs.Tidy.{Tidy};
+ghost use Rattle.its_world.specs.World.{state_of};
+ghost use Rattle.its_pclsr.specs.Pages.{pages_unwound};
+
+#[cfg(test)]
+mod tests;
+
+use super::unwinding::unwind;
+use its_world::World;
+
+/// Unwinds every job below that of a slot, by slot number.
+pub fn unwind_below(w: &mut World, slot: u8)
+    requires slot { slot < slots }
+    requires sound { Sound (state_of w.old) }
+    requires tidy { Tidy w.old }
+    ensures unwinds { state_of w.new ≡ all_unwound (slots_below (superiors (state_of w.old).raw) slot) (state_of w.old) }
+    ensures same { plain (state_of w.new) ≡ plain (state_of w.old) }
+    ensures sound { Sound (state_of w.new) }
+    ensures pages { w.new.core.frames ≡ pages_unwound (slots_below (superiors (state_of w.old).raw) slot) (state_of w.old) w.old.core.frames }
+    ensures tidy { Tidy w.new }
+{
+    let mut k = 0;
+    while let Some(inferior) = w.jobs.below(slot, k) {
+        unwind(w, inferior);
+        k += 1;
+    }
+}

@@ -1,0 +1,82 @@
+ghost use Rattle.std.specs.Prelude.{◌≡◌, ◌<◌, true, slice_set, IfOk};
+ghost use Rattle.its_word.specs.declared.jobs.Channel.TheVariants.{Usr};
+ghost use Rattle.its_word.specs.Limits.{slots};
+ghost use Rattle.its_commit.specs.Removal.{Elsewhere};
+
+use super::unwind_below;
+use its_jobs::{Job, Jobs};
+use its_word::{Channel, SLOTS, Word};
+use its_world::World;
+use std::alloc::Global;
+use std::process::Abort;
+use std::test::Fail;
+
+/// The channel that each job of a test has open.
+fn on() -> Channel
+    ensures { result ≡ Usr 1 true 16 }
+{
+    Channel::Usr {
+        slot: 1,
+        write: true,
+        at: 0o20,
+    }
+}
+
+/// Jobs in slots 0 to 3 with these superiors; the first channel of each is open.
+fn jobs(rt: &impl Abort, alloc: Global, superiors: [Option<u8>; 4]) -> Result<Jobs, Fail>
+    ensures jobs { IfOk result Elsewhere }
+{
+    let mut jobs = Jobs::open(alloc)?;
+    for superior in superiors {
+        add(rt, &mut jobs, superior);
+    }
+    Ok(jobs)
+}
+
+/// A job more, whose first channel is open.
+fn add(rt: &impl Abort, jobs: &mut Jobs, superior: Option<u8>)
+    requires { Elsewhere jobs.old }
+    ensures jobs { Elsewhere jobs.new }
+{
+    if let Some(s) = superior {
+        assert!(rt; usize::from(s) < SLOTS);
+        assert!(rt; jobs.job(s).is_some());
+    }
+    let made = jobs.create(Word::new(7), Word::new(0o107), superior, None);
+    if let Ok(k) = made {
+        open(jobs, k);
+    }
+}
+
+/// Opens the first channel of a job.
+fn open(jobs: &mut Jobs, k: u8)
+    requires slot { k < slots }
+    requires jobs { Elsewhere jobs.old }
+    ensures jobs { Elsewhere jobs.new }
+{
+    if let Some(job) = jobs.job_mut(k) {
+        *job = opened(*job);
+    }
+}
+
+/// Registers whose first channel is open.
+fn opened(job: Job) -> Job
+    ensures { result ≡ record job { channels = slice_set job.channels 0 (Usr 1 true 16) } }
+{
+    let mut changed = job;
+    changed.channels[0] = on();
+    changed
+}
+
+/// Jobs that are in no call stay as they are.
+#[test]
+#[tactic(auto, using(its_commit::proofs::IdleLaws::idle_sound, its_commit::proofs::IdleLaws::idle_frames, its_commit::proofs::IdleLaws::idle_page, its_commit::proofs::IdleLaws::idle_tidy, its_word::proofs::FreeLaws::limit_first))]
+fn nothing_to_unwind(rt: HostRuntime) -> Result<(), Fail> {
+    let mut w = World::open(rt.alloc())?;
+    w.jobs = jobs(&rt, rt.alloc(), [None, Some(0), Some(1), None])?;
+    unwind_below(&mut w, 0);
+    for slot in 0..4u8 {
+        assert_eq!(rt; w.jobs.job(slot).map(|j| j.channels[0]), Some(on()));
+    }
+    Ok(())
+}
