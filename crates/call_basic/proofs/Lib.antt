@@ -1,3 +1,4 @@
 pub mod ReachLaws
 pub mod RawLaws
 pub mod ChannelLaws
+pub mod StopLaws

@@ -1,8 +1,9 @@
 //! What `.IOT` and SIOT have in common, whatever their channel is on: SIOT's tests, and the ways in which they move a byte or a word.
-ghost use Rattle.std.specs.Prelude.{◌≡◌, ◌==◌, ◌<◌, ◌∷◌, ◌-◌, []};
+ghost use Rattle.std.specs.Prelude.{◌≡◌, ◌==◌, ◌<◌, ◌∷◌, ◌-◌, [], true, false, None, Some, is_some};
 ghost use Rattle.std.specs.Option.{option_to_list};
 ghost use Rattle.its_word.specs.Byte.{size};
 ghost use Rattle.its_word.specs.Limits.{slots};
+ghost use Rattle.its_word.specs.declared.jobs.Job.{Job};
 ghost use Rattle.its_core.specs.Cores.{core_at};
 ghost use Rattle.its_frame.specs.declared.decision.Decision.TheVariants.{Ends, Goes};
 ghost use Rattle.its_plain.specs.Arguments.{input};
@@ -64,7 +65,8 @@ pub fn bar_of_store(w: &World, slot: u8, at: u32) -> Option<Fault>
 
 /// The first of SIOT's tests that holds: errors 17, WRO, 21, 22, the end with count 0 or if `ended` says that the channel is at its end
 /// (of a file or of an inferior's core), and error 20. `words` says that its device moves only whole words.
-#[tactic(auto, unfolding(its_plain::specs::View::view, its_world::specs::World::state_of))]
+#[inline(always)]
+#[tactic(auto, using(crate::proofs::StopLaws::stopped_so, crate::proofs::StopLaws::stopped_not))]
 pub fn stopped(
     w: &World,
     slot: u8,
@@ -73,6 +75,62 @@ pub fn stopped(
     words: bool,
     ended: bool,
 ) -> Option<Decision>
+    requires { slot < slots }
+    ensures { result ≡ first_of (siot_tests (seen_by w.now slot job.now ask.now) ask.now (input ask.now 1) (input ask.now 2) words ended) }
+{
+    if is_stopped(w, slot, ask, words, ended) {
+        Some(stops(w, slot, job, ask, words, ended))
+    } else {
+        None
+    }
+}
+
+/// Whether one of SIOT's tests holds. If none does, it goes on, and no decision is made for it.
+#[tactic(auto, unfolding(its_plain::specs::View::view, its_world::specs::World::state_of))]
+fn is_stopped(w: &World, slot: u8, ask: &Ask, words: bool, ended: bool) -> bool
+    requires { slot < slots }
+    ensures stops { (j : Job) → result ≡ true → is_some (first_of (siot_tests (seen_by w.now slot j ask.now) ask.now (input ask.now 1) (input ask.now 2) words ended)) ≡ true }
+    ensures goes { (j : Job) → result ≡ false → first_of (siot_tests (seen_by w.now slot j ask.now) ask.now (input ask.now 1) (input ask.now 2) words ended) ≡ None }
+{
+    let (pointer, count) = (input(ask, 1), input(ask, 2));
+    let (p, k) = (place_of_input(ask, 1), place_of_input(ask, 2));
+    if is_shared_place(ask, p) || is_shared_place(ask, k) {
+        return true;
+    }
+    if is_read_only(w, slot, p) || is_read_only(w, slot, k) {
+        return true;
+    }
+    if !has_size(pointer) || is_indexed(pointer) {
+        return true;
+    }
+    if words && !is_word_sized(pointer) {
+        return true;
+    }
+    if is_negative(count.value()) {
+        return true;
+    }
+    if count == Word::ZERO || ended {
+        return true;
+    }
+    in_footprint(next_pointer(pointer).right(), ask)
+}
+
+/// What SIOT decides if one of its tests holds.
+#[inline(never)]
+fn stops(w: &World, slot: u8, job: &Job, ask: &Ask, words: bool, ended: bool) -> Decision
+    requires slot { slot < slots }
+    requires some { is_some (first_of (siot_tests (seen_by w.now slot job.now ask.now) ask.now (input ask.now 1) (input ask.now 2) words ended)) ≡ true }
+    ensures { first_of (siot_tests (seen_by w.now slot job.now ask.now) ask.now (input ask.now 1) (input ask.now 2) words ended) ≡ Some result }
+{
+    match found(w, slot, job, ask, words, ended) {
+        Some(decision) => decision,
+        None => unreachable!(),
+    }
+}
+
+/// The first of SIOT's tests that holds, as a decision.
+#[tactic(auto, unfolding(its_plain::specs::View::view, its_world::specs::World::state_of))]
+fn found(w: &World, slot: u8, job: &Job, ask: &Ask, words: bool, ended: bool) -> Option<Decision>
     requires { slot < slots }
     ensures { result ≡ first_of (siot_tests (seen_by w.now slot job.now ask.now) ask.now (input ask.now 1) (input ask.now 2) words ended) }
 {

@@ -104,6 +104,18 @@ impl Model for Call {
     ghost view = { λ c. frame_of c.stage c.site c.block c.ask c.owed };
 }
 
+/// Writes the site at a PC, of which no other word was read.
+fn begin_near(site: &mut Site, pc: u32, e: u32, channel: Option<u8>)
+    ensures { site.new ≡ record { pc = pc; e = e; channel = channel; used = 0; decode = record { items = pc ∷ [] } } }
+{
+    site.pc = pc;
+    site.e = e;
+    site.channel = channel;
+    site.used = 0;
+    site.decode.clear();
+    site.decode.push(pc);
+}
+
 impl Call {
     /// A job in user mode.
     pub fn none() -> Call
@@ -182,6 +194,14 @@ impl Call {
         ensures { self.new ≡ Some (entered site) }
     {
         self.site = site;
+        self.stage = Stage::Entered;
+    }
+
+    /// The job enters the monitor at a PC; no other word was read on the way, and nothing of the budget is used.
+    pub fn enter_near(&mut self, pc: u32, e: u32, channel: Option<u8>)
+        ensures { self.new ≡ Some (entered (record { pc = pc; e = e; channel = channel; used = 0; decode = record { items = pc ∷ [] } })) }
+    {
+        begin_near(&mut self.site, pc, e, channel);
         self.stage = Stage::Entered;
     }
 

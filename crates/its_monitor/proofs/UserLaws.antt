@@ -50,7 +50,9 @@ use Rattle.its_commit.proofs.TidyLaws.{tidy_put}
 use Rattle.its_operator.specs.Kept.{Kept}
 use Rattle.its_operator.proofs.RegisterLaws.{raw_is}
 use Rattle.its_monitor.specs.Ticks.{Made, ticked, with_channels}
+use Rattle.pdp_exec.specs.Near.{near_site}
 use Rattle.pdp_exec.specs.Units.{Left, after_outcome}
+use Rattle.pdp_exec.specs.declared.near.Near.{Near}
 use Rattle.its_world.proofs.StorageLaws.{frame_is}
 
 raw_addressed : (w : World) (s : ℕ) (q : Whole) → Kept w → frame_at w.frames.items s ≡ None → (state_of w).raw.jobs s ≡ Some q → q.job.pc < 2 ^ 18
@@ -201,6 +203,16 @@ call_row old new s x some h b = go (job_at old.jobs s) refl h
         → IfSome (raw_of old.files (core_at old.core s) (superior_at old.jobs s) (alarm_at old.alarms.items s) o) (λ q. unit_on (state_of old) s (unit q.core q.job) ≡ ticked (state_of new) Work)
     go (Some j) is u = ap (unit_on (state_of old) s) (unit_bare (core_at old.core s) j ∙ ap bare_outcome u) ∙ ap works (sym row)
     go None is u = tt
+
+-- the same of a call whose word is at the PC
+pub near_row : (old new : World) (s : ℕ) (n : Near) (pc : ℕ) → is_some (job_at old.jobs s) ≡ true → IfSome (job_at old.jobs s) (λ j. unit (core_at old.core s) j ≡ Called (near_site j.pc n))
+    → IfSome (job_at old.jobs s) (λ j. pc ≡ j.pc) → FrameBecomes old new s (Some (entered (near_site pc n)))
+    → IfSome (raw_at old.files old.core old.jobs old.alarms.items s) (λ q. unit_on (state_of old) s (unit q.core q.job) ≡ ticked (state_of new) Work)
+near_row old new s n pc some h p b = call_row old new s (near_site pc n) some (at_pc (job_at old.jobs s) h p) b
+  where
+    at_pc : (o : Option Job) → IfSome o (λ j. unit (core_at old.core s) j ≡ Called (near_site j.pc n)) → IfSome o (λ j. pc ≡ j.pc) → IfSome o (λ j. unit (core_at old.core s) j ≡ Called (near_site pc n))
+    at_pc (Some j) u is = u ∙ ap (λ x. Called (near_site x n)) (sym is)
+    at_pc None u is = tt
 
 -- the registers that a delivery leaves, with the channels that a job has
 channels_kept : (c : Core) (i : Job) → with_channels i.channels (delivered c i).job ≡ (delivered c i).job

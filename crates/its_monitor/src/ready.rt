@@ -103,7 +103,8 @@ fn is_on_files(w: &World, slot: u8, ask: &Ask, call: CallName) -> bool
     }
 }
 
-/// Performs the pending parts of a half made close, if a call is one on files.
+/// Performs the pending parts of a half made close, if there is one and a call is one on files.
+#[tactic(auto, using(crate::proofs::HelpLaws::help_spared))]
 fn help_if(w: &mut World, on_files: bool)
     requires tidy { Tidy w.old }
     ensures row { state_of w.new ≡ helped_if on_files (state_of w.old) }
@@ -111,7 +112,10 @@ fn help_if(w: &mut World, on_files: bool)
     ensures tidy { Tidy w.new }
 {
     if on_files {
-        help(w);
+        match w.files.owner() {
+            Some(_) => help(w),
+            None => {}
+        }
     }
 }
 

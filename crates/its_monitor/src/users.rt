@@ -15,6 +15,7 @@ ghost use Rattle.its_world.specs.World.{state_of, frame_at, raw_at, CoreBecomes,
 ghost use Rattle.its_operator.specs.Kept.{Kept};
 ghost use Rattle.its_pclsr.specs.Pages.{pages_unwound};
 ghost use Rattle.pdp_exec.specs.Answer.{IsCalled};
+ghost use Rattle.pdp_exec.specs.Near.{near_site};
 ghost use Rattle.its_monitor.specs.Ticks.{ticked, with_channels, UnitIn, UnitsMade};
 
 use super::reach::calm;
@@ -24,7 +25,7 @@ use its_frame::Change;
 use its_ints::{deliver, deliverable};
 use its_word::{Job, Pace, Site};
 use its_world::World;
-use pdp_exec::{run_units, site};
+use pdp_exec::{Near, call_at_hand, run_units, site};
 
 /// The delivery of an interrupt to a slot's job with these registers.
 #[inline(never)]
@@ -123,11 +124,71 @@ pub fn make_unit(w: &mut World, slot: u8) -> Pace
     ensures pages { w.new.core.frames ≡ w.old.core.frames }
     ensures tidy { Tidy w.new }
 {
+    match near_call(w, slot) {
+        Some(call) => {
+            enter_near(w, slot, call);
+            Pace::Work
+        }
+        None => make_any(w, slot),
+    }
+}
+
+/// The same, whatever the unit is.
+#[tactic(auto, using(crate::proofs::UserLaws::user_addressed, crate::proofs::UserLaws::unit_row))]
+fn make_any(w: &mut World, slot: u8) -> Pace
+    requires slot { slot < slots }
+    requires kept { Kept w.old }
+    requires job { is_some (job_at w.old.jobs slot) ≡ true }
+    requires frame { frame_at w.old.frames.items slot ≡ None }
+    requires quiet { IfSome (job_at w.old.jobs slot) (λ j. deliverable j ≡ false) }
+    ensures row { IfSome (raw_at w.old.files w.old.core w.old.jobs w.old.alarms.items slot) (λ q. unit_on (state_of w.old) slot (unit_of q.core q.job) ≡ ticked (state_of w.new) result) }
+    ensures pages { w.new.core.frames ≡ w.old.core.frames }
+    ensures tidy { Tidy w.new }
+{
     if unit_in_place(w, slot) {
         Pace::Step
     } else {
         enter(w, slot);
         Pace::Work
+    }
+}
+
+/// The call at the PC of a slot's job, if its word is all that is read on the way.
+fn near_call(w: &World, slot: u8) -> Option<Near>
+    requires slot { slot < slots }
+    requires job { is_some (job_at w.now.jobs slot) ≡ true }
+    requires pc { IfSome (job_at w.now.jobs slot) (λ j. j.pc < 2 ^ 18) }
+    ensures { IfSome result (λ n. IfSome (job_at w.now.jobs slot) (λ j. unit_of (core_at w.now.core slot) j ≡ Called (near_site j.pc n))) }
+{
+    match w.jobs.job(slot) {
+        Some(job) => call_at_hand(&w.core, slot, job),
+        None => unreachable!(),
+    }
+}
+
+/// The job of a slot enters the monitor at a call at its PC.
+#[tactic(auto, using(its_pclsr::proofs::ApartLaws::becomes_pages))]
+fn enter_near(w: &mut World, slot: u8, call: Near)
+    requires slot { slot < slots }
+    requires job { is_some (job_at w.old.jobs slot) ≡ true }
+    requires called { IfSome (job_at w.old.jobs slot) (λ j. unit_of (core_at w.old.core slot) j ≡ Called (near_site j.pc call)) }
+    requires tidy { Tidy w.old }
+    ensures row { IfSome (raw_at w.old.files w.old.core w.old.jobs w.old.alarms.items slot) (λ q. unit_on (state_of w.old) slot (unit_of q.core q.job) ≡ ticked (state_of w.new) Pace.Work) }
+    ensures pages { w.new.core.frames ≡ w.old.core.frames }
+    ensures tidy { Tidy w.new }
+{
+    let pc = pc_of(w, slot);
+    w.enter_near(slot, pc, call.e, call.channel);
+}
+
+/// The PC of a slot's job.
+fn pc_of(w: &World, slot: u8) -> u32
+    requires { is_some (job_at w.now.jobs slot) ≡ true }
+    ensures { IfSome (job_at w.now.jobs slot) (λ j. result ≡ j.pc) }
+{
+    match w.jobs.job(slot) {
+        Some(job) => job.pc,
+        None => unreachable!(),
     }
 }
 

@@ -1,13 +1,14 @@
 -- The result of putting slots on the lists to which they belong.
-use Rattle.std.specs.Prelude.{◌≡◌, ◌<◌, ◌+◌, ℕ, Option, Some, None, List, [], ◌∷◌, ◌++◌, length, slice_set, refl}
+use Rattle.std.specs.Prelude.{◌≡◌, ◌<◌, ◌↔◌, ◌+◌, ℕ, Bool, true, false, not, IsTrue, Option, Some, None, List, [], ◌∷◌, ◌++◌, length, slice_set, refl}
 use Rattle.std.proofs.Common.{sym, ◌∙◌, ap, subst, inl, inr, arith, add-one}
 use Rattle.std.proofs.lemmas.Bool.{cases_eq}
 use Rattle.std.proofs.lemmas.List.{get_or-set_same, get_or-set_other}
-use Rattle.its_links.specs.Lists.{list_at, count, hit, first, rest}
+use Rattle.its_links.specs.Lists.{list_at, count, times, hit, first, rest}
 use Rattle.its_links.proofs.CountLaws.{hit_other, count_first}
-use Rattle.its_world.specs.Rings.{heads, StandsIn, Put, AwayFrom, lists_at, lists_to, link_lists, link_lists_to}
+use Rattle.its_world.specs.Rings.{heads, StandsIn, Put, AwayFrom, input_lists, output_lists, lists_at, lists_to, link_lists, link_lists_to}
 use Rattle.its_world.specs.Filed.{place_of, OnlyRings, Refiled, Resettled}
 use Rattle.its_world.proofs.PlaceLaws.{place_rings, stands_on}
+use Rattle.its_world.proofs.RingLaws.{not_linked}
 use Rattle.its_world.specs.declared.world.World.{World}
 
 pub refiled : (old new : World) (s : ℕ) (p : Option ℕ) → OnlyRings old new → p ≡ place_of old s → Put old.rings new.rings s p → Refiled old new s
@@ -15,6 +16,18 @@ refiled old new s p o e put = record {
   rest = o;
   here = subst (StandsIn new.rings.lists s) (e ∙ sym (place_rings old new o s)) put.here;
   others = put.others;
+}
+
+-- a slot that is on no list and belongs on none is where it belongs
+is_off : (b : Bool) → not b ≡ true → b ≡ false
+is_off true h = sym h
+is_off false h = refl
+
+pub apart_already : (w : World) (i s : ℕ) (b : Bool) → i ≡ s → place_of w s ≡ None → (IsTrue b ↔ (0 < times i w.rings.lists)) → not b ≡ true → Refiled w w s
+apart_already w i s b e none test off = record {
+  rest = record { core = refl; jobs = refl; frames = refl; consoles = refl; holders = refl; files = refl; clock = refl; version = refl; symbols = refl; pipes = refl; alarms = refl };
+  here = subst (StandsIn w.rings.lists s) (sym none) (not_linked w.rings i s b e (is_off b off) test).here;
+  others = λ k ne h. refl;
 }
 
 only_then : (old mid new : World) → OnlyRings old mid → OnlyRings mid new → OnlyRings old new
@@ -100,6 +113,14 @@ settled_console a b c d e x i is p q r s = subst (λ j. Resettled a e (lists_at 
     (settled_then a b e ((2 + i) ∷ []) ((10 + i) ∷ (18 + i) ∷ (26 + i) ∷ []) p
     (settled_then b c e ((10 + i) ∷ []) ((18 + i) ∷ (26 + i) ∷ []) q
     (settled_then c d e ((18 + i) ∷ []) ((26 + i) ∷ []) r s)))
+
+pub settled_input : (a b c : World) (x i : ℕ) → i ≡ x → Resettled a b ((2 + i) ∷ []) → Resettled b c ((26 + i) ∷ []) → Resettled a c (input_lists x)
+settled_input a b c x i is p q = subst (λ j. Resettled a c (input_lists j)) is (settled_then a b c ((2 + i) ∷ []) ((26 + i) ∷ []) p q)
+
+pub settled_output : (a b c d : World) (x i : ℕ) → i ≡ x → Resettled a b ((10 + i) ∷ []) → Resettled b c ((18 + i) ∷ []) → Resettled c d ((26 + i) ∷ []) → Resettled a d (output_lists x)
+settled_output a b c d x i is p q r = subst (λ j. Resettled a d (output_lists j)) is
+    (settled_then a b d ((10 + i) ∷ []) ((18 + i) ∷ (26 + i) ∷ []) p
+    (settled_then b c d ((18 + i) ∷ []) ((26 + i) ∷ []) q r))
 
 pub settled_link : (a b c d : World) (x i : ℕ) → i ≡ x → Resettled a b ((34 + i) ∷ []) → Resettled b c ((50 + i) ∷ []) → Resettled c d ((66 + i) ∷ []) → Resettled a d (link_lists x)
 settled_link a b c d x i is p q r = subst (λ j. Resettled a d (link_lists j)) is

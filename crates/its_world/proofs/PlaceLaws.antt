@@ -27,7 +27,7 @@ use Rattle.its_plain.specs.Reasons.{Doors, held_up, reason_by}
 use Rattle.its_word.specs.Links.{most_links}
 use Rattle.its_pipes.specs.Pipes.{piped}
 use Rattle.its_parts.proofs.PartLaws.{all_closed}
-use Rattle.its_world.specs.Rings.{heads, awake_of, post_of, is_within, Within, place_at, mark, StandsIn, AwayFrom, lists_at, lists_to, link_lists, link_lists_to, lists_of}
+use Rattle.its_world.specs.Rings.{heads, awake_of, post_of, is_within, Within, place_at, mark, StandsIn, AwayFrom, input_lists, output_lists, lists_at, lists_to, link_lists, link_lists_to, lists_of}
 use Rattle.its_world.specs.Filed.{frame_at, console_at, holder_at, kind_of, channel_of, wait_reason, if_within, place_for, place_by, doors_of, place_of, Ringed, OnlyRings, Refiled, Resettled, SlotWritten, DoorsWritten}
 use Rattle.its_world.specs.declared.world.World.{World}
 
@@ -283,6 +283,54 @@ post_ringed old mid new p consoles holders links w = settled_ringed old mid new 
     keeps k n (Drained i) l none = at_post k n (Drained i) (AtConsole i) refl (λ ne. λ t. held_up (record { consoles = λ _. consoles i ne t; holders = λ _. holders i ne t; clock = 0; links = λ _. None }) k n (Drained 0)) none
     keeps k n (Empty i) l none = at_post k n (Empty i) (AtLink i) refl (λ ne. ap is_dry (links i ne)) none
     keeps k n (Room i) l none = at_post k n (Room i) (AtLink i) refl (λ ne. ap is_crowded (links i ne)) none
+
+-- of the input of one console, or of its output
+off_input : (lists : List (List ℕ)) (k c i : ℕ) (b : Bool) → i ≡ c → AwayFrom lists k (input_lists c) → StandsIn lists k (place_at (Input i) b) → ⊥
+off_input lists k c i true e none s = away lists k (2 + i) s (ap (λ x. count k (list_at lists (2 + x))) e ∙ none.0)
+off_input lists k c i false e none s = away lists k (26 + i) s (ap (λ x. count k (list_at lists (26 + x))) e ∙ none.1.0)
+
+off_output : (lists : List (List ℕ)) (k c i : ℕ) (b : Bool) → i ≡ c → AwayFrom lists k (output_lists c) → StandsIn lists k (place_at (Output i) b) → ⊥
+off_output lists k c i true e none s = away lists k (10 + i) s (ap (λ x. count k (list_at lists (10 + x))) e ∙ none.0)
+off_output lists k c i false e none s = away lists k (26 + i) s (ap (λ x. count k (list_at lists (26 + x))) e ∙ none.1.1.0)
+
+off_drained : (lists : List (List ℕ)) (k c i : ℕ) (b : Bool) → i ≡ c → AwayFrom lists k (output_lists c) → StandsIn lists k (place_at (Drained i) b) → ⊥
+off_drained lists k c i true e none s = away lists k (18 + i) s (ap (λ x. count k (list_at lists (18 + x))) e ∙ none.1.0)
+off_drained lists k c i false e none s = away lists k (26 + i) s (ap (λ x. count k (list_at lists (26 + x))) e ∙ none.1.1.0)
+
+pub heard_ringed : (old mid new : World) (c : ℕ) → ((i : ℕ) → i ≢ c → console_at mid.consoles.items i ≡ console_at old.consoles.items i) → ((i : ℕ) → (console_at mid.consoles.items i).output ≡ (console_at old.consoles.items i).output)
+    → mid.holders ≡ old.holders → mid.pipes ≡ old.pipes → DoorsWritten old mid → Resettled mid new (input_lists c) → Ringed old → Ringed new
+heard_ringed old mid new c consoles outputs holders pipes w = settled_ringed old mid new (input_lists c) (λ k. inl (ap (λ t. job_at t k) w.jobs)) w.frames w.rings keeps
+  where
+    keeps : (k n : ℕ) (r : Wait) → Within r → AwayFrom old.rings.lists k (input_lists c) → Keeps (doors_of old) (doors_of mid) old.rings.lists k n r
+    keeps k n Hang l none = inl refl
+    keeps k n Clock l none = inl (ap (λ t. held_up (record (doors_of old) { clock = t }) k n Clock) w.clock)
+    keeps k n (Input i) l none = elim (cases_eq i c) [
+      | inl e ↦ inr (off_input old.rings.lists k c i (held_up (doors_of old) k n (Input i)) e none)
+      | inr ne ↦ inl (λ t. held_up (record { consoles = λ _. consoles i ne t; holders = λ _. holder_at (holders t) i; clock = 0; links = λ _. None }) k n (Input 0))
+    ]
+    keeps k n (Output i) l none = inl (λ t. held_up (record { consoles = λ _. record { input = []; output = outputs i t }; holders = λ _. holder_at (holders t) i; clock = 0; links = λ _. None }) k n (Output 0))
+    keeps k n (Drained i) l none = inl (λ t. held_up (record { consoles = λ _. record { input = []; output = outputs i t }; holders = λ _. None; clock = 0; links = λ _. None }) k n (Drained 0))
+    keeps k n (Empty i) l none = inl (ap (λ p. is_dry (piped p i)) pipes)
+    keeps k n (Room i) l none = inl (ap (λ p. is_crowded (piped p i)) pipes)
+
+pub spoken_ringed : (old mid new : World) (c : ℕ) → ((i : ℕ) → i ≢ c → console_at mid.consoles.items i ≡ console_at old.consoles.items i) → ((i : ℕ) → (console_at mid.consoles.items i).input ≡ (console_at old.consoles.items i).input)
+    → mid.holders ≡ old.holders → mid.pipes ≡ old.pipes → DoorsWritten old mid → Resettled mid new (output_lists c) → Ringed old → Ringed new
+spoken_ringed old mid new c consoles inputs holders pipes w = settled_ringed old mid new (output_lists c) (λ k. inl (ap (λ t. job_at t k) w.jobs)) w.frames w.rings keeps
+  where
+    keeps : (k n : ℕ) (r : Wait) → Within r → AwayFrom old.rings.lists k (output_lists c) → Keeps (doors_of old) (doors_of mid) old.rings.lists k n r
+    keeps k n Hang l none = inl refl
+    keeps k n Clock l none = inl (ap (λ t. held_up (record (doors_of old) { clock = t }) k n Clock) w.clock)
+    keeps k n (Input i) l none = inl (λ t. held_up (record { consoles = λ _. record { input = inputs i t; output = [] }; holders = λ _. holder_at (holders t) i; clock = 0; links = λ _. None }) k n (Input 0))
+    keeps k n (Output i) l none = elim (cases_eq i c) [
+      | inl e ↦ inr (off_output old.rings.lists k c i (held_up (doors_of old) k n (Output i)) e none)
+      | inr ne ↦ inl (λ t. held_up (record { consoles = λ _. consoles i ne t; holders = λ _. holder_at (holders t) i; clock = 0; links = λ _. None }) k n (Output 0))
+    ]
+    keeps k n (Drained i) l none = elim (cases_eq i c) [
+      | inl e ↦ inr (off_drained old.rings.lists k c i (held_up (doors_of old) k n (Drained i)) e none)
+      | inr ne ↦ inl (λ t. held_up (record { consoles = λ _. consoles i ne t; holders = λ _. None; clock = 0; links = λ _. None }) k n (Drained 0))
+    ]
+    keeps k n (Empty i) l none = inl (ap (λ p. is_dry (piped p i)) pipes)
+    keeps k n (Room i) l none = inl (ap (λ p. is_crowded (piped p i)) pipes)
 
 -- the clock, which gains: a sleeper whose time has come is on no list
 later_up : (a : Bool) (c m t : ℕ) → (a && nat_lt c t) ≡ false → (a && nat_lt (c + m) t) ≡ false

@@ -1,5 +1,5 @@
 -- A channel of a job set, with the store that it is on: what the state and the facts on numbers are then.
-use Rattle.std.specs.Prelude.{◌≡◌, ◌≢◌, ◌<◌, ℕ, true, Some, None, is_some, length, slice_set, refl}
+use Rattle.std.specs.Prelude.{◌≡◌, ◌≢◌, ◌<◌, ℕ, true, false, Option, Some, None, is_some, length, slice_set, refl}
 use Rattle.std.proofs.Common.{sym, ◌∙◌, ap, subst}
 use Rattle.its_word.specs.declared.jobs.Channel.{Channel}
 use Rattle.its_word.specs.declared.jobs.Channel.TheVariants.{Closed}
@@ -13,10 +13,12 @@ use Rattle.its_plain.specs.Change.{in_job}
 use Rattle.its_plain.specs.OperatorFiles.{channels_of}
 use Rattle.its_plain.proofs.MachineLaws.{machine_is}
 use Rattle.its_stepped.specs.State.{State}
-use Rattle.its_world.specs.World.{chan_of, alarm_at, raw_at, frame_at, console_at, holder_at, mark_of, state_of, in_raw, JobBecomes, symbols_at}
+use Rattle.its_world.specs.World.{chan_of, alarm_at, raw_at, frame_at, console_at, holder_at, mark_of, state_of, in_raw, symbols_at}
 use Rattle.its_plain.specs.OperatorClock.{clock_end}
 use Rattle.its_world.specs.Tidy.{channel_at, Across, Tidy}
-use Rattle.its_world.specs.Storage.{HasJob, chan_in, ChannelBecomes, OnlyStore}
+use Rattle.its_world.specs.Storage.{HasJob, chan_in, ChannelBecomes, ChannelWritten, OnlyStore}
+use Rattle.its_world.specs.Filed.{Refiled, SlotWritten}
+use Rattle.its_word.specs.Only.{Only}
 use Rattle.its_pipes.specs.Pipes.{piped}
 use Rattle.its_world.specs.declared.world.World.{World}
 use Rattle.its_parts.specs.Channels.{OnlyChannel, Shows}
@@ -24,29 +26,72 @@ use Rattle.its_parts.proofs.ChanLaws.{raw_alike, job_by, chan_by, shut_by}
 use Rattle.its_parts.proofs.KeptLaws.{Kept, Stays}
 use Rattle.its_parts.proofs.SetLaws.{only_same, channel_put, channel_absent, channel_same, none_before, raw_channel}
 use Rattle.its_world.proofs.MarkLaws.{mark_none, none_marked}
-use Rattle.its_world.proofs.PlaceLaws.{ringed_alike}
-use Rattle.its_world.proofs.WorldLaws.{frames_still}
+use Rattle.its_world.proofs.PlaceLaws.{ringed_alike, slot_ringed}
+use Rattle.its_world.proofs.WorldLaws.{alike}
 use Rattle.its_world.proofs.StateLaws.{state_is}
 
--- a channel set
-pub channel_becomes : (old new : World) (s n : ℕ) (x : Channel) (j : Job) → job_at old.jobs s ≡ Some j → n < length j.channels
-    → JobBecomes old new s (record j { channels = slice_set j.channels n x }) → ChannelBecomes old new s n x old.files
-channel_becomes old new s n x j was lt b = record {
-  jobs = channel_put old.jobs new.jobs s n x j was lt b.job b.superiors;
-  core = only_same (core_at old.core) (core_at new.core) s b.core;
-  reserved = only_same (clear_at old.core) (clear_at new.core) s b.reserved;
-  pages = b.pages ∙ frames_still (clear_at old.core s) s old.core.frames;
-  frames = only_same (frame_at old.frames.items) (frame_at new.frames.items) s b.frame;
-  consoles = b.consoles;
-  holders = b.holders;
-  clock = b.clock;
-  version = b.version;
-  symbols = b.symbols;
-  pipes = b.pipes;
-  alarms = b.alarms;
-  files = b.files;
-  ringed = b.ringed;
+-- a channel written, and its slot put on the list to which it belongs
+pub channel_written : (old new : World) (s n : ℕ) (x : Channel) (j : Job) → job_at old.jobs s ≡ Some j → n < length j.channels
+    → Only (job_at old.jobs) (job_at new.jobs) s (Some (record j { channels = slice_set j.channels n x })) → new.jobs.superiors ≡ old.jobs.superiors
+    → new.core ≡ old.core → new.frames ≡ old.frames → new.consoles ≡ old.consoles → new.holders ≡ old.holders → new.files ≡ old.files → new.clock ≡ old.clock → new.rings ≡ old.rings → new.version ≡ old.version → new.symbols ≡ old.symbols → new.pipes ≡ old.pipes → new.alarms ≡ old.alarms
+    → ChannelWritten old new s n x
+channel_written old new s n x j was lt job superiors core frames consoles holders files clock rings version symbols pipes alarms = record {
+  jobs = channel_put old.jobs new.jobs s n x j was lt job superiors;
+  core = core;
+  frames = frames;
+  consoles = consoles;
+  holders = holders;
+  files = files;
+  clock = clock;
+  rings = rings;
+  version = version;
+  symbols = symbols;
+  pipes = pipes;
+  alarms = alarms;
 }
+
+slot_of : (old mid : World) (s n : ℕ) (x : Channel) → ChannelWritten old mid s n x → SlotWritten old mid s (job_at mid.jobs s) (frame_at old.frames.items s)
+slot_of old mid s n x w = record {
+  job = record { here = refl; others = w.jobs.rows };
+  superiors = w.jobs.superiors;
+  frame = alike _ _ s (λ k. ap (λ t. frame_at t.items k) w.frames);
+  core = w.core;
+  consoles = w.consoles;
+  holders = w.holders;
+  files = w.files;
+  clock = w.clock;
+  rings = w.rings;
+  version = w.version;
+  symbols = w.symbols;
+  pipes = w.pipes;
+  alarms = w.alarms;
+}
+
+pub channel_becomes : (old mid new : World) (s n : ℕ) (x : Channel) → ChannelWritten old mid s n x → Refiled mid new s → ChannelBecomes old new s n x old.files
+channel_becomes old mid new s n x w r = record {
+  jobs = subst (λ j. OnlyChannel old.jobs j s n x) (sym r.rest.jobs) w.jobs;
+  core = record { each = λ k. ap (λ c. core_at c k) (r.rest.core ∙ w.core) };
+  reserved = record { each = λ k. ap (λ c. clear_at c k) (r.rest.core ∙ w.core) };
+  pages = ap (λ c. c.frames) (r.rest.core ∙ w.core);
+  frames = record { each = λ k. ap (λ l. frame_at l.items k) (r.rest.frames ∙ w.frames) };
+  consoles = r.rest.consoles ∙ w.consoles;
+  holders = r.rest.holders ∙ w.holders;
+  clock = r.rest.clock ∙ w.clock;
+  version = r.rest.version ∙ w.version;
+  symbols = r.rest.symbols ∙ w.symbols;
+  pipes = r.rest.pipes ∙ w.pipes;
+  alarms = r.rest.alarms ∙ w.alarms;
+  files = r.rest.files ∙ w.files;
+  ringed = slot_ringed old mid new s (job_at mid.jobs s) (frame_at old.frames.items s) (slot_of old mid s n x w) r;
+}
+
+-- a slot that has no job
+pub job_missing : (w : World) (s : ℕ) → is_some (job_at w.jobs s) ≡ false → job_at w.jobs s ≡ None
+job_missing w s h = none_by (job_at w.jobs s) h
+  where
+    none_by : (o : Option Job) → is_some o ≡ false → o ≡ None
+    none_by (Some j) h = cc
+    none_by None h = refl
 
 pub channel_missing : (w : World) (s n : ℕ) (x : Channel) → job_at w.jobs s ≡ None → ChannelBecomes w w s n x w.files
 channel_missing w s n x none = record {

@@ -1,6 +1,7 @@
 -- What a world keeps if one part is written.
 use Rattle.std.specs.Prelude.{◌≡◌, ◌<◌, ◌≤◌, ◌-◌, ℕ, true, Option, Some, None, IsSome, IfSome, is_some, List, [], ◌∷◌, ◌++◌, length, drop, option_map, refl}
-use Rattle.std.proofs.Common.{ap, sym, arith, ◌∙◌}
+use Rattle.std.proofs.Common.{ap, sym, arith, inl, inr, ◌∙◌}
+use Rattle.std.proofs.lemmas.Bool.{cases_eq}
 use Rattle.std.proofs.lemmas.List.{length-append, take-append-le, take_all}
 use Rattle.its_word.specs.Only.{Only}
 use Rattle.its_word.specs.Console.{Console, most_waiting}
@@ -15,9 +16,9 @@ use Rattle.its_word.specs.Links.{most_links}
 use Rattle.its_plain.specs.Machine.{Pipe}
 use Rattle.its_plain.specs.Moves.{AtConsole, AtLink}
 use Rattle.its_pipes.specs.Pipes.{piped}
-use Rattle.its_world.specs.Rings.{lists_at, link_lists}
-use Rattle.its_world.specs.Filed.{SlotWritten, ConsoleWritten, HolderWritten, LinkWritten, ClockWritten, Refiled, Resettled}
-use Rattle.its_world.proofs.PlaceLaws.{ringed_alike, slot_ringed, post_ringed, clock_ringed}
+use Rattle.its_world.specs.Rings.{input_lists, lists_at, link_lists, output_lists}
+use Rattle.its_world.specs.Filed.{SlotWritten, ConsoleWritten, HolderWritten, LinkWritten, ClockWritten, OnlyRings, Refiled, Resettled, Ringed}
+use Rattle.its_world.proofs.PlaceLaws.{ringed_alike, slot_ringed, post_ringed, heard_ringed, spoken_ringed, clock_ringed}
 use Rattle.its_world.specs.declared.world.World.{World}
 use Rattle.its_core.specs.Cores.{Cores, Reserved, core_at, reserved_at, clear_at}
 use Rattle.its_core.specs.Frames.{Frames, frames_give_back}
@@ -187,21 +188,36 @@ reserved_some c s h = some_by (reserved_at c s) h
 
 -- a console, its holder, a link or the clock is written, and the slots that it can move are put on the lists to which they
 -- belong
-pub console_becomes : (old mid new : World) (c : ℕ) (x : Console) → ConsoleWritten old mid c x → Resettled mid new (lists_at c) → ConsoleBecomes old new c x
-console_becomes old mid new c x w r = record {
-  consoles = only_along _ _ _ c x w.consoles (λ k. ap (λ l. console_at l.items k) r.rest.consoles);
-  holders = r.rest.holders ∙ w.holders;
-  core = r.rest.core ∙ w.rest.core;
-  jobs = r.rest.jobs ∙ w.rest.jobs;
-  frames = r.rest.frames ∙ w.rest.frames;
-  files = r.rest.files ∙ w.rest.files;
-  clock = r.rest.clock ∙ w.rest.clock;
-  ringed = post_ringed old mid new (AtConsole c) (λ k ne. w.consoles.others k (λ e. ne (ap AtConsole e))) (λ k ne. ap (λ l. holder_at l k) w.holders) (λ k ne. ap (λ p. piped p k) w.pipes) w.rest r;
-  version = r.rest.version ∙ w.rest.version;
-  symbols = r.rest.symbols ∙ w.rest.symbols;
-  pipes = r.rest.pipes ∙ w.pipes;
-  alarms = r.rest.alarms ∙ w.rest.alarms;
+console_settled : (old mid new : World) (c : ℕ) (x : Console) → ConsoleWritten old mid c x → OnlyRings mid new → (Ringed old → Ringed new) → ConsoleBecomes old new c x
+console_settled old mid new c x w o ringed = record {
+  consoles = only_along _ _ _ c x w.consoles (λ k. ap (λ l. console_at l.items k) o.consoles);
+  holders = o.holders ∙ w.holders;
+  core = o.core ∙ w.rest.core;
+  jobs = o.jobs ∙ w.rest.jobs;
+  frames = o.frames ∙ w.rest.frames;
+  files = o.files ∙ w.rest.files;
+  clock = o.clock ∙ w.rest.clock;
+  ringed = ringed;
+  version = o.version ∙ w.rest.version;
+  symbols = o.symbols ∙ w.rest.symbols;
+  pipes = o.pipes ∙ w.pipes;
+  alarms = o.alarms ∙ w.rest.alarms;
 }
+
+-- what stays of the console that is written, stays of all
+stays_of : {X : Type 0} → (f : Console → X) (old mid : World) (c : ℕ) (x : Console) → ConsoleWritten old mid c x → f x ≡ f (console_at old.consoles.items c)
+    → (k : ℕ) → f (console_at mid.consoles.items k) ≡ f (console_at old.consoles.items k)
+stays_of f old mid c x w e k = elim (cases_eq k c) [
+  | inl q ↦ ap (λ i. f (console_at mid.consoles.items i)) q ∙ ap f w.consoles.here ∙ e ∙ sym (ap (λ i. f (console_at old.consoles.items i)) q)
+  | inr ne ↦ ap f (w.consoles.others k ne)
+]
+
+-- the input of a console is written, or its output
+pub console_heard : (old mid new : World) (c : ℕ) (x : Console) → ConsoleWritten old mid c x → x.output ≡ (console_at old.consoles.items c).output → Resettled mid new (input_lists c) → ConsoleBecomes old new c x
+console_heard old mid new c x w e r = console_settled old mid new c x w r.rest (heard_ringed old mid new c w.consoles.others (stays_of (λ k. k.output) old mid c x w e) w.holders w.pipes w.rest r)
+
+pub console_spoken : (old mid new : World) (c : ℕ) (x : Console) → ConsoleWritten old mid c x → x.input ≡ (console_at old.consoles.items c).input → Resettled mid new (output_lists c) → ConsoleBecomes old new c x
+console_spoken old mid new c x w e r = console_settled old mid new c x w r.rest (spoken_ringed old mid new c w.consoles.others (stays_of (λ k. k.input) old mid c x w e) w.holders w.pipes w.rest r)
 
 pub holder_becomes : (old mid new : World) (c : ℕ) (h : Option ℕ) → HolderWritten old mid c h → Resettled mid new (lists_at c) → HolderBecomes old new c h
 holder_becomes old mid new c h w r = record {

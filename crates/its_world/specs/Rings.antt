@@ -116,6 +116,13 @@ AwayFrom lists k (h ∷ hs) = (count k (list_at lists h) ≡ 0) × AwayFrom list
 abbrev pub lists_at : ℕ → List ℕ
 lists_at c = (2 + c) ∷ (10 + c) ∷ (18 + c) ∷ (26 + c) ∷ []
 
+-- of these the lists of those that wait for input or can go on, and of those that wait for output or can go on
+abbrev pub input_lists : ℕ → List ℕ
+input_lists c = (2 + c) ∷ (26 + c) ∷ []
+
+abbrev pub output_lists : ℕ → List ℕ
+output_lists c = (10 + c) ∷ (18 + c) ∷ (26 + c) ∷ []
+
 abbrev pub lists_to : ℕ → List ℕ
 lists_to zero = []
 lists_to (suc n) = lists_to n ++ lists_at n

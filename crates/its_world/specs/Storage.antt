@@ -61,6 +61,21 @@ pub record ChannelBecomes (old new : World) (s n : ℕ) (x : Channel) (t : Store
   pub files : new.files ≡ t
   pub ringed : Ringed old → Ringed new
 
+-- channel n of slot s's job, which has one, was written, and all else, the lists too, is as it was
+pub record ChannelWritten (old new : World) (s n : ℕ) (x : Channel) : Type 0 where
+  pub jobs : OnlyChannel old.jobs new.jobs s n x
+  pub core : new.core ≡ old.core
+  pub frames : new.frames ≡ old.frames
+  pub consoles : new.consoles ≡ old.consoles
+  pub holders : new.holders ≡ old.holders
+  pub files : new.files ≡ old.files
+  pub clock : new.clock ≡ old.clock
+  pub rings : new.rings ≡ old.rings
+  pub version : new.version ≡ old.version
+  pub symbols : new.symbols ≡ old.symbols
+  pub pipes : new.pipes ≡ old.pipes
+  pub alarms : new.alarms ≡ old.alarms
+
 -- of the world only the store is another: jobs, cores, the frames of their pages and all else are as they were
 pub record OnlyStore (old new : World) (t : Store) : Type 0 where
   pub core : new.core ≡ old.core

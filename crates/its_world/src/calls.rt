@@ -1,5 +1,5 @@
 //! Calls in progress, which are changed in their places. After each change the slot is on the wait list to which it belongs.
-ghost use Rattle.std.specs.Prelude.{◌≡◌, ◌<◌, ◌≤◌, true, Some, None, is_some, IfSome, length, slice_index_or};
+ghost use Rattle.std.specs.Prelude.{◌≡◌, ◌<◌, ◌≤◌, ◌∷◌, [], true, Some, None, is_some, IfSome, length, slice_index_or};
 ghost use Rattle.its_calls.specs.Calls.{after_fetch, after_parse, after_step, ending_in, entered_in, fault_of, frame_seen, gone_to, parsed_in, request, request_in};
 ghost use Rattle.its_core.specs.Cores.{core_at};
 ghost use Rattle.its_jobs.specs.Table.{job_at};
@@ -43,6 +43,24 @@ impl World {
         ensures { SlotWritten self.old self.new slot (job_at self.old.jobs slot) (Some (entered site)) }
     {
         self.frames[usize::from(slot)].enter(site);
+    }
+
+    /// The job of a slot enters the monitor at a PC; no other word was read on the way, and nothing of the budget is used.
+    pub fn enter_near(&mut self, slot: u8, pc: u32, e: u32, channel: Option<u8>)
+        requires slot { slot < slots }
+        ensures { FrameBecomes self.old self.new slot (Some (entered (record { pc = pc; e = e; channel = channel; used = 0; decode = record { items = pc ∷ [] } }))) }
+    {
+        self.write_enter_near(slot, pc, e, channel);
+        self.refile(slot);
+    }
+
+    /// The job of a slot enters the monitor at a PC; it keeps its place on the wait lists.
+    #[tactic(auto, using(crate::proofs::WorldLaws::frame_written))]
+    fn write_enter_near(&mut self, slot: u8, pc: u32, e: u32, channel: Option<u8>)
+        requires slot { slot < slots }
+        ensures { SlotWritten self.old self.new slot (job_at self.old.jobs slot) (Some (entered (record { pc = pc; e = e; channel = channel; used = 0; decode = record { items = pc ∷ [] } }))) }
+    {
+        self.frames[usize::from(slot)].enter_near(pc, e, channel);
     }
 
     /// The job of a slot is in user mode again.

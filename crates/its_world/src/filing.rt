@@ -1,14 +1,14 @@
 //! Slots whose calls wait are on the list of their reason: each write of the world puts the slots whose place it can
 //! change on the lists to which they belong.
 
-ghost use Rattle.std.specs.Prelude.{◌≡◌, ◌<◌, ◌∷◌, ◌++◌, ◌↔◌, ◌⊎◌, [], IsTrue, length};
+ghost use Rattle.std.specs.Prelude.{◌≡◌, ◌<◌, ◌∷◌, ◌++◌, ◌↔◌, ◌⊎◌, [], IsTrue, length, true, false, None};
 ghost use Rattle.its_word.specs.Limits.{slots};
 ghost use Rattle.its_word.specs.Links.{most_links};
 ghost use Rattle.its_jobs.specs.Table.{job_at};
 ghost use Rattle.its_plain.specs.Arguments.{input};
 ghost use Rattle.its_plain.specs.CallTty.{is_other};
 ghost use Rattle.its_plain.specs.Reasons.{held_up};
-ghost use Rattle.its_world.specs.Rings.{heads, lists_at, lists_to, link_lists, link_lists_to, IsIn, StandsIn};
+ghost use Rattle.its_world.specs.Rings.{heads, input_lists, lists_at, lists_to, link_lists, link_lists_to, output_lists, IsIn, StandsIn};
 ghost use Rattle.its_world.specs.Filed.{console_at, holder_at, channel_of, wait_reason, place_for, place_of, awake_for, awake_at, doors_of, Blocked, Refiled, Resettled};
 
 use super::rings::{CLOCK_RING, awake_of, is_within, put, reason_by, ring_of, stands_in};
@@ -94,6 +94,7 @@ impl World {
     }
 
     /// The reason for which the call of a slot's job can have to wait.
+    #[inline(always)]
     fn wait_reason(&self, slot: u8, ask: &Ask) -> Option<Wait>
         ensures { result ≡ wait_reason (job_at self.now.jobs slot) ask.now }
     {
@@ -150,6 +151,7 @@ impl World {
     }
 
     /// Whether a slot is on the Awake list of the console or link at which its call waits.
+    #[inline(never)]
     fn is_awake(&self, slot: u8) -> bool
         requires { slot < slots }
         ensures { IsTrue result ↔ IsIn self.now.rings.lists slot (awake_at self.now slot) }
@@ -171,8 +173,45 @@ impl World {
         self.rings.linked(u32::from(slot)) && !self.is_awake(slot)
     }
 
-    /// Puts a slot on the list to which it belongs, wherever it was.
+    /// Whether the frame of a slot is Waiting. If it is not, the slot belongs on no list.
+    #[inline]
+    #[tactic(auto, unfolding(crate::specs::Filed::place_of))]
+    fn is_waiting(&self, slot: u8) -> bool
+        requires { slot < slots }
+        ensures { result ≡ false → place_of self.now slot ≡ None }
+    {
+        match self.frame(slot) {
+            View::Waiting { .. } => true,
+            _ => false,
+        }
+    }
+
+    /// Whether a slot is on no list and belongs on none.
+    #[inline]
+    fn is_apart(&self, slot: u8) -> bool
+        requires { slot < slots }
+        ensures { result ≡ true → Refiled self.now self.now slot }
+    {
+        if self.is_waiting(slot) {
+            return false;
+        }
+        !self.rings.linked(u32::from(slot))
+    }
+
+    /// Puts a slot on the list to which it belongs, wherever it was. Of most slots nothing has to be done.
+    #[inline(always)]
     pub fn refile(&mut self, slot: u8)
+        requires { slot < slots }
+        ensures { Refiled self.old self.new slot }
+    {
+        if !self.is_apart(slot) {
+            self.file(slot);
+        }
+    }
+
+    /// Puts a slot on the list to which it belongs.
+    #[inline(never)]
+    fn file(&mut self, slot: u8)
         requires { slot < slots }
         ensures { Refiled self.old self.new slot }
     {
@@ -191,6 +230,18 @@ impl World {
         }
     }
 
+    /// The same of a list that most often is empty.
+    #[inline(always)]
+    fn settle_any(&mut self, head: u32)
+        requires { head < heads }
+        ensures { Resettled self.old self.new (head ∷ []) }
+    {
+        match self.rings.front(head) {
+            Some(_) => self.settle(head),
+            None => {}
+        }
+    }
+
     /// Puts each slot that is on a list of a console on the list to which it belongs.
     pub fn resettle(&mut self, console: u8)
         requires { console < 8 }
@@ -201,6 +252,27 @@ impl World {
         self.settle(10 + c);
         self.settle(18 + c);
         self.settle(26 + c);
+    }
+
+    /// The same of those that wait for its input, or wait there and can go on.
+    pub fn resettle_input(&mut self, console: u8)
+        requires { console < 8 }
+        ensures { Resettled self.old self.new (input_lists console) }
+    {
+        let c = u32::from(console);
+        self.settle_any(2 + c);
+        self.settle_any(26 + c);
+    }
+
+    /// The same of those that wait for its output, or wait there and can go on.
+    pub fn resettle_output(&mut self, console: u8)
+        requires { console < 8 }
+        ensures { Resettled self.old self.new (output_lists console) }
+    {
+        let c = u32::from(console);
+        self.settle_any(10 + c);
+        self.settle_any(18 + c);
+        self.settle_any(26 + c);
     }
 
     /// Puts each slot that is on a list of a link where it belongs.

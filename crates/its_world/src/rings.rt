@@ -109,6 +109,7 @@ pub fn is_within(reason: Wait) -> bool
 }
 
 /// The reason for which a call can have to wait, by its name, what its channel is on, and its job's console.
+#[inline(always)]
 pub fn reason_by(console: u8, channel: Channel, name: Option<CallName>) -> Option<Wait>
     ensures { result ≡ reason_by console (kind_of channel) name }
 {

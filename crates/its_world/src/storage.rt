@@ -1,7 +1,8 @@
 //! Channels of jobs with what they are on: the readers of files, and drafts.
 
-ghost use Rattle.std.specs.Prelude.{◌≡◌, ◌<◌, ℕ, true, false, None, Some, slice_set};
+ghost use Rattle.std.specs.Prelude.{◌≡◌, ◌<◌, ℕ, true, false, None, Some, is_some};
 ghost use Rattle.its_word.specs.Limits.{slots};
+ghost use Rattle.its_jobs.specs.Table.{job_at};
 ghost use Rattle.its_frame.specs.declared.change.Change.TheVariants.{Open, Shut as Shuts, Move, Append, Close, Delete, Rename};
 ghost use Rattle.its_frame.specs.declared.change.Opened.TheVariants.{Reading as Reads, Writing as Writes};
 ghost use Rattle.its_plain.specs.Machine.{Shut};
@@ -10,10 +11,10 @@ ghost use Rattle.its_plain.specs.CallFile.{has_file};
 ghost use Rattle.its_stepped.specs.Commit.{effect_on};
 ghost use Rattle.its_world.specs.World.{state_of, chan_of, in_raw};
 ghost use Rattle.its_world.specs.Tidy.{Tidy, channel_at};
-ghost use Rattle.its_world.specs.Storage.{HasJob, chan_in, IsElsewhere, IsDraft, Unread, HasRoom, CanClose, ChannelBecomes};
+ghost use Rattle.its_world.specs.Storage.{HasJob, chan_in, IsElsewhere, IsDraft, Unread, HasRoom, CanClose, ChannelBecomes, ChannelWritten};
 
 use super::world::World;
-use its_word::{Channel, Job, Word};
+use its_word::{Channel, Word};
 
 impl World {
     /// What a channel of a slot's job is on; closed if the slot is empty.
@@ -29,14 +30,28 @@ impl World {
     }
 
     /// Writes a channel of a slot's job, if it has one.
-    #[tactic(auto, using(crate::proofs::StorageLaws::channel_becomes, crate::proofs::StorageLaws::channel_missing))]
+    #[tactic(auto, using(crate::proofs::StorageLaws::channel_becomes, crate::proofs::StorageLaws::channel_missing, crate::proofs::StorageLaws::job_missing))]
     fn set_channel(&mut self, slot: u8, n: u8, channel: Channel)
         requires slot { slot < slots }
         requires channel { n < 16 }
         ensures { ChannelBecomes self.old self.new slot n channel self.old.files }
     {
-        if let Some(job) = self.registers(slot) {
-            self.put_registers(slot, with_channel(job, n, channel));
+        if self.jobs.job(slot).is_some() {
+            self.write_channel(slot, n, channel);
+            self.refile(slot);
+        }
+    }
+
+    /// Writes a channel of a slot's job, which keeps its place on the wait lists.
+    #[tactic(auto, using(crate::proofs::StorageLaws::channel_written))]
+    fn write_channel(&mut self, slot: u8, n: u8, channel: Channel)
+        requires slot { slot < slots }
+        requires channel { n < 16 }
+        requires some { is_some (job_at self.old.jobs slot) ≡ true }
+        ensures { ChannelWritten self.old self.new slot n channel }
+    {
+        if let Some(job) = self.jobs.job_mut(slot) {
+            job.channels[usize::from(n)] = channel;
         }
     }
 
@@ -210,14 +225,4 @@ impl World {
             }
         }
     }
-}
-
-/// Registers with a channel set.
-fn with_channel(job: Job, n: u8, channel: Channel) -> Job
-    requires { n < 16 }
-    ensures { result ≡ record job { channels = slice_set job.channels n channel } }
-{
-    let mut changed = job;
-    changed.channels[usize::from(n)] = channel;
-    changed
 }

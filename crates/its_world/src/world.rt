@@ -179,14 +179,14 @@ impl World {
     }
 
     /// A byte is typed at a console. False if 64 typed bytes wait; the byte is then lost.
-    #[tactic(auto, using(crate::proofs::WorldLaws::console_becomes))]
+    #[tactic(auto, using(crate::proofs::WorldLaws::console_heard))]
     pub fn type_in(&mut self, console: u8, b: u8) -> bool
         requires { console < 8 }
         ensures kept { IsTrue result ↔ (length (console_at self.old.consoles.items console).input < most_waiting) }
         ensures typed { ConsoleBecomes self.old self.new console (typed_at b (console_at self.old.consoles.items console)) }
     {
         let kept = self.write_typed(console, b);
-        self.resettle(console);
+        self.resettle_input(console);
         kept
     }
 
@@ -201,14 +201,14 @@ impl World {
     }
 
     /// Takes the typed byte that has waited longest at a console; None if none waits.
-    #[tactic(auto, using(crate::proofs::WorldLaws::console_becomes))]
+    #[tactic(auto, using(crate::proofs::WorldLaws::console_heard))]
     pub fn take(&mut self, console: u8) -> Option<u8>
         requires { console < 8 }
         ensures first { result ≡ slice_get (console_at self.old.consoles.items console).input 0 }
         ensures rest { ConsoleBecomes self.old self.new console (taken_from (console_at self.old.consoles.items console)) }
     {
         let byte = self.write_taken(console);
-        self.resettle(console);
+        self.resettle_input(console);
         byte
     }
 
@@ -223,7 +223,7 @@ impl World {
     }
 
     /// Puts a byte out at a console. False if 64 bytes wait to be drained; then nothing is put.
-    #[tactic(auto, using(crate::proofs::WorldLaws::console_becomes))]
+    #[tactic(auto, using(crate::proofs::WorldLaws::console_spoken))]
     pub fn put(&mut self, console: u8, b: u8) -> bool
         requires { console < 8 }
         ensures kept { IsTrue result ↔ (length (console_at self.old.consoles.items console).output < most_waiting) }
@@ -231,7 +231,7 @@ impl World {
         ensures same { result ≡ false → self.new ≡ self.old }
     {
         if self.write_put(console, b) {
-            self.resettle(console);
+            self.resettle_output(console);
             true
         } else {
             false
@@ -250,14 +250,14 @@ impl World {
     }
 
     /// Drains the byte of a console that was put out first; None if none waits.
-    #[tactic(auto, using(crate::proofs::WorldLaws::console_becomes))]
+    #[tactic(auto, using(crate::proofs::WorldLaws::console_spoken))]
     pub fn drain(&mut self, console: u8) -> Option<u8>
         requires { console < 8 }
         ensures first { result ≡ slice_get (console_at self.old.consoles.items console).output 0 }
         ensures rest { ConsoleBecomes self.old self.new console (drained_at (console_at self.old.consoles.items console)) }
     {
         let byte = self.write_drained(console);
-        self.resettle(console);
+        self.resettle_output(console);
         byte
     }
 

@@ -127,12 +127,12 @@ along_over c j i w used seen a h =
     }
 
 -- an instruction that is no XCT is found in its own place
-turn_plain : (c : Core) (i : Instruction) (x : Context) → leads_on i ≡ false → turn_at c i x ≡ gives (Found (record { instruction = i; context = x }))
+pub turn_plain : (c : Core) (i : Instruction) (x : Context) → leads_on i ≡ false → turn_at c i x ≡ gives (Found (record { instruction = i; context = x }))
 unfolding turn_at
 turn_plain c Xct x h = cc
 turn_plain c _ x h = refl
 
-plain_turn : (c : Core) (j : Job) (w : ℕ) (i : Instruction) (e : Address) → decoded w ≡ Ok i → leads_on i ≡ false → (address c w 0).answer ≡ Ok e
+pub plain_turn : (c : Core) (j : Job) (w : ℕ) (i : Instruction) (e : Address) → decoded w ≡ Ok i → leads_on i ≡ false → (address c w 0).answer ≡ Ok e
     → (turn c j w 0).answer ≡ Ok (Found (record { instruction = i; context = context_of j w e (address c w 0).used }))
 unfolding turn also located
 plain_turn c j w i e d p a = rw (d, a) (ap (λ m. m.answer) (turn_plain c i (context_of j w e (address c w 0).used) p))

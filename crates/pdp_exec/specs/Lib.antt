@@ -2,3 +2,4 @@ pub mod Answer
 pub mod Ready
 pub mod Stores
 pub mod Units
+pub mod Near

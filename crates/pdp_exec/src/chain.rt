@@ -23,7 +23,7 @@ const WORDS: u32 = BUDGET + 1;
 pub type Places = ArrayVec<u32, 160>;
 
 /// The AC field of an instruction word.
-fn ac_field(w: Word) -> u32
+pub(crate) fn ac_field(w: Word) -> u32
     ensures value { result ≡ ac_of w }
     ensures below { result < 16 }
 {
@@ -54,7 +54,7 @@ fn is_legal(i: Instruction, a: u32) -> bool
 /// The instruction of a word; Ilo if it is not in the tables.
 #[inline(always)]
 #[tactic(auto, unfolding(its_plain::specs::Unit::decoded))]
-fn instruction(w: Word) -> Result<Instruction, Fault>
+pub(crate) fn instruction(w: Word) -> Result<Instruction, Fault>
     ensures instruction { result ≡ decoded w }
     ensures numbers { IfOk result IsRow }
 {
@@ -67,7 +67,7 @@ fn instruction(w: Word) -> Result<Instruction, Fault>
 }
 
 /// I of an address word.
-fn is_indirect(w: Word) -> bool
+pub(crate) fn is_indirect(w: Word) -> bool
     ensures { result ≡ is_indirect w }
 {
     w.value() >> 22 & 1 == 1

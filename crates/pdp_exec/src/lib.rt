@@ -14,6 +14,7 @@ mod chain;
 mod comparisons;
 mod making;
 mod moves;
+mod near;
 mod plans;
 mod reads;
 mod series;
@@ -22,5 +23,6 @@ mod stores;
 mod tests;
 mod units;
 
+pub use near::{Near, call_at_hand};
 pub use series::run_units;
 pub use units::{Ended, Outcome, run, site, unit};

@@ -3,7 +3,7 @@ use Rattle.its_monitor.specs.Ticks.{UnitIn}
 use Rattle.its_monitor.proofs.UserLaws.{unit_tidy}
 use Rattle.std.proofs.Common.{◌∙◌}
 use Rattle.its_monitor.proofs.FramesLaws.{unit_frames}
-use Rattle.its_monitor.proofs.users.make_unit.Goals as goal
+use Rattle.its_monitor.proofs.users.make_any.Goals as goal
 
 pub returns-then-unit_in_place-clause-tidy : goal.returns-then-unit_in_place-clause-tidy
 returns-then-unit_in_place-clause-tidy c =

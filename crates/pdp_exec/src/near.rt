@@ -1,0 +1,54 @@
+//! Calls of the monitor whose word is at the PC, and whose address is its right half.
+ghost use Rattle.std.specs.Prelude.{◌≡◌, ◌<◌, ◌^◌, IfSome};
+ghost use Rattle.its_core.specs.Cores.{core_at};
+ghost use Rattle.its_word.specs.Address.{index_of};
+ghost use Rattle.its_word.specs.Limits.{slots};
+ghost use Rattle.its_plain.specs.Unit.{Called, unit as unit_of};
+ghost use Rattle.pdp_exec.specs.Near.{near_site};
+
+use super::chain::{ac_field, instruction, is_indirect};
+use super::reads::read;
+use its_core::Core;
+use its_word::{Instruction, Job, Word};
+
+/// A call at a job's PC: its E, and its channel if it is `.IOT`.
+#[derive(Clone, Copy, Debug, PartialEq, Eq)]
+pub struct Near {
+    pub e: u32,
+    pub channel: Option<u8>,
+}
+
+/// X of an address word.
+fn index(w: Word) -> u32
+    ensures { result ≡ index_of w }
+{
+    (w.value() >> 18 & 0o17) as u32
+}
+
+/// The call at a job's PC, if its unit is one and no word but that at the PC is read on the way. A call without it can still be one.
+#[inline(always)]
+#[tactic(auto, using(crate::proofs::NearLaws::near_iot, crate::proofs::NearLaws::near_call))]
+pub fn call_at_hand(core: &Core, slot: u8, job: &Job) -> Option<Near>
+    requires slot { slot < slots }
+    requires pc { job.now.pc < 2 ^ 18 }
+    ensures { IfSome result (λ n. unit_of (core_at core.now slot) job.now ≡ Called (near_site job.now.pc n)) }
+{
+    let w = read(core, slot, job.pc).ok()?;
+    if is_indirect(w) {
+        return None;
+    }
+    if index(w) != 0 {
+        return None;
+    }
+    match instruction(w) {
+        Ok(Instruction::Iot) => Some(Near {
+            e: w.right(),
+            channel: Some(ac_field(w) as u8),
+        }),
+        Ok(Instruction::Call) => Some(Near {
+            e: w.right(),
+            channel: None,
+        }),
+        _ => None,
+    }
+}
