@@ -1,22 +1,57 @@
--- The page that a slot has reserved: whether there is one, and its quarters.
-use Rattle.std.specs.Prelude.{if◌then◌else◌, ◌≡◌, ℕ, ◌+◌, Option, Some, None, option_map, refl}
-use Rattle.std.proofs.Common.{◌∙◌, ap, eq-eqb}
-use Rattle.its_core.specs.Cores.{Cores, Reserved, clear_at, clear_with}
-use Rattle.its_core.specs.Frames.{Frames, frames_reserve}
-use Rattle.its_world.specs.World.{frames_after}
+-- A page of zeros that is made: it is reserved and cleared, and then mapped. So it has the first of the free frames.
+use Rattle.std.specs.Prelude.{◌≡◌, ℕ, refl}
+use Rattle.std.proofs.Common.{sym, ◌∙◌, ap}
+use Rattle.its_word.specs.Only.{Only, Same}
+use Rattle.its_word.specs.Core.{Core, store}
+use Rattle.its_core.specs.Cores.{core_at, reserved_at, clear_at}
+use Rattle.its_jobs.specs.Table.{job_at}
+use Rattle.its_world.proofs.PlaceLaws.{ringed_alike}
+use Rattle.its_world.specs.World.{frame_at, with_frames, CoreBecomes}
+use Rattle.its_world.specs.declared.world.World.{World}
+use Rattle.its_world.proofs.WorldLaws.{alike, frames_still}
 
-unmapped : (o : Option Reserved) → option_map (λ r. r.clear) o ≡ None → o ≡ None
-unmapped None h = refl
-unmapped (Some r) h = cc
+-- if the frames of pages are unchanged, the core of its slot alone would be another
+pub page_becomes : (old new : World) (s : ℕ) (c : Core) → Only (core_at old.core) (core_at new.core) s c → Same (clear_at old.core) (clear_at new.core)
+    → new.jobs ≡ old.jobs → new.frames ≡ old.frames → new.consoles ≡ old.consoles → new.holders ≡ old.holders → new.files ≡ old.files → new.clock ≡ old.clock → new.alarms ≡ old.alarms → new.version ≡ old.version → new.symbols ≡ old.symbols → new.pipes ≡ old.pipes → new.rings ≡ old.rings
+    → CoreBecomes old (with_frames new old.core.frames) s c
+unfolding core_at reserved_at
+page_becomes old new s c core reserved jobs frames consoles holders files clock alarms version symbols pipes rings = record {
+  core = core;
+  job = alike _ _ s (λ k. ap (λ t. job_at t k) jobs);
+  superiors = ap (λ t. t.superiors) jobs;
+  frame = alike _ _ s (λ k. ap (λ t. frame_at t.items k) frames);
+  reserved = alike _ _ s (reserved.each);
+  pages = sym (frames_still (clear_at old.core s) s old.core.frames);
+  consoles = consoles;
+  holders = holders;
+  files = files;
+  clock = clock;
+  alarms = alarms;
+  version = version;
+  symbols = symbols;
+  pipes = pipes;
+  ringed = ringed_alike old (with_frames new old.core.frames) jobs frames consoles holders clock pipes rings;
+}
 
-pub quarter_cleared : (c : Cores) (s q : ℕ) → clear_at c s ≡ Some q → option_map (clear_with q) (clear_at c s) ≡ Some (q + 1)
-quarter_cleared c s q h = ap (option_map (clear_with q)) h ∙ ap (λ b. Some (if b then q + 1 else q)) (eq-eqb q q refl)
-
--- its frame is the first free one, and stays as its quarters are cleared
-pub frames_reserved : (o : Option ℕ) (n s : ℕ) (f : Frames) → o ≡ None → frames_after o (Some n) s f ≡ frames_reserve s f
-frames_reserved None n s f h = refl
-frames_reserved (Some k) n s f h = cc
-
-pub frames_cleared : (o : Option ℕ) (q n s : ℕ) (f : Frames) → o ≡ Some q → frames_after o (Some n) s f ≡ f
-frames_cleared (Some k) q n s f h = refl
-frames_cleared None q n s f h = cc
+pub page_then_store : (old mid new : World) (s a x : ℕ) (c : Core) → CoreBecomes old (with_frames mid old.core.frames) s c → CoreBecomes mid new s (store (core_at mid.core s) a x)
+    → CoreBecomes old (with_frames new old.core.frames) s (store c a x)
+unfolding core_at reserved_at
+page_then_store old mid new s a x c h t = record {
+  core = record { here = t.core.here ∙ ap (λ d. store d a x) h.core.here; others = λ k n. t.core.others k n ∙ h.core.others k n };
+  job = record { here = t.job.here ∙ h.job.here; others = λ k n. t.job.others k n ∙ h.job.others k n };
+  superiors = t.superiors ∙ h.superiors;
+  frame = record { here = t.frame.here ∙ h.frame.here; others = λ k n. t.frame.others k n ∙ h.frame.others k n };
+  reserved = record { here = t.reserved.here ∙ h.reserved.here; others = λ k n. t.reserved.others k n ∙ h.reserved.others k n };
+  pages = sym (frames_still (clear_at old.core s) s old.core.frames);
+  consoles = t.consoles ∙ h.consoles;
+  holders = t.holders ∙ h.holders;
+  files = t.files ∙ h.files;
+  clock = t.clock ∙ h.clock;
+  alarms = t.alarms ∙ h.alarms;
+  version = t.version ∙ h.version;
+  symbols = t.symbols ∙ h.symbols;
+  pipes = t.pipes ∙ h.pipes;
+  ringed = λ r.
+      ringed_alike new (with_frames new old.core.frames) refl refl refl refl refl refl refl
+      (t.ringed (ringed_alike (with_frames mid old.core.frames) mid refl refl refl refl refl refl refl (h.ringed r)));
+}

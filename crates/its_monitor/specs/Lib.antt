@@ -1,4 +1,5 @@
-pub mod Ticks
-pub mod Beside
+pub mod Kept
+pub mod Filing
 pub mod Loading
-pub mod Pages
+pub mod Peeking
+pub mod Rung

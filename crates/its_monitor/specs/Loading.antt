@@ -5,7 +5,7 @@ use Rattle.its_word.specs.declared.session.Refusal.{Refusal}
 use Rattle.its_word.specs.declared.session.Refusal.TheVariants as refusals
 use Rattle.its_plain.specs.OperatorJobs.{loaded}
 use Rattle.its_stepped.specs.State.{State}
-use Rattle.its_operator.specs.Kept.{Refused}
+use Rattle.its_monitor.specs.Kept.{Refused}
 
 -- a console is named that there is not: consoles are numbered from 0 to 7
 abbrev pub no_console : Option ℕ → Bool

@@ -1,30 +1,42 @@
-//! The monitor: ticks of jobs, and the operator's calls.
+//! The monitor: one world, the tick of its jobs, and the operator's calls, which are what the lines of a session do to
+//! the world, and what they show. A call that names a job leaves the world as it was if it is refused; else the job is
+//! first unwound to user mode, except by PEEK and SYM. A call on files first performs the pending parts of a close.
 //!
-//! Proved:
-//! - `tick` is the tick of the stepped machine (`state`, `pace`). So the plain machine takes its step exactly with `*`,
-//!   and the letter is licensed (`licensed`; the count of `.` is part of the transcript theorem instead).
-//! - The letter of a call that was found not ready is `w` exactly if the slot is on a wait list, even if it is there
-//!   wrongly (`waits`, `ring`).
-//! - Each byte or word of a SIOT is moved once (`once`). What a tick leaves of other slots is `others`; in which page
-//!   frames pages are after it, and which are free, is `pages`.
-//! - `steps` leaves the state of so many ticks (`state`), each with the letter `*` (`paces`). They are no more than
-//!   were asked (`few`), and if they are fewer, no unit is due (`most`).
-//! - `running` is true exactly if the slot has a job that is not stopped, on the raw and on the plain machine (`raw`,
-//!   `plain`), and changes nothing.
-//! - The calls of `Monitor` for the lines of a session are the operator's definitions on the plain machine (`plain`)
-//!   and on the stepped machine (`done`, `shown`, `word`, `unwinds`), with exactly their refusals. A refused call
-//!   changes nothing (`refused`, `same`); a console above 7 is refused as NoConsole. What holds between two calls is
-//!   kept (`kept`).
+//! Proved of `Monitor` over the whole state:
+//! - `tick`, `steps` and `running` are those of its_tick. Each byte or word of a SIOT is also moved once (`once`).
+//! - `open`, `load_job`, `load_word`, `go`, `stop`, `cont`, `interrupt`, `exam`, `deposit`, `state`, `advance`,
+//!   `version`, `read_only`, `symbol`, and `type_in` and `drain` of one byte: each is the operator's definition on the
+//!   plain machine (`plain`) and its exact row on the stepped machine (`done`, `shown`, `word`, `unwinds`). Its
+//!   refusals are those of the definition, and a console above 7 is refused as NoConsole (`there`, `refused`). A
+//!   refused call changes nothing (`same`). What holds between two calls is kept (`kept`).
+//! - `exam` and `state` leave the plain machine unchanged (`leaves`).
+//! - `barred` says whether an `a/` line would store on a read-only page, before and after its job is unwound (`plain`,
+//!   `calmed`).
+//! - Each page stays in its page frame, except that an unwound slot gives its reserved page back (`cores`, `core`),
+//!   that `load_word` maps an absent page, and that `advance` unwinds the jobs whose alarm is due (`pages`).
+//! - `peek` shows `peeked` of the state (`shown`), or is NoJob exactly if the slot is empty (`some`, `refused`).
+//! - `dir`, `file`, `file_length`, `file_word`, `file_new` and `file_add` first perform the pending parts of a close
+//!   (`state`). `dir` and `file` show the files of the plain machine (`shown`, `found`), `file_length` and `file_word`
+//!   the words of a file number (`length`, `word`); these four leave the plain machine unchanged (`plain`). `file_new`
+//!   and `file_add` are the operator's definitions on the plain machine, with exactly their refusals (`plain`,
+//!   `refused`). The first four change no more of the world than the files, by these parts, and so do the other two if
+//!   they are refused (`alone`).
 #![tactic(auto)]
 
-mod calls;
+mod clock;
+mod filing;
+mod loading;
 mod monitor;
-mod reach;
-mod ready;
-mod ticks;
-mod users;
+mod pages;
+mod peeking;
+mod registers;
+mod symbols;
+#[cfg(test)]
+mod tests;
+mod typing;
+mod words;
 
-pub use its_word::{JobShow, NoMemory, Pace, Peek, Refusal};
+pub use its_tick::tick;
+pub use its_word::{FileShow, JobShow, NoMemory, Pace, Peek, Refusal};
 pub use its_world::World;
 pub use monitor::Monitor;
-pub use ticks::tick;

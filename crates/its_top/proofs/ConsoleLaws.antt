@@ -10,7 +10,7 @@ use Rattle.its_plain.specs.OperatorConsoles.{typed, dropped, drained}
 use Rattle.its_plain.proofs.MachineLaws.{machine_is}
 use Rattle.its_stepped.specs.State.{State}
 use Rattle.its_stepped.specs.Lines.{with_raw}
-use Rattle.its_operator.specs.Kept.{Lands}
+use Rattle.its_monitor.specs.Kept.{Lands}
 use Rattle.its_top.specs.Answer.{TypedSo, DrainedSo}
 use Rattle.its_top.proofs.LoadingLaws.{front}
 use Rattle.its_top.proofs.PerformLaws.{landed}

@@ -31,8 +31,8 @@ use Rattle.its_world.specs.declared.world.World.{World}
 use Rattle.its_world.proofs.MarkLaws.{none_marked, made_none}
 use Rattle.its_parts.proofs.StoreLaws.{changed_same}
 use Rattle.its_word.specs.Refusals.{reason_of}
-use Rattle.its_operator.specs.Kept.{Lands, FileRefused}
-use Rattle.its_operator.specs.Filing.{word_if, length_if}
+use Rattle.its_monitor.specs.Kept.{Lands, FileRefused}
+use Rattle.its_monitor.specs.Filing.{word_if, length_if}
 use Rattle.its_top.specs.declared.turn.Turn.{Turn}
 use Rattle.its_top.specs.declared.turn.Turn.TheVariants as turns
 use Rattle.its_top.specs.Telling.{goes_on}

@@ -14,7 +14,7 @@ use Rattle.its_stepped.specs.Lines.{with_raw}
 use Rattle.its_stepped.specs.Sound.{Sound}
 use Rattle.its_stepped.proofs.UnwindLaws.{unwound_none, unwound_still}
 use Rattle.its_word.specs.Refusals.{reason_of}
-use Rattle.its_operator.specs.Kept.{Lands}
+use Rattle.its_monitor.specs.Kept.{Lands}
 use Rattle.its_top.specs.Answer.{LoadSo}
 
 -- a job in user mode stays so, whatever is written

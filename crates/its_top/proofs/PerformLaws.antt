@@ -28,9 +28,9 @@ use Rattle.its_stepped.specs.Lines.{calmed, peeked, paces_of, ticked}
 use Rattle.its_world.specs.World.{state_of}
 use Rattle.its_world.specs.declared.world.World.{World}
 use Rattle.its_word.specs.Refusals.{reason_of}
-use Rattle.its_operator.specs.Kept.{Lands, Loads}
-use Rattle.its_operator.specs.Kept as kept
-use Rattle.its_operator.specs.Rung.{roused}
+use Rattle.its_monitor.specs.Kept.{Lands, Loads}
+use Rattle.its_monitor.specs.Kept as kept
+use Rattle.its_monitor.specs.Rung.{roused}
 use Rattle.its_top.specs.declared.shown.Over.{Over}
 use Rattle.its_top.specs.declared.shown.Over.TheVariants as overs
 use Rattle.its_top.specs.declared.shown.Reply.TheVariants as replies

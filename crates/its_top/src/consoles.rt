@@ -5,13 +5,13 @@ ghost use Rattle.its_word.specs.Limits.{slots};
 ghost use Rattle.its_plain.specs.OperatorJobs.{loaded};
 ghost use Rattle.its_plain.specs.OperatorConsoles.{typed, drained};
 ghost use Rattle.its_world.specs.World.{state_of};
-ghost use Rattle.its_operator.specs.Kept.{Kept, Lands, Loads, Refused};
+ghost use Rattle.its_monitor.specs.Kept.{Kept, Lands, Loads, Refused};
 
 use its_monitor::Monitor;
 use its_word::{Refusal, Word};
 
 /// LOAD of a job on a console, or on none.
-#[tactic(auto, using(its_monitor::proofs::LoadLaws::refused_there))]
+#[tactic(auto, using(its_monitor::proofs::ConsoleLaws::refused_there))]
 pub fn load_job(m: &mut Monitor, u: Word, j: Word, console: Option<u8>) -> Result<u8, Refusal>
     requires sound { Kept m.old.world }
     requires console { IfSome console (λ c. c < 8) }

@@ -7,7 +7,7 @@ ghost use Rattle.its_plain.specs.OperatorFiles.{word_added, words_added, files_i
 ghost use Rattle.its_stepped.specs.Unwind.{help};
 ghost use Rattle.its_world.specs.World.{state_of};
 ghost use Rattle.its_word.specs.Refusals.{reason_of};
-ghost use Rattle.its_operator.specs.Kept.{Kept, Lands};
+ghost use Rattle.its_monitor.specs.Kept.{Kept, Lands};
 ghost use Rattle.its_print.specs.Printing.{Filed, Row, text_of_line, text};
 ghost use Rattle.its_top.specs.Causes.{TurnCause};
 ghost use Rattle.its_top.specs.Answer.{Tells, Stood, block_of};

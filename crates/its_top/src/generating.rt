@@ -8,7 +8,7 @@ ghost use Rattle.its_session.specs.Generated.{IsGenerated, generated_session};
 ghost use Rattle.its_plain.specs.Machine.{no_machine};
 ghost use Rattle.its_stepped.specs.State.{no_state};
 ghost use Rattle.its_world.specs.World.{state_of};
-ghost use Rattle.its_operator.specs.Kept.{Kept};
+ghost use Rattle.its_monitor.specs.Kept.{Kept};
 ghost use Rattle.its_print.specs.Runs.{paces_in};
 ghost use Rattle.its_top.specs.Checking.{WroteText};
 ghost use Rattle.its_top.specs.Performing.{line_of};

@@ -10,7 +10,7 @@ ghost use Rattle.its_stepped.specs.Unwind.{unwound};
 ghost use Rattle.its_stepped.specs.Lines.{paces_of, ticked};
 ghost use Rattle.its_world.specs.World.{state_of};
 ghost use Rattle.its_word.specs.Refusals.{reason_of};
-ghost use Rattle.its_operator.specs.Kept.{Kept, Lands};
+ghost use Rattle.its_monitor.specs.Kept.{Kept, Lands};
 ghost use Rattle.its_print.specs.Runs.{paces_in};
 ghost use Rattle.its_top.specs.Answer.{FindsStart, block_of};
 ghost use Rattle.its_top.specs.Performing.{Performed, quiet};

@@ -1,7 +1,7 @@
 //! The result of an event is printed.
 ghost use Rattle.std.specs.Prelude.{◌≡◌, ◌≤◌, ◌-◌, [], IfOk, length};
 ghost use Rattle.its_world.specs.World.{state_of};
-ghost use Rattle.its_operator.specs.Kept.{Kept};
+ghost use Rattle.its_monitor.specs.Kept.{Kept};
 ghost use Rattle.its_print.specs.Printing.{text_of_line, text};
 ghost use Rattle.its_print.specs.Runs.{paces_in};
 ghost use Rattle.its_top.specs.Causes.{TurnCause};

@@ -6,7 +6,7 @@ use Rattle.its_links.specs.Lists.{list_at, count}
 use Rattle.its_links.proofs.CountLaws.{hit_same, count-append}
 use Rattle.its_world.specs.World.{frame_at}
 use Rattle.its_world.specs.declared.world.World.{World}
-use Rattle.its_monitor.specs.Ticks.{InRing, is_waiting}
+use Rattle.its_tick.specs.Ticks.{InRing, is_waiting}
 
 pub at_end : (old : List (List ℕ)) (s : ℕ) → 2 < length old → 0 < count s (list_at (slice_set old 2 (list_at old 2 ++ s ∷ [])) 2)
 at_end old s long =

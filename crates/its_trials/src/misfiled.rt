@@ -3,9 +3,9 @@
 ghost use Rattle.std.specs.Prelude.{◌≡◌, ◌<◌, true, IsTrue, IfOk, length};
 ghost use Rattle.its_links.specs.Lists.{list_at, count};
 ghost use Rattle.its_word.specs.Limits.{slots};
-ghost use Rattle.its_operator.specs.Kept.{Kept};
+ghost use Rattle.its_monitor.specs.Kept.{Kept};
 ghost use Rattle.its_world.specs.World.{frame_at};
-ghost use Rattle.its_monitor.specs.Ticks.{InRing, is_waiting};
+ghost use Rattle.its_tick.specs.Ticks.{InRing, is_waiting};
 
 use its_calls::View;
 use its_links::Links;

@@ -3,7 +3,7 @@ use Rattle.its_plain.specs.OperatorFiles.{word_added}
 use Rattle.its_stepped.specs.Unwind.{help}
 use Rattle.its_world.specs.World.{state_of}
 use Rattle.its_word.specs.Refusals.{reason_of}
-use Rattle.its_operator.specs.Kept.{Lands}
+use Rattle.its_monitor.specs.Kept.{Lands}
 use Rattle.its_top.proofs.FilingLaws.{three, adds_done, adds_refused, adds_nothing}
 use Rattle.its_top.proofs.filing.add_word.Goals as goal
 

@@ -1,7 +1,7 @@
 use Rattle.std.proofs.Common.{drop}
 use Rattle.its_stepped.specs.Unwind.{help}
 use Rattle.its_world.specs.World.{state_of}
-use Rattle.its_operator.specs.Kept.{Kept}
+use Rattle.its_monitor.specs.Kept.{Kept}
 use Rattle.its_top.specs.Answer.{AddSo}
 use Rattle.its_top.proofs.filing.add_words.Given as goal
 

@@ -2,7 +2,7 @@ use Rattle.std.proofs.Common.{◌≤◌, length}
 use Rattle.its_plain.specs.OperatorFiles.{files_in}
 use Rattle.its_stepped.specs.Unwind.{help}
 use Rattle.its_world.specs.World.{state_of}
-use Rattle.its_operator.specs.Kept.{Kept}
+use Rattle.its_monitor.specs.Kept.{Kept}
 use Rattle.its_top.specs.Answer.{Looked}
 use Rattle.its_top.proofs.filing.count_files.Given as goal
 

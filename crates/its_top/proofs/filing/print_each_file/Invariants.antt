@@ -1,7 +1,7 @@
 use Rattle.std.proofs.Common.{◌≡◌, map}
 use Rattle.its_plain.specs.OperatorFiles.{files_in, filed_line}
 use Rattle.its_world.specs.World.{state_of}
-use Rattle.its_operator.specs.Kept.{Kept}
+use Rattle.its_monitor.specs.Kept.{Kept}
 use Rattle.its_top.specs.Answer.{Stood, WritesSo}
 use Rattle.its_top.proofs.FilingLaws.{listed_from}
 use Rattle.its_top.proofs.filing.print_each_file.Given as goal

@@ -1,7 +1,7 @@
 use Rattle.std.proofs.Common.{◌≡◌, ◌+◌, ◌/◌}
 use Rattle.its_files.specs.Files.{words_at}
 use Rattle.its_plain.specs.OperatorFiles.{rows}
-use Rattle.its_operator.specs.Kept.{Kept}
+use Rattle.its_monitor.specs.Kept.{Kept}
 use Rattle.its_top.specs.Answer.{Stood, WritesSo}
 use Rattle.its_top.proofs.FilingLaws.{rows_from}
 use Rattle.its_top.proofs.filing.print_rows.Given as goal

@@ -2,7 +2,7 @@ use Rattle.std.proofs.Common.{◌≤◌, ◌<◌, ◌+◌, ◌-◌, ◌*◌, len
 use Rattle.its_word.specs.Limits.{slots}
 use Rattle.its_session.specs.Generated.{generated_session}
 use Rattle.its_world.specs.World.{state_of}
-use Rattle.its_operator.specs.Kept.{Kept}
+use Rattle.its_monitor.specs.Kept.{Kept}
 use Rattle.its_top.specs.Generating.{generated_tally, PlaySo}
 use Rattle.its_top.proofs.generating.play_all.Given as goal
 

@@ -1,7 +1,7 @@
 use Rattle.std.proofs.Common.{◌≡◌, ◌≤◌, ◌-◌, length}
 use Rattle.its_print.specs.Runs.{paces_in}
 use Rattle.its_world.specs.World.{state_of}
-use Rattle.its_operator.specs.Kept.{Kept}
+use Rattle.its_monitor.specs.Kept.{Kept}
 use Rattle.its_top.specs.Answer.{PacesSo}
 use Rattle.its_top.proofs.performing.paces_of.Given as goal
 

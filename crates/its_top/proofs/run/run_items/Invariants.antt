@@ -5,7 +5,7 @@ use Rattle.its_session.specs.Events.{most_lines}
 use Rattle.its_plain.specs.Machine.{no_machine}
 use Rattle.its_stepped.specs.State.{no_state}
 use Rattle.its_reader.specs.Lines.{Ready}
-use Rattle.its_operator.specs.Kept.{Kept}
+use Rattle.its_monitor.specs.Kept.{Kept}
 use Rattle.its_world.specs.World.{state_of}
 use Rattle.its_top.specs.Answer.{block_of}
 use Rattle.its_top.specs.Conclusion.{SoFar}

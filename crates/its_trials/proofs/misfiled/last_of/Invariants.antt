@@ -1,4 +1,4 @@
-use Rattle.its_operator.specs.Kept.{Kept}
+use Rattle.its_monitor.specs.Kept.{Kept}
 use Rattle.its_trials.proofs.misfiled.last_of.Given as goal
 
 abbrev pub invariant-loop-k : goal.invariant-loop-k

@@ -1,4 +1,4 @@
-use Rattle.its_operator.specs.Kept.{Kept}
+use Rattle.its_monitor.specs.Kept.{Kept}
 use Rattle.its_trials.proofs.misfiled.started.Given as goal
 
 abbrev pub invariant-loop-a : goal.invariant-loop-a

@@ -1,0 +1,96 @@
+ghost use Rattle.std.specs.Prelude.{◌≡◌, ◌<◌, false, Some, None, Ok, IfSome, IfOk, OnOk, OnErr, IfErr};
+ghost use Rattle.its_word.specs.Limits.{slots};
+ghost use Rattle.its_word.specs.Tree.{least_free};
+ghost use Rattle.its_jobs.specs.Table.{job_at};
+ghost use Rattle.its_plain.specs.OperatorJobs.{loaded, with_holder};
+ghost use Rattle.its_stepped.specs.State.{plain};
+ghost use Rattle.its_world.specs.World.{state_of};
+ghost use Rattle.its_monitor.specs.Kept.{Kept, Loads, Alters};
+ghost use Rattle.its_monitor.specs.Loading.{no_console, LoadRefused};
+ghost use Rattle.its_world.specs.Made.{JobMade};
+
+use super::monitor::Monitor;
+use its_jobs::NoSlot;
+use its_word::{Refusal, Word};
+use its_world::World;
+
+/// How many consoles there are.
+const CONSOLES: u8 = 8;
+
+impl Monitor {
+    /// LOAD: makes a stopped job with these names and this console in the least empty slot, which it answers. It
+    /// becomes the holder of its console, if that has none. NoConsole if the console is above 7; else Full if there
+    /// are as many jobs as there can be, 64, or 96 in version 2.
+    #[tactic(auto, using(crate::proofs::StartLaws::load_done, crate::proofs::StartLaws::load_plain, crate::proofs::StartLaws::load_kept, crate::proofs::StartLaws::load_full))]
+    pub fn load_job(&mut self, u: Word, j: Word, console: Option<u8>) -> Result<u8, Refusal>
+        requires kept { Kept self.old.world }
+        ensures done { IfOk result (λ s. Loads (state_of self.old.world) (state_of self.new.world) (loaded (state_of self.old.world).raw u j console) s) }
+        ensures plain { IfOk result (λ s. loaded (plain (state_of self.old.world)) u j console ≡ Ok (plain (state_of self.new.world), s)) }
+        ensures slot { IfOk result (λ s. s < slots) }
+        ensures there { OnOk result (no_console console ≡ false) }
+        ensures refused { IfErr result (λ e. LoadRefused (state_of self.old.world) u j console e) }
+        ensures same { OnErr result (self.new ≡ self.old) }
+        ensures core { self.new.world.core ≡ self.old.world.core }
+        ensures kept { Kept self.new.world }
+    {
+        let world = &mut self.world;
+        if no_console(console) {
+            return Err(Refusal::NoConsole);
+        }
+        match make(world, u, j, console) {
+            Ok(slot) => {
+                hold_console(world, slot, console);
+                Ok(slot)
+            }
+            Err(NoSlot) => Err(Refusal::Full),
+        }
+    }
+}
+
+/// Whether a console is named that there is not.
+fn no_console(console: Option<u8>) -> bool
+    ensures { result ≡ no_console console }
+{
+    match console {
+        Some(c) => c >= CONSOLES,
+        None => false,
+    }
+}
+
+/// Makes a job in the least free slot.
+fn make(w: &mut World, u: Word, j: Word, console: Option<u8>) -> Result<u8, NoSlot>
+    ensures slot { IfOk result (λ s. (least_free w.old.jobs.limit (job_at w.old.jobs) ≡ Some s) × (s < slots)) }
+    ensures made { IfOk result (λ s. JobMade w.old w.new s u j None console) }
+    ensures full { OnErr result (least_free w.old.jobs.limit (job_at w.old.jobs) ≡ None) }
+    ensures same { OnErr result (w.new ≡ w.old) }
+{
+    match w.jobs.create(u, j, None, console) {
+        Ok(slot) => Ok(slot),
+        Err(NoSlot) => Err(NoSlot),
+    }
+}
+
+/// Makes the job of a slot the holder of its console, if that has none.
+#[tactic(auto, using(crate::proofs::StartLaws::console_some, crate::proofs::StartLaws::console_none))]
+fn hold_console(w: &mut World, slot: u8, console: Option<u8>)
+    requires console { IfSome console (λ c. c < 8) }
+    ensures { Alters w.old w.new (with_holder (state_of w.old).raw slot console) }
+{
+    match console {
+        Some(c) => hold_free(w, slot, c),
+        None => {}
+    }
+}
+
+/// The same of this console.
+#[tactic(auto, using(crate::proofs::StartLaws::console_held, crate::proofs::StartLaws::console_given))]
+fn hold_free(w: &mut World, slot: u8, c: u8)
+    requires console { c < 8 }
+    ensures { Alters w.old w.new (with_holder (state_of w.old).raw slot (Some c)) }
+{
+    let holder = w.holders[usize::from(c)];
+    match holder {
+        Some(_) => {}
+        None => w.hold(c, Some(slot)),
+    }
+}

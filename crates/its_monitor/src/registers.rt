@@ -1,0 +1,179 @@
+ghost use Rattle.std.specs.Prelude.{◌≡◌, ◌<◌, ◌^◌, true, false, Some, None, Ok, IfOk, OnOk, OnErr, IfErr};
+ghost use Rattle.its_word.specs.Limits.{slots};
+ghost use Rattle.its_jobs.specs.Table.{job_at};
+ghost use Rattle.its_plain.specs.Job.{pc_word};
+ghost use Rattle.its_plain.specs.OperatorJobs.{on_registers, started, stopped, continued, interrupted, state_shown, shown};
+ghost use Rattle.its_stepped.specs.State.{plain};
+ghost use Rattle.its_stepped.specs.Unwind.{unwound};
+ghost use Rattle.its_world.specs.World.{state_of};
+ghost use Rattle.its_pclsr.specs.Apart.{CoresOff};
+ghost use Rattle.its_monitor.specs.Kept.{Kept, Lands, Refused, Calm};
+
+use super::monitor::Monitor;
+use super::symbols::near;
+use its_pclsr::unwind;
+use its_word::{FATAL, Job, JobShow, Refusal, Word, pc_word};
+use its_world::World;
+
+impl Monitor {
+    /// GO: starts a slot's job at an address, with no flags. NoJob if the slot is empty.
+    #[tactic(auto, using(crate::proofs::RegisterLaws::go_done, crate::proofs::RegisterLaws::go_plain, crate::proofs::RegisterLaws::go_kept, crate::proofs::RegisterLaws::registers_refused, crate::proofs::KeptLaws::registers_off))]
+    pub fn go(&mut self, slot: u8, a: u32) -> Result<(), Refusal>
+        requires slot { slot < slots }
+        requires address { a < 2 ^ 18 }
+        requires kept { Kept self.old.world }
+        ensures done { OnOk result (Lands (unwound (state_of self.old.world) slot) (state_of self.new.world) (on_registers (unwound (state_of self.old.world) slot).raw slot (started a))) }
+        ensures plain { OnOk result (on_registers (plain (state_of self.old.world)) slot (started a) ≡ Ok (plain (state_of self.new.world))) }
+        ensures refused { IfErr result (λ e. Refused (state_of self.old.world) (unwound (state_of self.old.world) slot) (λ m. on_registers m slot (started a)) e) }
+        ensures same { OnErr result (self.new ≡ self.old) }
+        ensures cores { OnOk result (CoresOff self.old.world self.new.world slot) }
+        ensures kept { Kept self.new.world }
+    {
+        let world = &mut self.world;
+        let mut job = calmed(world, slot)?;
+        job.pc = a;
+        job.flags = 0;
+        job.stopped = false;
+        world.put_registers(slot, job);
+        Ok(())
+    }
+
+    /// STOP: sets the stopped mark of a slot's job. NoJob if the slot is empty.
+    #[tactic(auto, using(crate::proofs::RegisterLaws::stop_done, crate::proofs::RegisterLaws::stop_plain, crate::proofs::RegisterLaws::stop_kept, crate::proofs::RegisterLaws::registers_refused, crate::proofs::KeptLaws::registers_off))]
+    pub fn stop(&mut self, slot: u8) -> Result<(), Refusal>
+        requires slot { slot < slots }
+        requires kept { Kept self.old.world }
+        ensures done { OnOk result (Lands (unwound (state_of self.old.world) slot) (state_of self.new.world) (on_registers (unwound (state_of self.old.world) slot).raw slot stopped)) }
+        ensures plain { OnOk result (on_registers (plain (state_of self.old.world)) slot stopped ≡ Ok (plain (state_of self.new.world))) }
+        ensures refused { IfErr result (λ e. Refused (state_of self.old.world) (unwound (state_of self.old.world) slot) (λ m. on_registers m slot stopped) e) }
+        ensures same { OnErr result (self.new ≡ self.old) }
+        ensures cores { OnOk result (CoresOff self.old.world self.new.world slot) }
+        ensures kept { Kept self.new.world }
+    {
+        let world = &mut self.world;
+        let mut job = calmed(world, slot)?;
+        job.stopped = true;
+        world.put_registers(slot, job);
+        Ok(())
+    }
+
+    /// CONT: lets a slot's job run, with no fatal bit pending. NoJob if the slot is empty.
+    #[tactic(auto, using(crate::proofs::RegisterLaws::cont_done, crate::proofs::RegisterLaws::cont_plain, crate::proofs::RegisterLaws::cont_kept, crate::proofs::RegisterLaws::registers_refused, crate::proofs::KeptLaws::registers_off))]
+    pub fn cont(&mut self, slot: u8) -> Result<(), Refusal>
+        requires slot { slot < slots }
+        requires kept { Kept self.old.world }
+        ensures done { OnOk result (Lands (unwound (state_of self.old.world) slot) (state_of self.new.world) (on_registers (unwound (state_of self.old.world) slot).raw slot continued)) }
+        ensures plain { OnOk result (on_registers (plain (state_of self.old.world)) slot continued ≡ Ok (plain (state_of self.new.world))) }
+        ensures refused { IfErr result (λ e. Refused (state_of self.old.world) (unwound (state_of self.old.world) slot) (λ m. on_registers m slot continued) e) }
+        ensures same { OnErr result (self.new ≡ self.old) }
+        ensures cores { OnOk result (CoresOff self.old.world self.new.world slot) }
+        ensures kept { Kept self.new.world }
+    {
+        let world = &mut self.world;
+        let job = calmed(world, slot)?;
+        world.put_registers(slot, continued(job));
+        Ok(())
+    }
+
+    /// INT: sets bits of the pending words of a slot's job in addition to those that are set. NoJob if the slot is empty.
+    #[tactic(auto, using(crate::proofs::RegisterLaws::interrupt_done, crate::proofs::RegisterLaws::interrupt_plain, crate::proofs::RegisterLaws::interrupt_kept, crate::proofs::RegisterLaws::registers_refused, crate::proofs::KeptLaws::registers_off))]
+    pub fn interrupt(&mut self, slot: u8, v: Word, w: Word) -> Result<(), Refusal>
+        requires slot { slot < slots }
+        requires kept { Kept self.old.world }
+        ensures done { OnOk result (Lands (unwound (state_of self.old.world) slot) (state_of self.new.world) (on_registers (unwound (state_of self.old.world) slot).raw slot (interrupted v w))) }
+        ensures plain { OnOk result (on_registers (plain (state_of self.old.world)) slot (interrupted v w) ≡ Ok (plain (state_of self.new.world))) }
+        ensures refused { IfErr result (λ e. Refused (state_of self.old.world) (unwound (state_of self.old.world) slot) (λ m. on_registers m slot (interrupted v w)) e) }
+        ensures same { OnErr result (self.new ≡ self.old) }
+        ensures cores { OnOk result (CoresOff self.old.world self.new.world slot) }
+        ensures kept { Kept self.new.world }
+    {
+        let world = &mut self.world;
+        let job = calmed(world, slot)?;
+        world.put_registers(slot, interrupted(job, v, w));
+        Ok(())
+    }
+
+    /// STATE: what is shown of a slot's job. NoJob if the slot is empty.
+    #[tactic(auto, using(crate::proofs::RegisterLaws::state_found, crate::proofs::RegisterLaws::state_plain, crate::proofs::RegisterLaws::state_refused, crate::proofs::KeptLaws::calm_same, crate::proofs::KeptLaws::calm_off))]
+    pub fn state(&mut self, slot: u8) -> Result<JobShow, Refusal>
+        requires slot { slot < slots }
+        requires kept { Kept self.old.world }
+        ensures shown { IfOk result (λ x. state_shown (unwound (state_of self.old.world) slot).raw slot ≡ Ok x) }
+        ensures plain { IfOk result (λ x. state_shown (plain (state_of self.old.world)) slot ≡ Ok x) }
+        ensures unwinds { OnOk result (state_of self.new.world ≡ unwound (state_of self.old.world) slot) }
+        ensures leaves { plain (state_of self.new.world) ≡ plain (state_of self.old.world) }
+        ensures refused { IfErr result (λ e. Refused (state_of self.old.world) (unwound (state_of self.old.world) slot) (λ m. state_shown m slot) e) }
+        ensures same { OnErr result (self.new ≡ self.old) }
+        ensures cores { OnOk result (CoresOff self.old.world self.new.world slot) }
+        ensures kept { Kept self.new.world }
+    {
+        let world = &mut self.world;
+        let job = calmed(world, slot)?;
+        let superior = world.jobs.superior(slot);
+        let symbol = near(world, slot, job.pc);
+        Ok(shown(&job, superior, symbol))
+    }
+}
+
+/// The registers of a slot's job, which is unwound first. NoJob if the slot is empty.
+#[tactic(auto, using(crate::proofs::KeptLaws::unwound_kept, crate::proofs::KeptLaws::unwound_missing))]
+fn calmed(w: &mut World, slot: u8) -> Result<Job, Refusal>
+    requires slot { slot < slots }
+    requires kept { Kept w.old }
+    ensures calm { IfOk result (λ j. Calm w.old w.new slot j) }
+    ensures job { IfOk result (λ j. job_at w.new.jobs slot ≡ Some j) }
+    ensures refused { IfErr result (λ e. (e ≡ Refusal.NoJob) × (job_at w.old.jobs slot ≡ None)) }
+    ensures same { OnErr result (w.new ≡ w.old) }
+{
+    if w.registers(slot).is_none() {
+        return Err(Refusal::NoJob);
+    }
+    unwind(w, slot);
+    match w.registers(slot) {
+        Some(job) => Ok(job),
+        None => unreachable!(),
+    }
+}
+
+/// A job that runs, with no fatal bit pending.
+fn continued(job: Job) -> Job
+    ensures { result ≡ continued job }
+{
+    Job {
+        stopped: false,
+        pend1: job.pend1 & !Word::new(FATAL),
+        ..job
+    }
+}
+
+/// A job with more bits pending.
+fn interrupted(job: Job, v: Word, x: Word) -> Job
+    ensures { result ≡ interrupted v x job }
+{
+    Job {
+        pend1: job.pend1 | v,
+        pend2: job.pend2 | x,
+        ..job
+    }
+}
+
+/// What STATE shows of a job with this superior and this nearest symbol.
+fn shown(job: &Job, superior: Option<u8>, symbol: Option<(Word, u32)>) -> JobShow
+    ensures { result ≡ shown job.now superior symbol }
+{
+    JobShow {
+        u: job.uname,
+        j: job.jname,
+        sup: superior,
+        con: job.console,
+        run: !job.stopped,
+        pc: pc_word(job.flags, job.pc),
+        p1: job.pend1,
+        p2: job.pend2,
+        m1: job.mask1,
+        m2: job.mask2,
+        d1: job.defer1,
+        d2: job.defer2,
+        symbol,
+    }
+}

@@ -1,0 +1,71 @@
+ghost use Rattle.std.specs.Prelude.{◌≡◌, ◌<◌, ◌≤◌, Ok, IfOk, OnOk, OnErr, IfErr, nat_lt, length};
+ghost use Rattle.its_word.specs.Limits.{slots, most_symbols};
+ghost use Rattle.its_plain.specs.OperatorSymbols.{symbol_shown, symbol_kept};
+ghost use Rattle.its_plain.specs.OperatorVersion.{versioned};
+ghost use Rattle.its_stepped.specs.State.{plain};
+ghost use Rattle.its_world.specs.World.{state_of, symbols_at};
+ghost use Rattle.its_monitor.specs.Kept.{Kept, Lands, Refused};
+
+use super::monitor::Monitor;
+use super::words::present;
+use its_parts::{MOST_SYMBOLS, nearest};
+use its_word::{Refusal, Word};
+use its_world::World;
+
+impl Monitor {
+    /// VERSION: if no slot has a job, the machine becomes one of this version, which can have 64 jobs, or 96 in version 2;
+    /// else it stays as it is.
+    #[tactic(auto, using(crate::proofs::SymbolLaws::version_plain, crate::proofs::SymbolLaws::version_kept, crate::proofs::SymbolLaws::version_stays, crate::proofs::SymbolLaws::version_same))]
+    pub fn version(&mut self, v: u8)
+        requires known { (1 ≤ v) × (v ≤ 2) }
+        requires kept { Kept self.old.world }
+        ensures done { Lands (state_of self.old.world) (state_of self.new.world) (Ok (versioned (state_of self.old.world).raw v)) }
+        ensures plain { versioned (plain (state_of self.old.world)) v ≡ plain (state_of self.new.world) }
+        ensures core { self.new.world.core ≡ self.old.world.core }
+        ensures kept { Kept self.new.world }
+    {
+        let world = &mut self.world;
+        if world.jobs.is_empty() {
+            world.set_version(v);
+        }
+    }
+
+    /// SYM: a slot's job keeps a symbol, the last. NoJob if the slot is empty, Full if the job has 512. The job is not
+    /// disturbed.
+    #[tactic(auto, using(crate::proofs::SymbolLaws::symbol_done, crate::proofs::SymbolLaws::symbol_plain, crate::proofs::SymbolLaws::symbol_keeps, crate::proofs::SymbolLaws::symbol_full, crate::proofs::SymbolLaws::symbol_none))]
+    pub fn symbol(&mut self, slot: u8, name: Word, a: u32) -> Result<(), Refusal>
+        requires slot { slot < slots }
+        requires kept { Kept self.old.world }
+        ensures done { OnOk result (Lands (state_of self.old.world) (state_of self.new.world) (symbol_kept (state_of self.old.world).raw slot name a)) }
+        ensures plain { OnOk result (symbol_kept (plain (state_of self.old.world)) slot name a ≡ Ok (plain (state_of self.new.world))) }
+        ensures refused { IfErr result (λ e. Refused (state_of self.old.world) (state_of self.old.world) (λ m. symbol_kept m slot name a) e) }
+        ensures same { OnErr result (self.new ≡ self.old) }
+        ensures core { self.new.world.core ≡ self.old.world.core }
+        ensures kept { Kept self.new.world }
+    {
+        let world = &mut self.world;
+        present(world, slot)?;
+        if has_room(world, slot) {
+            world.keep_symbol(slot, name, a);
+            Ok(())
+        } else {
+            Err(Refusal::Full)
+        }
+    }
+}
+
+/// Whether there is room for a symbol more of a slot.
+fn has_room(w: &World, slot: u8) -> bool
+    requires { slot < slots }
+    ensures { result ≡ nat_lt (length (symbols_at w.now.symbols.items slot)) most_symbols }
+{
+    w.symbols[usize::from(slot)].len() < MOST_SYMBOLS
+}
+
+/// The symbol of a slot's job that is nearest to a PC, and how far the PC is past it.
+pub fn near(w: &World, slot: u8, pc: u32) -> Option<(Word, u32)>
+    requires { slot < slots }
+    ensures { result ≡ symbol_shown pc (symbols_at w.now.symbols.items slot) }
+{
+    nearest(w.symbols[usize::from(slot)].as_slice(), pc)
+}

@@ -1,5 +1,0 @@
-use Rattle.its_operator.specs.Rung.{Rousing}
-use Rattle.its_operator.proofs.clock.unwind_due.Given as goal
-
-abbrev pub invariant-loop-slot : goal.invariant-loop-slot
-invariant-loop-slot l = record { rousing : Rousing l.clock l.slot l.fn.w l.w }

@@ -1,8 +1,0 @@
-use Rattle.its_operator.proofs.TypingLaws.{type_room, type_kept}
-use Rattle.its_operator.proofs.typing.type_in.Goals as goal
-
-pub returns-clause-waits : goal.returns-clause-waits
-returns-clause-waits c = type_room _ _ _ c.type_in.ensures.kept
-
-pub returns-clause-kept : goal.returns-clause-kept
-returns-clause-kept c = type_kept c.args.w.now c.type_in.new.self c.args.console c.args.b c.type_in.ensures.typed c.requires.kept

@@ -1,5 +1,0 @@
-pub mod Kept
-pub mod Filing
-pub mod Peeking
-pub mod Rung
-pub mod Waits

@@ -1,0 +1,5 @@
+pub mod Kept
+pub mod Waits
+pub mod Ticks
+pub mod Beside
+pub mod Pages

@@ -1,0 +1,255 @@
+//! Ticks of a job inside a call: its decoding in two steps, its preparation, its trials, and its pending steps. The frame stays in its
+//! place: a tick reads what it needs, and writes what it changes.
+ghost use Rattle.std.specs.Prelude.{if◌then◌else◌, ◌≡◌, ◌<◌, ◌+◌, Some, None, IfSome, IfErr, is_some, true, length};
+ghost use Rattle.its_word.specs.Limits.{slots};
+ghost use Rattle.its_calls.specs.Calls.{entered_in, parsed_in};
+ghost use Rattle.its_core.specs.Cores.{clear_at};
+ghost use Rattle.its_jobs.specs.Table.{job_at};
+ghost use Rattle.its_world.specs.Tidy.{Tidy};
+ghost use Rattle.its_commit.specs.Carried.{standing_of};
+ghost use Rattle.its_plain.specs.CallStep.{decision, faulted};
+ghost use Rattle.its_stepped.specs.Forest.{Forest};
+ghost use Rattle.its_stepped.specs.Duty.{IsTried};
+ghost use Rattle.its_stepped.specs.State.{turn};
+ghost use Rattle.its_stepped.specs.Tick.{helps, reserves, tick_in};
+ghost use Rattle.its_stepped.specs.Unwind.{unwind_one as unwind_one_of};
+ghost use Rattle.its_world.specs.World.{frame_at, frames_after, raw_at, state_of, PageBecomes};
+ghost use Rattle.its_tick.specs.Kept.{Kept};
+ghost use Rattle.its_tick.specs.Pages.{pages_in};
+ghost use Rattle.its_tick.specs.Ticks.{asked_in, pace_of, pace_decoded, state_decoded, ticked, IsClearing};
+
+use super::ready::make_ready;
+use call_core::{decide, reserves};
+use its_calls::{Next, View};
+use its_commit::{carry_out, standing};
+use its_frame::Decision;
+use its_pclsr::unwind_one;
+use its_word::{Fault, Pace};
+use its_world::World;
+
+/// The quarters of a page.
+const QUARTERS: u8 = 4;
+
+/// A tick of a slot's job that is inside a call.
+#[inline(never)]
+pub fn in_call(w: &mut World, slot: u8) -> Pace
+    requires slot { slot < slots }
+    requires kept { Kept w.old }
+    requires frame { is_some (frame_at w.old.frames.items slot) ≡ true }
+    ensures row { IfSome (raw_at w.old.files w.old.core w.old.jobs w.old.alarms.items slot) (λ q. tick_in (state_of w.old) slot q (frame_at w.old.frames.items slot) ≡ ticked (state_of w.new) result) }
+    ensures pages { IfSome (raw_at w.old.files w.old.core w.old.jobs w.old.alarms.items slot) (λ q. w.new.core.frames ≡ pages_in (state_of w.old) slot q (frame_at w.old.frames.items slot) w.old.core.frames) }
+    ensures tidy { Tidy w.new }
+{
+    match w.frame(slot) {
+        View::Holding { page, owes, .. } => match page {
+            Some(clear) if clear < QUARTERS => clear_next(w, slot, clear, owes),
+            _ => attempt(w, slot),
+        },
+        View::Waiting { .. } => attempt(w, slot),
+        View::Moving { .. } => pay(w, slot),
+        View::Ending { .. } => pay(w, slot),
+        View::Entered { .. } => parse(w, slot),
+        View::Parsed { .. } => fetch(w, slot),
+        View::Asked { ask, .. } => {
+            let page = reserves(ask);
+            prepare(w, slot, page)
+        }
+        View::User => unreachable!(),
+    }
+}
+
+/// One of the pending steps of a call.
+#[tactic(auto, using(crate::proofs::CallLaws::tidy_of))]
+fn pay(w: &mut World, slot: u8) -> Pace
+    requires slot { slot < slots }
+    requires kept { Kept w.old }
+    requires frame { is_some (frame_at w.old.frames.items slot) ≡ true }
+    ensures row { state_of w.new ≡ unwind_one_of (state_of w.old) slot }
+    ensures pace { result ≡ Pace.Work }
+    ensures pages { w.new.core.frames ≡ frames_after ((state_of w.old).reserved slot) ((unwind_one_of (state_of w.old) slot).reserved slot) slot w.old.core.frames }
+    ensures tidy { Tidy w.new }
+{
+    unwind_one(w, slot);
+    Pace::Work
+}
+
+/// The block of a call is read.
+fn parse(w: &mut World, slot: u8) -> Pace
+    requires slot { slot < slots }
+    requires kept { Kept w.old }
+    requires frame { is_some (entered_in (frame_at w.old.frames.items slot)) ≡ true }
+    ensures row { IfSome (raw_at w.old.files w.old.core w.old.jobs w.old.alarms.items slot) (λ q. tick_in (state_of w.old) slot q (frame_at w.old.frames.items slot) ≡ ticked (state_of w.new) result) }
+    ensures pages { IfSome (raw_at w.old.files w.old.core w.old.jobs w.old.alarms.items slot) (λ q. w.new.core.frames ≡ pages_in (state_of w.old) slot q (frame_at w.old.frames.items slot) w.old.core.frames) }
+    ensures tidy { Tidy w.new }
+{
+    let answer = w.parse(slot);
+    decoded(w, slot, answer)
+}
+
+/// The addresses and values of a call's arguments are found.
+fn fetch(w: &mut World, slot: u8) -> Pace
+    requires slot { slot < slots }
+    requires kept { Kept w.old }
+    requires frame { is_some (parsed_in (frame_at w.old.frames.items slot)) ≡ true }
+    ensures row { IfSome (raw_at w.old.files w.old.core w.old.jobs w.old.alarms.items slot) (λ q. tick_in (state_of w.old) slot q (frame_at w.old.frames.items slot) ≡ ticked (state_of w.new) result) }
+    ensures pages { IfSome (raw_at w.old.files w.old.core w.old.jobs w.old.alarms.items slot) (λ q. w.new.core.frames ≡ pages_in (state_of w.old) slot q (frame_at w.old.frames.items slot) w.old.core.frames) }
+    ensures tidy { Tidy w.new }
+{
+    let answer = w.fetch(slot);
+    decoded(w, slot, answer)
+}
+
+/// The letter of a step of the decoding. At a fault the job, which is in user mode again, gets its bit.
+#[inline]
+fn decoded(w: &mut World, slot: u8, answer: Result<(), Fault>) -> Pace
+    requires slot { slot < slots }
+    requires job { is_some (job_at w.old.jobs slot) ≡ true }
+    requires frame { IfErr answer (λ f. frame_at w.old.frames.items slot ≡ None) }
+    requires tidy { Tidy w.old }
+    ensures row { state_of w.new ≡ state_decoded (state_of w.old) slot answer }
+    ensures pace { result ≡ pace_decoded answer }
+    ensures pages { w.new.core.frames ≡ w.old.core.frames }
+    ensures tidy { Tidy w.new }
+{
+    match answer {
+        Ok(()) => Pace::Work,
+        Err(fault) => {
+            set_fault(w, slot, fault);
+            Pace::Step
+        }
+    }
+}
+
+/// Sets the bit of a fault in a slot's job.
+#[inline(never)]
+#[tactic(auto, using(its_commit::proofs::TidyLaws::becomes_pages, crate::proofs::CallLaws::fault_set))]
+fn set_fault(w: &mut World, slot: u8, fault: Fault)
+    requires slot { slot < slots }
+    requires job { is_some (job_at w.old.jobs slot) ≡ true }
+    requires frame { frame_at w.old.frames.items slot ≡ None }
+    requires tidy { Tidy w.old }
+    ensures row { state_of w.new ≡ turn (state_of w.old) slot (faulted fault) None }
+    ensures pages { w.new.core.frames ≡ w.old.core.frames }
+    ensures tidy { Tidy w.new }
+{
+    if let Some(mut job) = w.registers(slot) {
+        job.pend1 = job.pend1 | fault.bit();
+        w.put_registers(slot, job);
+    }
+}
+
+/// Prepares the call to be tried: one that makes a page reserves it.
+fn prepare(w: &mut World, slot: u8, page: bool) -> Pace
+    requires slot { slot < slots }
+    requires kept { Kept w.old }
+    requires frame { is_some (asked_in (frame_at w.old.frames.items slot)) ≡ true }
+    requires page { IfSome (asked_in (frame_at w.old.frames.items slot)) (λ a. page ≡ reserves a) }
+    ensures row { IfSome (raw_at w.old.files w.old.core w.old.jobs w.old.alarms.items slot) (λ q. tick_in (state_of w.old) slot q (frame_at w.old.frames.items slot) ≡ ticked (state_of w.new) result) }
+    ensures pages { IfSome (raw_at w.old.files w.old.core w.old.jobs w.old.alarms.items slot) (λ q. w.new.core.frames ≡ pages_in (state_of w.old) slot q (frame_at w.old.frames.items slot) w.old.core.frames) }
+    ensures tidy { Tidy w.new }
+{
+    if page {
+        reserve(w, slot);
+        w.go_to(
+            slot,
+            Next::Holding {
+                page: Some(0),
+                owes: 0,
+            },
+        );
+    } else {
+        w.go_to(
+            slot,
+            Next::Holding {
+                page: None,
+                owes: 0,
+            },
+        );
+    }
+    Pace::Work
+}
+
+/// Reserves a page for a slot, none of whose quarters is clear.
+#[tactic(auto, using(its_core::proofs::ZeroLaws::clear_unreserved))]
+fn reserve(w: &mut World, slot: u8)
+    requires slot { slot < slots }
+    requires none { clear_at w.old.core slot ≡ None }
+    ensures { PageBecomes w.old w.new slot (Some 0) }
+{
+    w.core.reserve(slot);
+}
+
+/// Clears the next quarter of the page that the call of a slot has reserved.
+fn clear_next(w: &mut World, slot: u8, clear: u8, owes: u8) -> Pace
+    requires slot { slot < slots }
+    requires kept { Kept w.old }
+    requires quarter { clear < 4 }
+    requires holds { IsClearing (frame_at w.old.frames.items slot) clear owes }
+    ensures row { IfSome (raw_at w.old.files w.old.core w.old.jobs w.old.alarms.items slot) (λ q. tick_in (state_of w.old) slot q (frame_at w.old.frames.items slot) ≡ ticked (state_of w.new) result) }
+    ensures pages { IfSome (raw_at w.old.files w.old.core w.old.jobs w.old.alarms.items slot) (λ q. w.new.core.frames ≡ pages_in (state_of w.old) slot q (frame_at w.old.frames.items slot) w.old.core.frames) }
+    ensures tidy { Tidy w.new }
+{
+    clear_quarter(w, slot, clear);
+    w.go_to(
+        slot,
+        Next::Holding {
+            page: Some(clear + 1),
+            owes,
+        },
+    );
+    Pace::Work
+}
+
+/// Clears the next quarter of the page that a slot has reserved.
+#[tactic(auto, using(its_world::proofs::WorldLaws::reserved_some, crate::proofs::PageLaws::quarter_cleared))]
+fn clear_quarter(w: &mut World, slot: u8, q: u8)
+    requires slot { slot < slots }
+    requires quarter { q < 4 }
+    requires page { clear_at w.old.core slot ≡ Some q }
+    ensures { PageBecomes w.old w.new slot (Some (q + 1)) }
+{
+    w.core.clear_quarter(slot, q);
+}
+
+/// A call is tried: the world is made ready for it, it is decided, and that is carried out.
+fn attempt(w: &mut World, slot: u8) -> Pace
+    requires slot { slot < slots }
+    requires kept { Kept w.old }
+    requires stands { is_some (standing_of (frame_at w.old.frames.items slot)) ≡ true }
+    requires clear { IfSome (standing_of (frame_at w.old.frames.items slot)) (λ f. IsTried f.page) }
+    ensures row { IfSome (raw_at w.old.files w.old.core w.old.jobs w.old.alarms.items slot) (λ q. tick_in (state_of w.old) slot q (frame_at w.old.frames.items slot) ≡ ticked (state_of w.new) result) }
+    ensures pages { IfSome (raw_at w.old.files w.old.core w.old.jobs w.old.alarms.items slot) (λ q. w.new.core.frames ≡ pages_in (state_of w.old) slot q (frame_at w.old.frames.items slot) w.old.core.frames) }
+    ensures tidy { Tidy w.new }
+{
+    make_ready(w, slot);
+    let decision = decide_in(w, slot);
+    let pace = pace_of(&decision);
+    carry_out(w, slot, decision);
+    pace
+}
+
+/// The decision of the call in the frame of a slot.
+fn decide_in(w: &World, slot: u8) -> Decision
+    requires slot { slot < slots }
+    requires job { is_some (job_at w.now.jobs slot) ≡ true }
+    requires stands { is_some (standing_of (frame_at w.now.frames.items slot)) ≡ true }
+    requires tidy { Tidy w.now }
+    requires forest { Forest (state_of w.now).raw }
+    requires unmarked { IfSome (standing_of (frame_at w.now.frames.items slot)) (λ f. IfSome (raw_at w.now.files w.now.core w.now.jobs w.now.alarms.items slot) (λ q. helps q f.ask ≡ true → w.now.files.mark ≡ None)) }
+    ensures { IfSome (standing_of (frame_at w.now.frames.items slot)) (λ f. IfSome (raw_at w.now.files w.now.core w.now.jobs w.now.alarms.items slot) (λ q. result ≡ decision (state_of w.now).raw slot q f.ask)) }
+{
+    let (ask, _) = standing(w, slot);
+    decide(w, slot, ask)
+}
+
+/// The letter of a trial.
+fn pace_of(decision: &Decision) -> Pace
+    ensures { result ≡ pace_of decision.now }
+{
+    match decision {
+        Decision::Waits(_) => Pace::Wait,
+        Decision::Goes { .. } => Pace::Step,
+        Decision::Ends { .. } => Pace::Step,
+        Decision::Gone { .. } => Pace::Step,
+    }
+}

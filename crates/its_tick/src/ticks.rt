@@ -1,0 +1,137 @@
+ghost use Rattle.std.specs.Prelude.{◌≡◌, ◌<◌, ◌≤◌, ◌⊎◌, ◌↔◌, ℕ, true, false, IsTrue, replicate};
+ghost use Rattle.its_word.specs.Limits.{slots};
+ghost use Rattle.its_world.specs.Tidy.{Tidy};
+ghost use Rattle.its_plain.specs.Licence.{Licensed};
+ghost use Rattle.its_plain.specs.Turns.{runs};
+ghost use Rattle.its_stepped.specs.State.{plain};
+ghost use Rattle.its_stepped.specs.Tick.{tick as tick_of};
+ghost use Rattle.its_stepped.specs.Lines.{paces_of, ticked as so_many};
+ghost use Rattle.its_world.specs.Filed.{Blocked};
+ghost use Rattle.its_world.specs.World.{frame_at, state_of};
+ghost use Rattle.its_tick.specs.Kept.{Kept};
+ghost use Rattle.its_tick.specs.Beside.{AllBeside};
+ghost use Rattle.its_tick.specs.Pages.{pages_ticked};
+ghost use Rattle.its_tick.specs.Ticks.{InRing, is_waiting, ticked, unit_due};
+
+use super::calls::in_call;
+use super::users::{deliver_to, make_unit, units_in_place};
+use its_calls::View;
+use its_ints::deliverable;
+use its_word::Pace;
+use its_world::World;
+
+/// A tick of a slot, and its letter. A slot whose call was found not ready and that is on a wait list waits on: its tick asks the list
+/// alone.
+pub fn tick(w: &mut World, slot: u8) -> Pace
+    requires slot { slot < slots }
+    requires can { Kept w.old ⊎ InRing w.old slot }
+    ensures state { Kept w.old → state_of w.new ≡ (tick_of (state_of w.old) slot).state }
+    ensures pace { Kept w.old → result ≡ (tick_of (state_of w.old) slot).pace }
+    ensures licensed { Kept w.old → Licensed (plain (state_of w.old)) slot result (plain (state_of w.new)) }
+    ensures others { Kept w.old → AllBeside (state_of w.old) (state_of w.new) slot result }
+    ensures pages { Kept w.old → w.new.core.frames ≡ pages_ticked (state_of w.old) slot w.old.core.frames }
+    ensures kept { Kept w.old → Kept w.new }
+    ensures ring { InRing w.old slot → (result ≡ Pace.Wait) × (w.new ≡ w.old) }
+    ensures waits { is_waiting (frame_at w.old.frames.items slot) ≡ true → ((result ≡ Pace.Wait) ↔ Blocked w.old slot) }
+{
+    if waits_on(w, slot) {
+        return Pace::Wait;
+    }
+    go_on(w, slot)
+}
+
+/// Whether the call of a slot was found not ready, and the slot is on a wait list.
+fn waits_on(w: &World, slot: u8) -> bool
+    requires slot { slot < slots }
+    requires can { Kept w.now ⊎ InRing w.now slot }
+    ensures yes { IsTrue result → InRing w.now slot }
+    ensures no { result ≡ false → InRing w.now slot → ⊥ }
+{
+    match w.frame(slot) {
+        View::Waiting { .. } => w.is_blocked(slot),
+        _ => false,
+    }
+}
+
+/// A tick of a slot that is on the wait list to which it belongs, if any, and its letter. In user mode an interrupt
+/// is delivered if one is deliverable, and else a unit is executed; inside a call its next step is performed. Nothing
+/// is done if the slot is empty or its job is stopped (`Off`).
+#[tactic(auto, using(crate::proofs::TickLaws::state_ticked, crate::proofs::TickLaws::pace_ticked, crate::proofs::TickLaws::tick_licensed, crate::proofs::BesideLaws::all_beside, crate::proofs::TickLaws::tick_kept))]
+fn go_on(w: &mut World, slot: u8) -> Pace
+    requires slot { slot < slots }
+    requires kept { Kept w.old }
+    ensures state { state_of w.new ≡ (tick_of (state_of w.old) slot).state }
+    ensures pace { result ≡ (tick_of (state_of w.old) slot).pace }
+    ensures licensed { Licensed (plain (state_of w.old)) slot result (plain (state_of w.new)) }
+    ensures others { AllBeside (state_of w.old) (state_of w.new) slot result }
+    ensures pages { w.new.core.frames ≡ pages_ticked (state_of w.old) slot w.old.core.frames }
+    ensures kept { Kept w.new }
+{
+    turn(w, slot)
+}
+
+/// What a tick does, and its letter.
+#[inline(always)]
+#[tactic(auto, using(crate::proofs::FramesLaws::frames_absent, crate::proofs::FramesLaws::frames_stopped, crate::proofs::TickLaws::turn_absent, crate::proofs::TickLaws::turn_stopped, crate::proofs::TickLaws::turn_call, crate::proofs::TickLaws::turn_delivery, crate::proofs::TickLaws::turn_unit))]
+fn turn(w: &mut World, slot: u8) -> Pace
+    requires slot { slot < slots }
+    requires kept { Kept w.old }
+    ensures row { tick_of (state_of w.old) slot ≡ ticked (state_of w.new) result }
+    ensures pages { w.new.core.frames ≡ pages_ticked (state_of w.old) slot w.old.core.frames }
+    ensures tidy { Tidy w.new }
+{
+    let Some(job) = w.jobs.job(slot) else {
+        return Pace::Off;
+    };
+    if job.stopped {
+        return Pace::Off;
+    }
+    if w.has_frame(slot) {
+        return in_call(w, slot);
+    }
+    if deliverable(job) {
+        let job = *job;
+        deliver_to(w, slot, job);
+        return Pace::Step;
+    }
+    make_unit(w, slot)
+}
+
+/// As many units of a slot's job as are possible in user mode while nothing else is due, n at most; how many. The state is that of so
+/// many ticks, each with the letter `*`. None is executed if the slot is empty, its job is stopped or inside a call, or an interrupt is
+/// deliverable.
+#[tactic(auto, using(crate::proofs::UserLaws::user_addressed, crate::proofs::StepsLaws::due_absent, crate::proofs::StepsLaws::due_stopped, crate::proofs::StepsLaws::due_framed))]
+pub fn steps(w: &mut World, slot: u8, n: u32) -> u32
+    requires slot { slot < slots }
+    requires kept { Kept w.old }
+    ensures few { result ≤ n }
+    ensures state { state_of w.new ≡ so_many (state_of w.old) slot result }
+    ensures paces { paces_of (state_of w.old) slot result ≡ replicate result Pace.Step }
+    ensures most { result < n → unit_due (state_of w.new) slot ≡ false }
+    ensures pages { w.new.core.frames ≡ w.old.core.frames }
+    ensures kept { Kept w.new }
+{
+    let Some(job) = w.jobs.job(slot) else {
+        return 0;
+    };
+    if job.stopped {
+        return 0;
+    }
+    if w.has_frame(slot) {
+        return 0;
+    }
+    units_in_place(w, slot, n)
+}
+
+/// Whether a slot has a job that is not stopped. It disturbs nobody: nothing changes.
+#[tactic(auto, using(crate::proofs::RunningLaws::job_runs, crate::proofs::RunningLaws::empty_rests, its_stepped::proofs::SessionLaws::runs_plain))]
+pub fn running(w: &World, slot: u8) -> bool
+    requires slot { slot < slots }
+    ensures raw { result ≡ runs (state_of w.now).raw slot }
+    ensures plain { result ≡ runs (plain (state_of w.now)) slot }
+{
+    match w.jobs.job(slot) {
+        Some(job) => !job.stopped,
+        None => false,
+    }
+}
