@@ -10,8 +10,8 @@ use Rattle.its_plain.specs.Arguments.{input}
 use Rattle.its_plain.specs.Decide.{call_named, target}
 use Rattle.its_plain.specs.Machine.{Whole}
 use Rattle.its_plain.proofs.TargetLaws.{target_on}
-use Rattle.its_parts.specs.Called.{channel_under}
-use Rattle.its_parts.proofs.NumberLaws.{usr_on}
+use Rattle.its_machine.specs.Called.{channel_under}
+use Rattle.its_machine.proofs.NumberLaws.{usr_on}
 use Rattle.its_world.specs.World.{raw_at}
 use Rattle.its_world.specs.declared.world.World.{World}
 use Rattle.its_world.proofs.StateLaws.{raw_some}

@@ -45,7 +45,7 @@ fn target(w: &World, slot: u8, job: &Job, ask: &Ask) -> Option<u8>
 }
 
 /// The slot of the job that a job argument names, other than oneself.
-#[tactic(auto, using(its_parts::proofs::NumberLaws::under))]
+#[tactic(auto, using(its_machine::proofs::NumberLaws::under))]
 fn reached(w: &World, slot: u8, job: &Job, party: Word) -> Option<u8>
     ensures { result ≡ reached_by (raw_with w.now slot job.now) party }
 {

@@ -13,7 +13,7 @@ use its_world::World;
 /// DISMIS p: PC, flags and deferrals come from the words that a delivery pushed, and 5 is taken from each half of the
 /// stack pointer word at p. Error 17 if p is immediate; MPV if one of the words is absent, else WRO if p is read
 /// only.
-#[tactic(auto, using(its_parts::proofs::BareLaws::dismissed_bare), unfolding(its_plain::specs::CallBasic::dismiss, its_plain::specs::View::view, its_world::specs::World::state_of))]
+#[tactic(auto, using(its_machine::proofs::BareLaws::dismissed_bare), unfolding(its_plain::specs::CallBasic::dismiss, its_plain::specs::View::view, its_world::specs::World::state_of))]
 pub fn dismiss(w: &World, slot: u8, job: &Job, ask: &Ask) -> Decision
     requires { slot < slots }
     ensures { result ≡ dismiss (seen_by w.now slot job.now ask.now) ask.now }

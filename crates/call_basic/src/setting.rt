@@ -22,7 +22,7 @@ use its_world::World;
 /// USRVAR job, name, optional new value: the output gets the value before, and then the new value is set. Errors 4 if
 /// the channel is closed, 5 if it is on no job, 22 if no variable has the name, 5 if the channel has no leave to
 /// write, and 22 if the variable cannot be set so.
-#[tactic(auto, using(its_parts::proofs::NumberLaws::under, crate::proofs::RawLaws::usrvar_target), unfolding(its_plain::specs::CallBasic::usrvar, its_plain::specs::View::view, its_world::specs::World::state_of))]
+#[tactic(auto, using(its_machine::proofs::NumberLaws::under, crate::proofs::RawLaws::usrvar_target), unfolding(its_plain::specs::CallBasic::usrvar, its_plain::specs::View::view, its_world::specs::World::state_of))]
 pub fn usrvar(w: &World, slot: u8, job: &Job, ask: &Ask) -> Decision
     requires slot { slot < slots }
     requires fail { ask.now.fail ≡ 0 }
@@ -60,7 +60,7 @@ fn own_variable(w: &World, slot: u8, job: &Job, ask: &Ask) -> Decision
 }
 
 /// The output gets the value of a variable of one's own, and then the new value is set, if there is one.
-#[tactic(auto, using(its_parts::proofs::BareLaws::set_bare), unfolding(its_plain::specs::View::view, its_world::specs::World::state_of))]
+#[tactic(auto, using(its_machine::proofs::BareLaws::set_bare), unfolding(its_plain::specs::View::view, its_world::specs::World::state_of))]
 fn set_own(w: &World, slot: u8, job: &Job, ask: &Ask, variable: Variable) -> Decision
     requires { slot < slots }
     ensures { result ≡ set_own (seen_by w.now slot job.now ask.now) ask.now variable (has_input ask.now 2) }

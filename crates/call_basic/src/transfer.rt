@@ -10,7 +10,7 @@ ghost use Rattle.its_plain.specs.Arguments.{input};
 ghost use Rattle.its_plain.specs.Own.{advanced, exit_of};
 ghost use Rattle.its_plain.specs.Tests.{goes};
 ghost use Rattle.its_plain.specs.Transfer.{is_indexed, next_pointer, siot_tests, word_bits};
-ghost use Rattle.its_parts.specs.Called.{bar_of, first_of};
+ghost use Rattle.its_machine.specs.Called.{bar_of, first_of};
 ghost use Rattle.call_basic.specs.Seen.{seen_by};
 
 use super::arguments::{in_footprint, input, place_of_input};

@@ -23,9 +23,9 @@ use Rattle.its_world.specs.Tidy.{Tidy}
 use Rattle.its_world.specs.World.{state_of}
 use Rattle.its_world.specs.declared.world.World.{World}
 use Rattle.its_world.proofs.MappedLaws.{core_raw}
-use Rattle.its_parts.specs.Called.{channel_under}
+use Rattle.its_machine.specs.Called.{channel_under}
 use Rattle.call_basic.specs.Seen.{raw_with, seen_by}
-use Rattle.its_parts.proofs.NumberLaws.{usr_on}
+use Rattle.its_machine.proofs.NumberLaws.{usr_on}
 use Rattle.call_usr.proofs.OtherLaws.{usr_stands}
 
 pub other_few : (w : World) (s : ℕ) (j : Job) (n k at : ℕ) (b : Bool) → Forest (state_of w).raw → job_at w.jobs s ≡ Some j → channel_under j n ≡ Usr k b at → k < slots

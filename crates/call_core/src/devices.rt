@@ -44,7 +44,7 @@ pub(crate) fn open(w: &World, slot: u8, job: &Job, ask: &Ask) -> Decision
 
 /// CLOSE by what the channel is on: a draft becomes a file, an end of a link is closed, any other channel is closed alone. Error 4, and
 /// those of a draft.
-#[tactic(auto, using(call_file::proofs::HeldLaws::reading, call_file::proofs::HeldLaws::writing, its_parts::proofs::NumberLaws::numbers), unfolding(its_plain::specs::CallDevice::close_call, its_plain::specs::View::view, its_world::specs::World::state_of))]
+#[tactic(auto, using(call_file::proofs::HeldLaws::reading, call_file::proofs::HeldLaws::writing, its_machine::proofs::NumberLaws::numbers), unfolding(its_plain::specs::CallDevice::close_call, its_plain::specs::View::view, its_world::specs::World::state_of))]
 pub(crate) fn close(w: &World, slot: u8, job: &Job, ask: &Ask) -> Decision
     requires slot { slot < slots }
     requires job { job_at w.now.jobs slot ≡ Some job.now }

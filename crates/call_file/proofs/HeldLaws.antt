@@ -6,9 +6,9 @@ use Rattle.its_files.specs.Files.{entry_at, is_file, is_draft}
 use Rattle.its_jobs.specs.Table.{job_at}
 use Rattle.its_world.specs.Tidy.{Tidy}
 use Rattle.its_world.specs.declared.world.World.{World}
-use Rattle.its_parts.proofs.StandLaws as across
-use Rattle.its_parts.specs.Called.{channel_under}
-use Rattle.its_parts.proofs.NumberLaws.{held, reading_number, under, writing_number}
+use Rattle.its_machine.proofs.StandLaws as across
+use Rattle.its_machine.specs.Called.{channel_under}
+use Rattle.its_machine.proofs.NumberLaws.{held, reading_number, under, writing_number}
 
 pub reading_file : (w : World) (s : ℕ) (j : Job) (n f at : ℕ) → Tidy w → job_at w.jobs s ≡ Some j → channel_under j n ≡ Reading f at → is_file (entry_at w.files f) ≡ true
 reading_file w s j n f at t h e = across.reading_file w.files w.jobs t.across s n f at (held w.jobs s n j (Reading f at) h e (λ z. cc))

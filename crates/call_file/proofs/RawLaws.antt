@@ -13,9 +13,9 @@ use Rattle.its_plain.specs.Decide.{call_named}
 use Rattle.its_stepped.specs.Tick.{helps, is_disk}
 use Rattle.its_world.specs.World.{chan_of, chans_of}
 use Rattle.its_world.specs.declared.world.World.{World}
-use Rattle.its_parts.specs.Called.{channel_under}
+use Rattle.its_machine.specs.Called.{channel_under}
 use Rattle.call_basic.specs.Seen.{raw_with}
-use Rattle.its_parts.proofs.NumberLaws.{under}
+use Rattle.its_machine.proofs.NumberLaws.{under}
 use Rattle.call_file.specs.Held.{is_on_file}
 
 -- a channel on a file

@@ -11,9 +11,9 @@ use Rattle.its_plain.specs.View.{view}
 use Rattle.its_world.specs.Tidy.{Tidy, channel_at}
 use Rattle.its_world.specs.World.{chan_of, state_of}
 use Rattle.its_world.specs.declared.world.World.{World}
-use Rattle.its_parts.proofs.StandLaws.{read_is, reader_found}
-use Rattle.its_parts.proofs.RoomLaws.{full_on}
-use Rattle.its_parts.proofs.SeenLaws.{chan_seen}
+use Rattle.its_machine.proofs.StandLaws.{read_is, reader_found}
+use Rattle.its_machine.proofs.RoomLaws.{full_on}
+use Rattle.its_machine.proofs.SeenLaws.{chan_seen}
 use Rattle.call_basic.specs.Seen.{seen_by}
 use Rattle.call_file.specs.Held.{has_readers}
 

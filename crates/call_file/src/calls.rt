@@ -4,7 +4,7 @@ ghost use Rattle.its_plain.specs.Arguments.{input};
 ghost use Rattle.its_plain.specs.CallFile.{disk_device};
 ghost use Rattle.its_stepped.specs.Tick.{helps};
 ghost use Rattle.its_world.specs.World.{raw_at};
-ghost use Rattle.its_parts.specs.Called.{channel_under};
+ghost use Rattle.its_machine.specs.Called.{channel_under};
 ghost use Rattle.call_basic.specs.Seen.{raw_with};
 ghost use Rattle.call_file.specs.Held.{is_on_file};
 

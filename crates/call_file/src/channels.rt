@@ -59,7 +59,7 @@ fn opened(control: u64, d: Word, x: Word, y: Word) -> Opened
 }
 
 /// CLOSE of a draft. Errors 11 if a channel reads the file that it would replace, 7 if it replaces none and there are 256 files.
-#[tactic(auto, using(its_files::proofs::EntryLaws::draft_stands, its_parts::proofs::SeenLaws::seen_count), unfolding(its_plain::specs::CallFile::closes_draft, its_plain::specs::View::view, its_world::specs::World::state_of))]
+#[tactic(auto, using(its_files::proofs::EntryLaws::draft_stands, its_machine::proofs::SeenLaws::seen_count), unfolding(its_plain::specs::CallFile::closes_draft, its_plain::specs::View::view, its_world::specs::World::state_of))]
 pub fn close_draft(w: &World, slot: u8, job: &Job, ask: &Ask, draft: u32) -> Decision
     requires number { input ask.now 0 < 16 }
     requires draft { is_draft (entry_at w.now.files draft) ≡ true }
@@ -96,7 +96,7 @@ pub fn access(w: &World, slot: u8, job: &Job, ask: &Ask) -> Decision
 }
 
 /// The position of a channel that reads a file is set.
-#[tactic(auto, using(its_parts::proofs::SeenLaws::seen_words, its_files::proofs::EntryLaws::file_stands), unfolding(its_plain::specs::View::view, its_world::specs::World::state_of))]
+#[tactic(auto, using(its_machine::proofs::SeenLaws::seen_words, its_files::proofs::EntryLaws::file_stands), unfolding(its_plain::specs::View::view, its_world::specs::World::state_of))]
 fn moved(w: &World, slot: u8, job: &Job, ask: &Ask, file: u32, was: u32) -> Decision
     requires number { input ask.now 0 < 16 }
     requires file { is_file (entry_at w.now.files file) ≡ true }
@@ -139,7 +139,7 @@ pub fn fillen(w: &World, slot: u8, job: &Job, ask: &Ask) -> Decision
 }
 
 /// The length of a file is the output.
-#[tactic(auto, using(its_files::proofs::EntryLaws::file_stands, its_parts::proofs::SeenLaws::seen_words), unfolding(its_plain::specs::View::view, its_world::specs::World::state_of))]
+#[tactic(auto, using(its_files::proofs::EntryLaws::file_stands, its_machine::proofs::SeenLaws::seen_words), unfolding(its_plain::specs::View::view, its_world::specs::World::state_of))]
 fn file_measured(w: &World, slot: u8, job: &Job, ask: &Ask, file: u32, at: u32) -> Decision
     requires { is_file (entry_at w.now.files file) ≡ true }
     ensures { result ≡ fillen_on (seen_by w.now slot job.now ask.now) ask.now (Reads (names_at w.now.files file) at) }

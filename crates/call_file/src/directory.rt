@@ -3,7 +3,7 @@ ghost use Rattle.std.specs.Prelude.{◌≡◌, ◌<◌};
 ghost use Rattle.its_files.specs.Files.{directory, found};
 ghost use Rattle.its_plain.specs.CallFile.{channels_in, delete, file_tests, has_file, is_read, names_from, rename};
 ghost use Rattle.its_world.specs.Tidy.{Tidy};
-ghost use Rattle.its_parts.specs.Called.{first_of};
+ghost use Rattle.its_machine.specs.Called.{first_of};
 ghost use Rattle.call_basic.specs.Seen.{seen_by};
 ghost use Rattle.call_file.specs.Held.{has_readers};
 
@@ -25,7 +25,7 @@ pub(crate) fn names_from(ask: &Ask, k: usize) -> [Word; 3]
 }
 
 /// The number of the file with these names.
-#[tactic(auto, using(its_parts::proofs::SeenLaws::three))]
+#[tactic(auto, using(its_machine::proofs::SeenLaws::three))]
 fn find(w: &World, names: [Word; 3]) -> Option<u32>
     ensures { result ≡ found w.now.files names }
 {
@@ -33,7 +33,7 @@ fn find(w: &World, names: [Word; 3]) -> Option<u32>
 }
 
 /// Whether there is a file with these names.
-#[tactic(auto, using(its_parts::proofs::StoreLaws::has_named))]
+#[tactic(auto, using(its_machine::proofs::StoreLaws::has_named))]
 pub(crate) fn has_file(w: &World, names: [Word; 3]) -> bool
     ensures { result ≡ has_file names (directory w.now.files) }
 {

@@ -20,7 +20,7 @@ use its_world::World;
 const END_OF_FILE: u64 = 0o777777000003;
 
 /// The word of a file at a position; None at its end.
-#[tactic(auto, using(its_parts::proofs::SeenLaws::seen_words, its_parts::proofs::SeenLaws::few_words))]
+#[tactic(auto, using(its_machine::proofs::SeenLaws::seen_words, its_machine::proofs::SeenLaws::few_words))]
 fn word_at(w: &World, file: u32, at: u32) -> Option<Word>
     requires { is_file (entry_at w.now.files file) ≡ true }
     ensures word { result ≡ slice_get (words_by (file_named (names_at w.now.files file) (directory w.now.files))) at }
@@ -143,7 +143,7 @@ pub fn siot_writes(w: &World, slot: u8, job: &Job, ask: &Ask, draft: u32) -> Dec
 }
 
 /// The same if no test stops it.
-#[tactic(auto, using(its_parts::proofs::StopLaws::loaded_fits, crate::proofs::SeenLaws::seen_full, its_files::proofs::EntryLaws::draft_stands), unfolding(its_plain::specs::View::view, its_world::specs::World::state_of))]
+#[tactic(auto, using(its_machine::proofs::StopLaws::loaded_fits, crate::proofs::SeenLaws::seen_full, its_files::proofs::EntryLaws::draft_stands), unfolding(its_plain::specs::View::view, its_world::specs::World::state_of))]
 fn siot_write(w: &World, slot: u8, job: &Job, ask: &Ask, draft: u32) -> Decision
     requires slot { slot < slots }
     requires number { input ask.now 0 < 16 }

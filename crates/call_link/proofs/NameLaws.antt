@@ -9,11 +9,11 @@ use Rattle.its_plain.specs.CallBasic.{channel_at, is_shut}
 use Rattle.its_plain.specs.CallLink.{link_named, link_tests, opens_end, opens_link}
 use Rattle.its_plain.specs.View.{View, view}
 use Rattle.its_world.specs.declared.world.World.{World}
-use Rattle.its_parts.specs.Called.{first_of}
+use Rattle.its_machine.specs.Called.{first_of}
 use Rattle.call_basic.specs.Seen.{seen_by}
 use Rattle.call_basic.specs.Channels.{is_free}
 use Rattle.call_basic.proofs.ChannelLaws.{free}
-use Rattle.its_parts.proofs.StopLaws.{unstopped}
+use Rattle.its_machine.proofs.StopLaws.{unstopped}
 
 -- the channel is free, and the control argument is 0 or 1
 seen_free : (w : World) (s : ℕ) (j : Job) (a : Ask) (n : ℕ) → is_free j n ≡ (nat_lt n 16 && is_shut (channel_at (seen_by w s j a).own.channels n))

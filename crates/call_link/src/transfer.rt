@@ -127,7 +127,7 @@ fn siot_sends(w: &World, slot: u8, job: &Job, ask: &Ask, link: u8) -> Decision
 }
 
 /// The same if no test of its arguments stops it.
-#[tactic(auto, using(its_parts::proofs::StopLaws::loaded_fits), unfolding(its_plain::specs::View::view, its_world::specs::World::state_of))]
+#[tactic(auto, using(its_machine::proofs::StopLaws::loaded_fits), unfolding(its_plain::specs::View::view, its_world::specs::World::state_of))]
 fn siot_send(w: &World, slot: u8, job: &Job, ask: &Ask, link: u8) -> Decision
     requires slot { slot < slots }
     requires size { has_size (next_pointer (input ask.now 1)) ≡ true }

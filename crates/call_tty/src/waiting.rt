@@ -15,7 +15,7 @@ use its_word::{Ask, Channel, Job, Word};
 use its_world::World;
 
 /// FINISH channel: waits until all output of the console is drained. Errors 4, 5.
-#[tactic(auto, using(its_parts::proofs::NumberLaws::under), unfolding(its_plain::specs::CallTty::finish, its_plain::specs::View::view, its_world::specs::World::state_of))]
+#[tactic(auto, using(its_machine::proofs::NumberLaws::under), unfolding(its_plain::specs::CallTty::finish, its_plain::specs::View::view, its_world::specs::World::state_of))]
 pub fn finish(w: &World, slot: u8, job: &Job, ask: &Ask) -> Decision
     requires { slot < slots }
     ensures { result ≡ finish (seen_by w.now slot job.now ask.now) ask.now }
@@ -35,7 +35,7 @@ pub fn finish(w: &World, slot: u8, job: &Job, ask: &Ask) -> Decision
 }
 
 /// LISTEN channel: also waits, and gives the number of bytes of input. Errors 4, 5.
-#[tactic(auto, using(its_parts::proofs::NumberLaws::under), unfolding(its_plain::specs::CallTty::listen, its_plain::specs::View::view, its_world::specs::World::state_of))]
+#[tactic(auto, using(its_machine::proofs::NumberLaws::under), unfolding(its_plain::specs::CallTty::listen, its_plain::specs::View::view, its_world::specs::World::state_of))]
 pub fn listen(w: &World, slot: u8, job: &Job, ask: &Ask) -> Decision
     requires { slot < slots }
     ensures { result ≡ listen (seen_by w.now slot job.now ask.now) ask.now }
@@ -64,7 +64,7 @@ fn listened(w: &World, slot: u8, job: &Job, ask: &Ask) -> Decision
 
 /// TTYLND job: the job becomes the holder of the caller's console. Errors 4, 5; 5 if the caller has no console; for
 /// oneself 13 if a stranger holds it; for an inferior 5 if the caller does not hold it.
-#[tactic(auto, using(crate::proofs::HoldLaws::takes, crate::proofs::HoldLaws::holds_it, its_parts::proofs::NumberLaws::under), unfolding(its_plain::specs::CallTty::ttylnd, its_plain::specs::View::view, its_world::specs::World::state_of))]
+#[tactic(auto, using(crate::proofs::HoldLaws::takes, crate::proofs::HoldLaws::holds_it, its_machine::proofs::NumberLaws::under), unfolding(its_plain::specs::CallTty::ttylnd, its_plain::specs::View::view, its_world::specs::World::state_of))]
 pub fn ttylnd(w: &World, slot: u8, job: &Job, ask: &Ask) -> Decision
     requires { slot < slots }
     ensures { result ≡ ttylnd (seen_by w.now slot job.now ask.now) ask.now }

@@ -20,10 +20,10 @@ use Rattle.its_world.specs.World.{state_of}
 use Rattle.its_world.specs.declared.world.World.{World}
 use Rattle.its_world.proofs.StateLaws.{raw_some}
 use Rattle.its_world.proofs.StorageLaws.{has_job}
-use Rattle.its_parts.specs.Called.{channel_under}
+use Rattle.its_machine.specs.Called.{channel_under}
 use Rattle.call_basic.specs.Seen.{raw_with, seen_by}
-use Rattle.its_parts.proofs.NumberLaws.{usr_number, usr_on}
-use Rattle.its_parts.proofs.SeenLaws.{core_here}
+use Rattle.its_machine.proofs.NumberLaws.{usr_number, usr_on}
+use Rattle.its_machine.proofs.SeenLaws.{core_here}
 use Rattle.call_usr.specs.Targets.{Targets}
 
 pub usr_stands : (w : World) (s : ℕ) (j : Job) (n k at : ℕ) (b : Bool) → Forest (state_of w).raw → job_at w.jobs s ≡ Some j → channel_under j n ≡ Usr k b at → HasJob (state_of w) k

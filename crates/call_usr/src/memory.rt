@@ -26,7 +26,7 @@ const HIGHEST: u64 = 0o777777;
 
 /// USRMEM channel, address, optional new word: the output gets the word of the inferior, and then the new one is stored. Errors 4, 5,
 /// 22; 5 if the channel has no leave to write, 16 if the word is absent or cannot be stored.
-#[tactic(auto, using(its_parts::proofs::NumberLaws::under), unfolding(its_plain::specs::CallUsr::usrmem, its_plain::specs::View::view, its_world::specs::World::state_of))]
+#[tactic(auto, using(its_machine::proofs::NumberLaws::under), unfolding(its_plain::specs::CallUsr::usrmem, its_plain::specs::View::view, its_world::specs::World::state_of))]
 pub fn usrmem(w: &World, slot: u8, job: &Job, ask: &Ask) -> Decision
     requires slot { slot < slots }
     requires fail { ask.now.fail ≡ 0 }
@@ -95,7 +95,7 @@ fn set_word(job: &Job, ask: &Ask, inferior: u8, at: u32, word: Word) -> Decision
 }
 
 /// UCLOSE channel: the inferior and all jobs below it are removed. Errors 4, 5.
-#[tactic(auto, using(its_parts::proofs::NumberLaws::under), unfolding(its_plain::specs::CallUsr::uclose, its_plain::specs::View::view, its_world::specs::World::state_of))]
+#[tactic(auto, using(its_machine::proofs::NumberLaws::under), unfolding(its_plain::specs::CallUsr::uclose, its_plain::specs::View::view, its_world::specs::World::state_of))]
 pub fn uclose(w: &World, slot: u8, job: &Job, ask: &Ask) -> Decision
     ensures { result ≡ uclose (seen_by w.now slot job.now ask.now) ask.now }
 {

@@ -188,7 +188,7 @@ fn siot_into(w: &World, slot: u8, job: &Job, ask: &Ask, inferior: u8, at: u32) -
 }
 
 /// The same if no test of its arguments stops it.
-#[tactic(auto, using(its_parts::proofs::StopLaws::loaded_fits, crate::proofs::OtherLaws::other_here), unfolding(its_plain::specs::View::view, its_world::specs::World::state_of))]
+#[tactic(auto, using(its_machine::proofs::StopLaws::loaded_fits, crate::proofs::OtherLaws::other_here), unfolding(its_plain::specs::View::view, its_world::specs::World::state_of))]
 fn siot_pokes(w: &World, slot: u8, job: &Job, ask: &Ask, inferior: u8, at: u32) -> Decision
     requires slot { slot < slots }
     requires below { at < 2 ^ 18 }

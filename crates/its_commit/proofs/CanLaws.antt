@@ -12,9 +12,9 @@ use Rattle.its_plain.specs.Machine.{Chan, Writes, Whole}
 use Rattle.its_stepped.specs.Commit.{effect_on}
 use Rattle.its_stepped.specs.State.{State}
 use Rattle.its_world.specs.Storage.{chan_in, IsDraft, HasRoom, CanClose}
-use Rattle.its_parts.specs.Can as plain
-use Rattle.its_parts.proofs.CanLaws.{Beside, Needs, nothing, CanAll}
-use Rattle.its_parts.proofs.CanLaws as parts
+use Rattle.its_machine.specs.Can as plain
+use Rattle.its_machine.proofs.CanLaws.{Beside, Needs, nothing, CanAll}
+use Rattle.its_machine.proofs.CanLaws as parts
 use Rattle.its_commit.specs.Built.{Removable, CanMake, CanMakeAll}
 
 -- the changes of a decision of slot j's call can be made

@@ -25,12 +25,12 @@ use Rattle.its_plain.specs.Machine.{Shut, Whole, whole, with_new, core_of, mappe
 use Rattle.its_stepped.specs.Lines.{with_raw}
 use Rattle.its_stepped.specs.State.{State}
 use Rattle.its_stepped.specs.Commit.{effect_on, effects_on}
-use Rattle.its_parts.proofs.BareLaws.{variable_bare, variable_channels}
+use Rattle.its_machine.proofs.BareLaws.{variable_bare, variable_channels}
 use Rattle.its_commit.proofs.TidyLaws.{tidy_core, tidy_put}
 use Rattle.its_commit.proofs.OwedLaws.{one_stored}
 use Rattle.its_core.specs.Frames.{Frames}
 use Rattle.its_commit.specs.Pages.{all_pages_changed, pages_changed}
-use Rattle.its_parts.specs.Can.{HasPage}
+use Rattle.its_machine.specs.Can.{HasPage}
 use Rattle.its_commit.specs.Built.{Maps, CanMake, CanMakeAll}
 use Rattle.its_world.specs.Made.{JobMade}
 use Rattle.its_world.specs.Mapped.{PageMapped}

@@ -24,16 +24,16 @@ use Rattle.its_stepped.specs.State.{Mark}
 use Rattle.its_world.specs.Filed.{Ringed}
 use Rattle.its_world.specs.Storage.{HasJob, IsElsewhere}
 use Rattle.its_plain.specs.OperatorClock.{clock_end}
-use Rattle.its_parts.specs.Across.{channel_by, channel_at, tally, reads_file, writes_draft, writers, Across}
+use Rattle.its_machine.specs.Across.{channel_by, channel_at, tally, reads_file, writes_draft, writers, Across}
 use Rattle.its_world.specs.Tidy.{Tidy}
 use Rattle.its_world.specs.World.{alarm_at, mark_of, raw_at, frame_at, symbols_at, state_of}
 use Rattle.its_world.specs.declared.world.World.{World}
 use Rattle.its_world.proofs.MappedLaws.{core_raw}
-use Rattle.its_parts.proofs.PartLaws.{fresh_closed}
+use Rattle.its_machine.proofs.PartLaws.{fresh_closed}
 use Rattle.its_world.proofs.MadeLaws.{least_raw}
 use Rattle.its_world.proofs.MarkLaws.{none_marked}
 use Rattle.its_world.proofs.StorageLaws.{raw_has}
-use Rattle.its_parts.proofs.TallyLaws.{tally_none}
+use Rattle.its_machine.proofs.TallyLaws.{tally_none}
 use Rattle.its_commit.specs.Built.{CanMakeAll}
 use Rattle.its_commit.specs.Removal.{Elsewhere}
 use Rattle.its_commit.proofs.RemovalLaws.{superiors_are}

@@ -37,8 +37,8 @@ use Rattle.its_commit.specs.Carried.{standing_of, Ready}
 use Rattle.its_commit.proofs.CommittingLaws.{all_mild}
 use Rattle.its_commit.proofs.RemovalLaws.{no_page}
 use Rattle.its_commit.proofs.CanLaws.{DecisionCan, decision_on}
-use Rattle.its_parts.proofs.CanLaws.{Beside}
-use Rattle.its_parts.proofs.CallCanLaws.{decision_can as plain_can}
+use Rattle.its_machine.proofs.CanLaws.{Beside}
+use Rattle.its_machine.proofs.CallCanLaws.{decision_can as plain_can}
 use Rattle.its_stepped.proofs.GivenLaws.{below_itself}
 
 -- the state in which the call of slot j's job is carried out: it is sound, the jobs that the call reaches are in user mode,

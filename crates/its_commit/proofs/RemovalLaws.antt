@@ -38,7 +38,7 @@ use Rattle.its_world.specs.Rings.{lists_to, link_lists_to}
 use Rattle.its_world.specs.Filed.{Ringed, Resettled}
 use Rattle.its_world.proofs.PlaceLaws.{removed_ringed}
 use Rattle.its_world.specs.Storage.{chan_in}
-use Rattle.its_parts.specs.Across.{channel_by, channel_at, Across}
+use Rattle.its_machine.specs.Across.{channel_by, channel_at, Across}
 use Rattle.its_world.specs.Tidy.{Tidy}
 use Rattle.its_world.specs.World.{chan_of, mark_of, bare, alarm_at, AlarmBecomes, raw_of, raw_at, frame_at, console_at, holder_at, symbols_at, state_of, in_raw, with_frames, Becomes, CoreBecomes, FrameBecomes, JobBecomes}
 use Rattle.its_world.specs.declared.world.World.{World}
@@ -46,8 +46,8 @@ use Rattle.its_world.proofs.StateLaws.{state_is, raw_others, changed_state, abse
 use Rattle.its_world.proofs.AlarmLaws.{alarm_state}
 use Rattle.its_world.proofs.MappedLaws.{frames_tidy}
 use Rattle.its_world.proofs.StorageLaws.{chan_is, chan_shut, frame_is}
-use Rattle.its_parts.proofs.AcrossLaws.{across_alike, across_table, same_alike}
-use Rattle.its_parts.proofs.LeftLaws.{left_alike, left_chan, raw_superior, shut_here, shut_there}
+use Rattle.its_machine.proofs.AcrossLaws.{across_alike, across_table, same_alike}
+use Rattle.its_machine.proofs.LeftLaws.{left_alike, left_chan, raw_superior, shut_here, shut_there}
 use Rattle.its_word.proofs.ClimbLaws.{or_second}
 use Rattle.its_stepped.proofs.KeptLaws.{user_page}
 

@@ -18,7 +18,7 @@ use Rattle.its_world.specs.Filed.{Ringed}
 use Rattle.its_world.specs.Tidy.{channel_by, channel_at, Across, Tidy}
 use Rattle.its_world.specs.World.{alarm_at, frame_at, symbols_at, Becomes, CoreBecomes, JobBecomes, FrameBecomes, PageBecomes, ConsoleBecomes, HolderBecomes, LinkBecomes}
 use Rattle.its_world.specs.declared.world.World.{World}
-use Rattle.its_parts.proofs.AcrossLaws.{across_table}
+use Rattle.its_machine.proofs.AcrossLaws.{across_table}
 use Rattle.its_world.proofs.WorldLaws.{frames_still}
 
 -- each page stays in its frame if no page is reserved and none given back

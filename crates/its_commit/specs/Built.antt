@@ -17,7 +17,7 @@ use Rattle.its_plain.specs.CallLink.{words_in}
 use Rattle.its_plain.specs.Change.{superiors, is_gone}
 use Rattle.its_plain.specs.Machine.{Shut, Linked, core_of, mapped, limit}
 use Rattle.its_plain.specs.Own.{names_of}
-use Rattle.its_parts.specs.Can.{Pokes, HasPage}
+use Rattle.its_machine.specs.Can.{Pokes, HasPage}
 use Rattle.its_stepped.specs.Commit.{effect_on}
 use Rattle.its_stepped.specs.Sound.{Sound}
 use Rattle.its_stepped.specs.State.{State}

@@ -13,7 +13,7 @@ use Rattle.its_stepped.specs.SlotSame.{SlotSame}
 use Rattle.its_stepped.specs.State.{State}
 use Rattle.its_world.specs.Storage.{chan_in, IsElsewhere}
 use Rattle.its_world.specs.Tidy.{channel_at}
-pub use Rattle.its_parts.specs.Across.{channel_left}
+pub use Rattle.its_machine.specs.Across.{channel_left}
 use Rattle.its_world.specs.World.{alarm_at, state_of}
 use Rattle.its_commit.specs.Pages.{pages_swept}
 use Rattle.its_world.specs.declared.world.World.{World}

@@ -13,7 +13,7 @@ ghost use Rattle.its_plain.specs.Own.{with_registers, with_stores, with_variable
 ghost use Rattle.its_stepped.specs.Commit.{effect_on, effects_on};
 ghost use Rattle.its_stepped.specs.Lines.{with_raw};
 ghost use Rattle.its_world.specs.Tidy.{Tidy};
-ghost use Rattle.its_parts.specs.Can.{HasPage};
+ghost use Rattle.its_machine.specs.Can.{HasPage};
 ghost use Rattle.its_commit.specs.Built.{CanMake, CanMakeAll, CanOpen, Maps};
 ghost use Rattle.its_commit.specs.Pages.{all_pages_changed, pages_changed};
 ghost use Rattle.its_world.specs.Storage.{HasJob, chan_in};

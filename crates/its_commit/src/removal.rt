@@ -133,7 +133,7 @@ fn shut_channels(w: &mut World, root: u8, slot: u8)
 }
 
 /// Closes those of these channels that are on jobs of a tree.
-#[tactic(auto, using(its_parts::proofs::TurningLaws::turning_start, its_parts::proofs::TurningLaws::turning_more, its_parts::proofs::TurningLaws::turning_end))]
+#[tactic(auto, using(its_machine::proofs::TurningLaws::turning_start, its_machine::proofs::TurningLaws::turning_more, its_machine::proofs::TurningLaws::turning_end))]
 fn shut_each(jobs: &Jobs, root: u8, channels: &mut [Channel])
     ensures { (n : ℕ) → slice_index_or channels.new n Closed ≡ channel_left (in_tree (superior_at jobs.now) root) (slice_index_or channels.old n Closed) }
 {
@@ -143,7 +143,7 @@ fn shut_each(jobs: &Jobs, root: u8, channels: &mut [Channel])
 }
 
 /// Passes the consoles that jobs of a tree hold to the superior of the root, or to nobody if it has none.
-#[tactic(auto, using(its_parts::proofs::TurningLaws::turning_start, its_parts::proofs::TurningLaws::turning_more, its_parts::proofs::TurningLaws::turning_end))]
+#[tactic(auto, using(its_machine::proofs::TurningLaws::turning_start, its_machine::proofs::TurningLaws::turning_more, its_machine::proofs::TurningLaws::turning_end))]
 fn pass_on(jobs: &Jobs, root: u8, holders: &mut [Option<u8>])
     ensures { (c : ℕ) → slice_index_or holders.new c None ≡ passed_on (in_tree (superior_at jobs.now) root) (superior_at jobs.now root) (slice_index_or holders.old c None) }
 {

@@ -8,16 +8,16 @@ use Rattle.its_files.proofs.EntryLaws.{file_stands}
 use Rattle.its_plain.specs.CallFile.{channels_in, is_full as has_no_room, reads}
 use Rattle.its_plain.specs.Machine.{Names}
 use Rattle.its_plain.specs.View.{view}
-use Rattle.its_parts.specs.Across.{channel_at}
-use Rattle.its_parts.specs.Parts.{chan_of}
-use Rattle.its_parts.proofs.RoomLaws.{full_on}
-use Rattle.its_parts.proofs.StandLaws as stands
-use Rattle.its_parts.specs.Called.{channel_under}
+use Rattle.its_machine.specs.Across.{channel_at}
+use Rattle.its_machine.specs.Parts.{chan_of}
+use Rattle.its_machine.proofs.RoomLaws.{full_on}
+use Rattle.its_machine.proofs.StandLaws as stands
+use Rattle.its_machine.specs.Called.{channel_under}
 use Rattle.its_decide.specs.Called.{looks}
 use Rattle.its_decide.specs.Fits.{Fits}
 use Rattle.its_decide.specs.declared.caller.Caller.{Caller}
-use Rattle.its_parts.proofs.NumberLaws.{held, reading_number, writing_number}
-use Rattle.its_parts.proofs.SeenLaws.{chan_seen}
+use Rattle.its_machine.proofs.NumberLaws.{held, reading_number, writing_number}
+use Rattle.its_machine.proofs.SeenLaws.{chan_seen}
 
 module _ (c : Caller) where
   abbrev files : Store

@@ -16,14 +16,14 @@ use Rattle.its_plain.specs.Decide.{call_named, reaching}
 use Rattle.its_plain.specs.Machine.{core_of}
 use Rattle.its_plain.specs.View.{job_at as job_seen, view}
 use Rattle.its_plain.proofs.TargetLaws.{target_on}
-use Rattle.its_parts.specs.Called.{channel_under}
+use Rattle.its_machine.specs.Called.{channel_under}
 use Rattle.its_decide.specs.Called.{looks, raw}
 use Rattle.its_decide.specs.Fits.{Fits, OnJob}
 use Rattle.its_decide.specs.Seen.{machine_seen}
 use Rattle.its_decide.specs.Targets.{Targets}
 use Rattle.its_decide.specs.declared.caller.Caller.{Caller}
-use Rattle.its_parts.proofs.NumberLaws.{held, usr_number, usr_on}
-use Rattle.its_parts.proofs.SeenLaws.{core_here, free_seen}
+use Rattle.its_machine.proofs.NumberLaws.{held, usr_number, usr_on}
+use Rattle.its_machine.proofs.SeenLaws.{core_here, free_seen}
 
 module _ (c : Caller) where
   stands : (n k at : ℕ) (b : Bool) → Fits c.seen.now → channel_under c.job.now n ≡ Usr k b at → is_some (job_at c.seen.now.jobs.now k) ≡ true

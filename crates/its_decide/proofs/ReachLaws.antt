@@ -15,7 +15,7 @@ use Rattle.its_jobs.specs.Table.{IsTree, job_at, superior_at}
 use Rattle.its_plain.specs.Change.{superior_in, superiors}
 use Rattle.its_plain.specs.Decide.{listed}
 use Rattle.its_plain.specs.Footprint.{among}
-use Rattle.its_parts.specs.Parts.{alarm_at, raw_of}
+use Rattle.its_machine.specs.Parts.{alarm_at, raw_of}
 use Rattle.its_decide.specs.Reach.{is_listed}
 use Rattle.its_decide.specs.Seen.{machine_seen}
 use Rattle.its_decide.specs.declared.caller.Seen.{Seen}

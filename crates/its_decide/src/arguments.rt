@@ -4,7 +4,7 @@ ghost use Rattle.its_plain.specs.Arguments.{has_input, input, place_of_input};
 ghost use Rattle.its_plain.specs.CallBasic.{is_oneself, read_only, shared_place};
 ghost use Rattle.its_plain.specs.Footprint.{among, in_footprint, times};
 ghost use Rattle.its_core.specs.Cores.{core_at};
-ghost use Rattle.its_parts.specs.Called.{channel_under};
+ghost use Rattle.its_machine.specs.Called.{channel_under};
 
 use super::caller::Caller;
 use its_word::{Ask, Channel, Job, Word};

@@ -77,7 +77,7 @@ impl Caller<'_> {
 
     /// DISMIS p: PC, flags and deferrals come from the words that a delivery pushed, and 5 is taken from each half of the stack pointer
     /// word at p. Error 17 if p is immediate; MPV if one of the words is absent, else WRO if p is read only.
-    #[tactic(auto, using(its_parts::proofs::BareLaws::dismissed_bare), unfolding(its_plain::specs::CallBasic::dismiss, its_plain::specs::View::view))]
+    #[tactic(auto, using(its_machine::proofs::BareLaws::dismissed_bare), unfolding(its_plain::specs::CallBasic::dismiss, its_plain::specs::View::view))]
     pub(crate) fn dismiss(&self) -> Decision
         ensures { result ≡ dismiss (looks self.now) self.now.ask.now }
     {

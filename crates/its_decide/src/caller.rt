@@ -9,7 +9,7 @@ use its_console::Console;
 use its_core::Core;
 use its_files::Files;
 use its_jobs::Jobs;
-use its_parts::SymbolTable;
+use its_machine::SymbolTable;
 use its_pipes::Pipes;
 use its_word::{Ask, Job};
 

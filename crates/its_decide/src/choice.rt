@@ -46,7 +46,7 @@ pub fn decide(seen: &Seen<'_>, slot: u8, job: &Job, ask: &Ask) -> Decision
 }
 
 /// The slot of the job into which the call of a slot's job reaches, through an open channel on it.
-#[tactic(auto, using(its_parts::proofs::NumberLaws::under), unfolding(its_plain::specs::Decide::target))]
+#[tactic(auto, using(its_machine::proofs::NumberLaws::under), unfolding(its_plain::specs::Decide::target))]
 pub(crate) fn target(seen: &Seen<'_>, slot: u8, job: &Job, ask: &Ask) -> Option<u8>
     ensures { result ≡ target (raw_with seen.now slot job.now) ask.now }
 {
@@ -121,7 +121,7 @@ impl Caller<'_> {
 
     /// CLOSE by what the channel is on: a draft becomes a file, an end of a link is closed, any other channel is closed alone. Error 4,
     /// and those of a draft.
-    #[tactic(auto, using(its_parts::proofs::NumberLaws::under, its_parts::proofs::NumberLaws::numbers), unfolding(its_plain::specs::CallDevice::close_call, its_plain::specs::View::view))]
+    #[tactic(auto, using(its_machine::proofs::NumberLaws::under, its_machine::proofs::NumberLaws::numbers), unfolding(its_plain::specs::CallDevice::close_call, its_plain::specs::View::view))]
     fn close(&self) -> Decision
         requires { Fits self.now.seen.now }
         ensures { result ≡ close_call (looks self.now) self.now.ask.now }
@@ -148,7 +148,7 @@ impl Caller<'_> {
     }
 
     /// `.IOT` by what the channel is on; IOC if it is closed.
-    #[tactic(auto, using(its_parts::proofs::NumberLaws::under), unfolding(its_plain::specs::CallDevice::iot_call, its_plain::specs::View::view))]
+    #[tactic(auto, using(its_machine::proofs::NumberLaws::under), unfolding(its_plain::specs::CallDevice::iot_call, its_plain::specs::View::view))]
     fn iot(&self) -> Decision
         requires fail { self.now.ask.now.fail ≡ 0 }
         requires name { call_named self.now.ask.now.name ≡ Some Iot }
@@ -168,7 +168,7 @@ impl Caller<'_> {
     }
 
     /// SIOT by what the channel is on. Error 4.
-    #[tactic(auto, using(its_parts::proofs::NumberLaws::under), unfolding(its_plain::specs::CallDevice::siot_call, its_plain::specs::View::view))]
+    #[tactic(auto, using(its_machine::proofs::NumberLaws::under), unfolding(its_plain::specs::CallDevice::siot_call, its_plain::specs::View::view))]
     fn siot(&self) -> Decision
         requires fail { self.now.ask.now.fail ≡ 0 }
         requires name { call_named self.now.ask.now.name ≡ Some Siot }

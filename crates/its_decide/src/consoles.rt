@@ -104,7 +104,7 @@ impl Caller<'_> {
     }
 
     /// FINISH channel: waits until all output of the console is drained. Errors 4, 5.
-    #[tactic(auto, using(its_parts::proofs::NumberLaws::under), unfolding(its_plain::specs::CallTty::finish, its_plain::specs::View::view))]
+    #[tactic(auto, using(its_machine::proofs::NumberLaws::under), unfolding(its_plain::specs::CallTty::finish, its_plain::specs::View::view))]
     pub(crate) fn finish(&self) -> Decision
         ensures { result ≡ finish (looks self.now) self.now.ask.now }
     {
@@ -117,7 +117,7 @@ impl Caller<'_> {
     }
 
     /// LISTEN channel: also waits, and gives the number of bytes of input. Errors 4, 5.
-    #[tactic(auto, using(its_parts::proofs::NumberLaws::under), unfolding(its_plain::specs::CallTty::listen, its_plain::specs::View::view))]
+    #[tactic(auto, using(its_machine::proofs::NumberLaws::under), unfolding(its_plain::specs::CallTty::listen, its_plain::specs::View::view))]
     pub(crate) fn listen(&self) -> Decision
         ensures { result ≡ listen (looks self.now) self.now.ask.now }
     {
@@ -141,7 +141,7 @@ impl Caller<'_> {
 
     /// TTYLND job: the job becomes the holder of the caller's console. Errors 4, 5; 5 if the caller has no console; for oneself 13 if a
     /// stranger holds it; for an inferior 5 if the caller does not hold it.
-    #[tactic(auto, using(its_parts::proofs::NumberLaws::under), unfolding(its_plain::specs::CallTty::ttylnd, its_plain::specs::View::view))]
+    #[tactic(auto, using(its_machine::proofs::NumberLaws::under), unfolding(its_plain::specs::CallTty::ttylnd, its_plain::specs::View::view))]
     pub(crate) fn ttylnd(&self) -> Decision
         ensures { result ≡ ttylnd (looks self.now) self.now.ask.now }
     {

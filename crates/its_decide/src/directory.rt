@@ -6,12 +6,12 @@ ghost use Rattle.its_word.specs.Directory.{same_names as are_same};
 ghost use Rattle.its_files.specs.Files.{directory, file_at};
 ghost use Rattle.its_plain.specs.Arguments.{input};
 ghost use Rattle.its_plain.specs.CallFile.{channels_in, closes_draft, delete, has_file, is_read, names_from, reads, rename};
-ghost use Rattle.its_parts.specs.Across.{channel_at};
+ghost use Rattle.its_machine.specs.Across.{channel_at};
 ghost use Rattle.its_decide.specs.Called.{looks};
 ghost use Rattle.its_decide.specs.Directory.{error_of_file};
 ghost use Rattle.its_decide.specs.Fits.{Fits};
 ghost use Rattle.its_word.specs.declared.jobs.Channel.TheVariants.{Writing};
-ghost use Rattle.its_parts.specs.Called.{channel_under};
+ghost use Rattle.its_machine.specs.Called.{channel_under};
 
 use super::caller::Caller;
 use its_frame::{Change, Decision, error};
@@ -36,7 +36,7 @@ impl Caller<'_> {
     }
 
     /// Whether there is a file with these names.
-    #[tactic(auto, using(its_parts::proofs::StoreLaws::has_named, its_parts::proofs::SeenLaws::three))]
+    #[tactic(auto, using(its_machine::proofs::StoreLaws::has_named, its_machine::proofs::SeenLaws::three))]
     pub(crate) fn has_file(&self, names: [Word; 3]) -> bool
         ensures { result ≡ has_file names (directory self.now.seen.now.files.now) }
     {
@@ -85,7 +85,7 @@ impl Caller<'_> {
 
     /// CLOSE of a draft, which becomes the last file, in place of the one with its names. Errors 11 if a channel reads that file, 7 if
     /// there is none and there are 256 files.
-    #[tactic(auto, using(its_files::proofs::EntryLaws::draft_stands, crate::proofs::FileLaws::writing, its_parts::proofs::SeenLaws::seen_count), unfolding(its_plain::specs::CallFile::closes_draft, its_plain::specs::View::view))]
+    #[tactic(auto, using(its_files::proofs::EntryLaws::draft_stands, crate::proofs::FileLaws::writing, its_machine::proofs::SeenLaws::seen_count), unfolding(its_plain::specs::CallFile::closes_draft, its_plain::specs::View::view))]
     pub(crate) fn close_draft(&self, draft: u32) -> Decision
         requires on { channel_under self.now.job.now (input self.now.ask.now 0) ≡ Writing draft }
         requires fits { Fits self.now.seen.now }

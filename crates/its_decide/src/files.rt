@@ -9,7 +9,7 @@ ghost use Rattle.its_plain.specs.Own.{advanced, exit_of};
 ghost use Rattle.its_plain.specs.Tests.{out};
 ghost use Rattle.its_word.specs.Byte.{has_size};
 ghost use Rattle.its_word.specs.declared.jobs.Channel.TheVariants.{Reading, Writing};
-ghost use Rattle.its_parts.specs.Called.{channel_under};
+ghost use Rattle.its_machine.specs.Called.{channel_under};
 ghost use Rattle.its_decide.specs.Called.{looks};
 ghost use Rattle.its_decide.specs.Fits.{Fits};
 
@@ -47,7 +47,7 @@ impl Caller<'_> {
 
     /// ACCESS channel, position: the next word that a file gives, or that a channel on an inferior is at. Errors 4, 5, 22 if the
     /// position is past the end.
-    #[tactic(auto, using(its_parts::proofs::NumberLaws::under, crate::proofs::FileLaws::reading, its_parts::proofs::NumberLaws::usr_number), unfolding(its_plain::specs::CallFile::access, its_plain::specs::View::view))]
+    #[tactic(auto, using(its_machine::proofs::NumberLaws::under, crate::proofs::FileLaws::reading, its_machine::proofs::NumberLaws::usr_number), unfolding(its_plain::specs::CallFile::access, its_plain::specs::View::view))]
     pub(crate) fn access(&self) -> Decision
         requires { Fits self.now.seen.now }
         ensures { result ≡ access (looks self.now) self.now.ask.now }
@@ -74,7 +74,7 @@ impl Caller<'_> {
     }
 
     /// FILLEN channel: how many words a file or a draft has. Errors 4, 5.
-    #[tactic(auto, using(its_parts::proofs::NumberLaws::under, crate::proofs::FileLaws::reading, crate::proofs::FileLaws::writing, its_files::proofs::EntryLaws::draft_stands), unfolding(its_plain::specs::CallFile::fillen, its_plain::specs::View::view))]
+    #[tactic(auto, using(its_machine::proofs::NumberLaws::under, crate::proofs::FileLaws::reading, crate::proofs::FileLaws::writing, its_files::proofs::EntryLaws::draft_stands), unfolding(its_plain::specs::CallFile::fillen, its_plain::specs::View::view))]
     pub(crate) fn fillen(&self) -> Decision
         requires { Fits self.now.seen.now }
         ensures { result ≡ fillen (looks self.now) self.now.ask.now }
@@ -95,7 +95,7 @@ impl Caller<'_> {
     }
 
     /// How many words a file has.
-    #[tactic(auto, using(its_parts::proofs::SeenLaws::seen_words, its_files::proofs::EntryLaws::file_stands))]
+    #[tactic(auto, using(its_machine::proofs::SeenLaws::seen_words, its_files::proofs::EntryLaws::file_stands))]
     fn words_of_file(&self, file: u32) -> u32
         requires { is_file (entry_at self.now.seen.now.files.now file) ≡ true }
         ensures { result ≡ length (words_by (file_named (names_at self.now.seen.now.files.now file) (directory self.now.seen.now.files.now))) }
@@ -105,7 +105,7 @@ impl Caller<'_> {
     }
 
     /// The word of a file at a position; None at its end.
-    #[tactic(auto, using(its_parts::proofs::SeenLaws::seen_words, its_parts::proofs::SeenLaws::few_words))]
+    #[tactic(auto, using(its_machine::proofs::SeenLaws::seen_words, its_machine::proofs::SeenLaws::few_words))]
     fn word_of_file(&self, file: u32, at: u32) -> Option<Word>
         requires { is_file (entry_at self.now.seen.now.files.now file) ≡ true }
         ensures word { result ≡ slice_get (words_by (file_named (names_at self.now.seen.now.files.now file) (directory self.now.seen.now.files.now))) at }
@@ -177,7 +177,7 @@ impl Caller<'_> {
     }
 
     /// The same if no test of its arguments stops it.
-    #[tactic(auto, using(its_parts::proofs::StopLaws::loaded_fits, crate::proofs::FileLaws::writing, crate::proofs::FileLaws::seen_full, its_files::proofs::EntryLaws::draft_stands), unfolding(its_plain::specs::View::view))]
+    #[tactic(auto, using(its_machine::proofs::StopLaws::loaded_fits, crate::proofs::FileLaws::writing, crate::proofs::FileLaws::seen_full, its_files::proofs::EntryLaws::draft_stands), unfolding(its_plain::specs::View::view))]
     fn siot_write(&self, next: Word, draft: u32) -> Decision
         requires on { channel_under self.now.job.now (input self.now.ask.now 0) ≡ Writing draft }
         requires size { has_size next ≡ true }

@@ -10,7 +10,7 @@ ghost use Rattle.its_plain.specs.CallBasic.{is_superior};
 ghost use Rattle.its_plain.specs.CallUsr.{any_named, has_names, inferior_named, iot_from, iot_into, iot_through, opens_usr, siot_from, siot_into, siot_peeks, siot_pokes, siot_through, uclose, usrmem, usrmem_on};
 ghost use Rattle.its_plain.specs.Decide.{call_named};
 ghost use Rattle.its_plain.specs.Machine.{On};
-ghost use Rattle.its_parts.specs.Called.{channel_under};
+ghost use Rattle.its_machine.specs.Called.{channel_under};
 ghost use Rattle.its_decide.specs.Called.{looks};
 ghost use Rattle.its_decide.specs.Fits.{Fits};
 ghost use Rattle.its_decide.specs.Targets.{Targets};
@@ -245,7 +245,7 @@ impl Caller<'_> {
     }
 
     /// The same if no test of its arguments stops it.
-    #[tactic(auto, using(crate::proofs::InferiorLaws::other_stored, its_parts::proofs::StopLaws::loaded_fits), unfolding(its_plain::specs::View::view))]
+    #[tactic(auto, using(crate::proofs::InferiorLaws::other_stored, its_machine::proofs::StopLaws::loaded_fits), unfolding(its_plain::specs::View::view))]
     fn siot_pokes(&self, next: Word, inferior: u8, at: u32) -> Decision
         requires targets { Targets self.now (input self.now.ask.now 0) inferior }
         requires below { at < 2 ^ 18 }
@@ -270,7 +270,7 @@ impl Caller<'_> {
 
     /// USRMEM channel, address, optional new word: the output gets the word of the inferior, and then the new one is stored. Errors 4,
     /// 5, 22; 5 if the channel has no leave to write, 16 if the word is absent or cannot be stored.
-    #[tactic(auto, using(its_parts::proofs::NumberLaws::under, crate::proofs::InferiorLaws::targeted), unfolding(its_plain::specs::CallUsr::usrmem, its_plain::specs::View::view))]
+    #[tactic(auto, using(its_machine::proofs::NumberLaws::under, crate::proofs::InferiorLaws::targeted), unfolding(its_plain::specs::CallUsr::usrmem, its_plain::specs::View::view))]
     pub(crate) fn usrmem(&self) -> Decision
         requires fail { self.now.ask.now.fail ≡ 0 }
         requires name { call_named self.now.ask.now.name ≡ Some Usrmem }
@@ -321,7 +321,7 @@ impl Caller<'_> {
     }
 
     /// UCLOSE channel: the inferior and all jobs below it are removed. Errors 4, 5.
-    #[tactic(auto, using(its_parts::proofs::NumberLaws::under), unfolding(its_plain::specs::CallUsr::uclose, its_plain::specs::View::view))]
+    #[tactic(auto, using(its_machine::proofs::NumberLaws::under), unfolding(its_plain::specs::CallUsr::uclose, its_plain::specs::View::view))]
     pub(crate) fn uclose(&self) -> Decision
         ensures { result ≡ uclose (looks self.now) self.now.ask.now }
     {

@@ -175,7 +175,7 @@ impl Caller<'_> {
     }
 
     /// The byte of the next pointer is sent through a link.
-    #[tactic(auto, using(its_parts::proofs::StopLaws::loaded_fits), unfolding(its_plain::specs::View::view))]
+    #[tactic(auto, using(its_machine::proofs::StopLaws::loaded_fits), unfolding(its_plain::specs::View::view))]
     fn siot_send(&self, next: Word, link: u8) -> Decision
         requires { has_size next ≡ true }
         ensures { result ≡ siot_send (looks self.now) self.now.ask.now next (input self.now.ask.now 2) link }

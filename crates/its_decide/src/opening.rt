@@ -18,7 +18,7 @@ impl Caller<'_> {
     }
 
     /// Whether a number is that of a closed channel.
-    #[tactic(auto, using(its_parts::proofs::NumberLaws::under), unfolding(its_plain::specs::View::view))]
+    #[tactic(auto, using(its_machine::proofs::NumberLaws::under), unfolding(its_plain::specs::View::view))]
     pub(crate) fn is_free(&self, number: Word) -> bool
         ensures { result ≡ (nat_lt number 16 && is_shut (channel_at (looks self.now).own.channels number)) }
     {

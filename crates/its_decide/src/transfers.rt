@@ -5,7 +5,7 @@ ghost use Rattle.its_core.specs.Cores.{core_at};
 ghost use Rattle.its_frame.specs.declared.decision.Decision.{Decision as DecisionOf};
 ghost use Rattle.its_plain.specs.Arguments.{input};
 ghost use Rattle.its_plain.specs.Transfer.{is_indexed, next_pointer, siot_by, siot_tests, word_bits};
-ghost use Rattle.its_parts.specs.Called.{bar_of, first_of};
+ghost use Rattle.its_machine.specs.Called.{bar_of, first_of};
 ghost use Rattle.its_decide.specs.Called.{looks};
 
 use super::caller::Caller;

@@ -21,7 +21,7 @@ impl Caller<'_> {
     /// USRVAR job, name, optional new value: the output gets the value before, and then the new value is set. Errors 4 if the channel
     /// is closed, 5 if it is on no job, 22 if no variable has the name, 5 if the channel has no leave to write, and 22 if the variable
     /// cannot be set so.
-    #[tactic(auto, using(its_parts::proofs::NumberLaws::under), unfolding(its_plain::specs::CallBasic::usrvar, its_plain::specs::View::view))]
+    #[tactic(auto, using(its_machine::proofs::NumberLaws::under), unfolding(its_plain::specs::CallBasic::usrvar, its_plain::specs::View::view))]
     pub(crate) fn usrvar(&self) -> Decision
         ensures { result ≡ usrvar (looks self.now) self.now.ask.now }
     {
@@ -37,7 +37,7 @@ impl Caller<'_> {
     }
 
     /// USRVAR on oneself.
-    #[tactic(auto, using(its_parts::proofs::BareLaws::set_bare), unfolding(its_plain::specs::View::view))]
+    #[tactic(auto, using(its_machine::proofs::BareLaws::set_bare), unfolding(its_plain::specs::View::view))]
     fn own_variable(&self) -> Decision
         ensures { result ≡ own_variable (looks self.now) self.now.ask.now (variable_named (input self.now.ask.now 1)) }
     {

@@ -13,8 +13,8 @@ use Rattle.its_plain.specs.Change.{effect, effects, in_job, on_slot, removed, su
 use Rattle.its_plain.specs.Machine.{Machine, Whole, core_of}
 use Rattle.its_plain.specs.Own.{leave, with_stores}
 use Rattle.its_plain.proofs.MachineLaws.{machine_is}
-use Rattle.its_parts.specs.Can.{CanMake, CanMakeAll, HasJob}
-use Rattle.its_parts.proofs.PartLaws.{on_slot_here, on_slot_other}
+use Rattle.its_machine.specs.Can.{CanMake, CanMakeAll, HasJob}
+use Rattle.its_machine.proofs.PartLaws.{on_slot_here, on_slot_other}
 use Rattle.its_direct.specs.Effects.{Becomes}
 use Rattle.its_direct.specs.Plain.{machine_of}
 use Rattle.its_direct.specs.declared.plain.Plain.{Plain}

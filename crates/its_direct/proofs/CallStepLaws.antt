@@ -34,8 +34,8 @@ use Rattle.its_plain.specs.Machine.{Chan, On, Machine, Whole}
 use Rattle.its_plain.specs.Turns.{is_running}
 use Rattle.its_plain.proofs.StepLaws.{step_by}
 use Rattle.its_plain.proofs.FitsLaws.{site_fits}
-use Rattle.its_parts.specs.Across.{Across, channel_at, channel_by}
-use Rattle.its_parts.specs.Parts.{alarm_at, bare, chan_of, chans_of, raw_machine, raw_of}
+use Rattle.its_machine.specs.Across.{Across, channel_at, channel_by}
+use Rattle.its_machine.specs.Parts.{alarm_at, bare, chan_of, chans_of, raw_machine, raw_of}
 use Rattle.its_stepped.specs.Forest.{Forest, OnInferior}
 use Rattle.its_stepped.proofs.AlarmLaws.{step_alarmed}
 use Rattle.its_stepped.proofs.ConsoledLaws.{step_consoled}

@@ -23,15 +23,15 @@ use Rattle.its_plain.specs.OperatorClock.{clock_end}
 use Rattle.its_plain.specs.OperatorFiles.{channels_of}
 use Rattle.its_plain.specs.Own.{names_of, opened_on, at_position, on_channel, with_word as longer_on}
 use Rattle.its_plain.proofs.MachineLaws.{machine_is}
-use Rattle.its_parts.specs.Across.{channel_at, reads_file, writes_draft, Across, IsElsewhere}
-use Rattle.its_parts.specs.Channels.{OnlyChannel, Shows}
-use Rattle.its_parts.specs.Can.{HasJob, chan_in, HasRoom, CanClose}
-use Rattle.its_parts.specs.Parts.{alarm_at, bare, chan_of, console_at, holder_at, raw_at, symbols_at}
-use Rattle.its_parts.proofs.ChanLaws.{raw_alike, job_by, chan_by, shut_by, still_moved, close_marks}
-use Rattle.its_parts.proofs.KeptLaws.{Kept, Stays, opened_kept, closed_kept, drafted_kept, discarded_kept, appended_kept, closing_kept, deleted_stays, renamed_stays, helped_stays, delete_is, rename_is}
-use Rattle.its_parts.proofs.SetLaws.{only_same, channel_put, channel_absent, channel_same, open_job, one_channel, none_before, raw_channel, set_kept, put_kept}
-use Rattle.its_parts.proofs.ShowLaws.{draft_room, close_can}
-use Rattle.its_parts.proofs.StoreLaws.{renamed_directory}
+use Rattle.its_machine.specs.Across.{channel_at, reads_file, writes_draft, Across, IsElsewhere}
+use Rattle.its_machine.specs.Channels.{OnlyChannel, Shows}
+use Rattle.its_machine.specs.Can.{HasJob, chan_in, HasRoom, CanClose}
+use Rattle.its_machine.specs.Parts.{alarm_at, bare, chan_of, console_at, holder_at, raw_at, symbols_at}
+use Rattle.its_machine.proofs.ChanLaws.{raw_alike, job_by, chan_by, shut_by, still_moved, close_marks}
+use Rattle.its_machine.proofs.KeptLaws.{Kept, Stays, opened_kept, closed_kept, drafted_kept, discarded_kept, appended_kept, closing_kept, deleted_stays, renamed_stays, helped_stays, delete_is, rename_is}
+use Rattle.its_machine.proofs.SetLaws.{only_same, channel_put, channel_absent, channel_same, open_job, one_channel, none_before, raw_channel, set_kept, put_kept}
+use Rattle.its_machine.proofs.ShowLaws.{draft_room, close_can}
+use Rattle.its_machine.proofs.StoreLaws.{renamed_directory}
 use Rattle.its_direct.specs.Effects.{ChannelBecomes, Comes, OnlyStore}
 use Rattle.its_direct.specs.Plain.{machine_of, Tidy, JobBecomes}
 use Rattle.its_direct.specs.declared.plain.Plain.{Plain}

@@ -18,12 +18,12 @@ use Rattle.its_plain.specs.OperatorClock.{alarm_in, due, rung_if, at_clock, cloc
 use Rattle.its_plain.proofs.MachineLaws.{machine_is}
 use Rattle.its_stepped.specs.Alarmed.{Periodic, Alarmed}
 use Rattle.its_stepped.proofs.AlarmLaws.{coming_periodic}
-use Rattle.its_parts.specs.Across.{Across}
-use Rattle.its_parts.specs.Parts.{alarm_at, console_at, holder_at, symbols_at, raw_of}
-use Rattle.its_parts.proofs.PartLaws.{slot_at}
+use Rattle.its_machine.specs.Across.{Across}
+use Rattle.its_machine.specs.Parts.{alarm_at, console_at, holder_at, symbols_at, raw_of}
+use Rattle.its_machine.proofs.PartLaws.{slot_at}
 use Rattle.its_direct.specs.Plain.{machine_of, is_touched, no_slots, Tidy, JobBecomes}
 use Rattle.its_plain.specs.Own.{with_registers}
-use Rattle.its_parts.proofs.TimeLaws.{rung_slot, below_next}
+use Rattle.its_machine.proofs.TimeLaws.{rung_slot, below_next}
 use Rattle.its_direct.specs.Clock.{AlarmBecomes, Clocks, Periods, RangAt, RangBelow}
 use Rattle.its_direct.specs.declared.plain.Plain.{Plain}
 use Rattle.its_direct.proofs.SlotLaws.{IsPlaced, placed_at, slot_machine, slot_tidy, touched_machine, touched_tidy}

@@ -15,9 +15,9 @@ use Rattle.its_plain.specs.Machine.{Console}
 use Rattle.its_plain.specs.OperatorClock.{clock_end}
 use Rattle.its_plain.specs.OperatorConsoles.{dropped}
 use Rattle.its_plain.proofs.MachineLaws.{machine_is}
-use Rattle.its_parts.specs.Across.{Across}
-use Rattle.its_parts.specs.Parts.{alarm_at, console_at, holder_at, symbols_at, raw_at}
-use Rattle.its_parts.proofs.PartLaws.{changed_at}
+use Rattle.its_machine.specs.Across.{Across}
+use Rattle.its_machine.specs.Parts.{alarm_at, console_at, holder_at, symbols_at, raw_at}
+use Rattle.its_machine.proofs.PartLaws.{changed_at}
 use Rattle.its_direct.specs.Plain.{machine_of, no_slots, Tidy}
 use Rattle.its_direct.specs.Consoles.{lost_of}
 use Rattle.its_direct.specs.Lines.{Stands, ConsoleBecomes}

@@ -9,8 +9,8 @@ use Rattle.its_plain.specs.CallFile.{file_named}
 use Rattle.its_plain.specs.Machine.{File}
 use Rattle.its_plain.specs.OperatorFiles.{is_in, files_in}
 use Rattle.its_plain.specs.Own.{names_of}
-use Rattle.its_parts.proofs.DirLaws.{rest_in, rest_next, rest_past}
-use Rattle.its_parts.proofs.StoreLaws.{found_named}
+use Rattle.its_machine.proofs.DirLaws.{rest_in, rest_next, rest_past}
+use Rattle.its_machine.proofs.StoreLaws.{found_named}
 use Rattle.its_direct.proofs.ConsoleLaws.{head_more}
 use Rattle.its_direct.specs.Plain.{machine_of}
 use Rattle.its_direct.specs.declared.plain.Plain.{Plain}

@@ -20,11 +20,11 @@ use Rattle.its_plain.specs.Job.{INF, with_pending}
 use Rattle.its_plain.specs.Machine.{Console, Whole, Machine, changed, core_of, mapped}
 use Rattle.its_plain.specs.Own.{leave, left_with, with_registers, with_stores, with_variable}
 use Rattle.its_plain.proofs.MachineLaws.{machine_is}
-use Rattle.its_parts.specs.Can.{HasJob, HasPage, Maps, Pokes}
-use Rattle.its_parts.specs.Parts.{alarm_at, console_at, holder_at, raw_of}
-use Rattle.its_parts.proofs.BareLaws.{variable_bare, variable_channels}
-use Rattle.its_parts.proofs.CoreLaws.{same_core}
-use Rattle.its_parts.proofs.PartLaws.{raw_job, changed_at, slot_at}
+use Rattle.its_machine.specs.Can.{HasJob, HasPage, Maps, Pokes}
+use Rattle.its_machine.specs.Parts.{alarm_at, console_at, holder_at, raw_of}
+use Rattle.its_machine.proofs.BareLaws.{variable_bare, variable_channels}
+use Rattle.its_machine.proofs.CoreLaws.{same_core}
+use Rattle.its_machine.proofs.PartLaws.{raw_job, changed_at, slot_at}
 use Rattle.its_direct.specs.Clock.{AlarmBecomes}
 use Rattle.its_direct.specs.Effects.{Becomes}
 use Rattle.its_direct.specs.Lines.{ConsoleBecomes}

@@ -29,11 +29,11 @@ use Rattle.its_plain.specs.Operator.{and_then}
 use Rattle.its_plain.specs.OperatorClock.{clock_end}
 use Rattle.its_plain.specs.OperatorFiles.{channels_of, with_files, file_made_if, file_made, word_added_if, word_added_to, word_added, words_added}
 use Rattle.its_plain.proofs.MachineLaws.{machine_is}
-use Rattle.its_parts.specs.Across.{Across, channel_by, channel_at, writers}
-use Rattle.its_parts.specs.Parts.{alarm_at, bare, chan_of, console_at, holder_at, symbols_at, raw_of}
-use Rattle.its_parts.proofs.RoomLaws.{full_on}
-use Rattle.its_parts.proofs.StandLaws.{reading_file, writing_draft}
-use Rattle.its_parts.proofs.StoreLaws.{found_named, has_named, named_self}
+use Rattle.its_machine.specs.Across.{Across, channel_by, channel_at, writers}
+use Rattle.its_machine.specs.Parts.{alarm_at, bare, chan_of, console_at, holder_at, symbols_at, raw_of}
+use Rattle.its_machine.proofs.RoomLaws.{full_on}
+use Rattle.its_machine.proofs.StandLaws.{reading_file, writing_draft}
+use Rattle.its_machine.proofs.StoreLaws.{found_named, has_named, named_self}
 use Rattle.its_direct.specs.Filing.{Leads, FilesBecome}
 use Rattle.its_direct.specs.Lines.{Keeps}
 use Rattle.its_direct.specs.Plain.{machine_of, no_slots, Tidy}

@@ -18,8 +18,8 @@ use Rattle.its_plain.specs.Operator.{only}
 use Rattle.its_plain.specs.OperatorJobs.{on_job, with_registers, on_registers, started, stopped, continued, interrupted, seen, examined, state_shown, shown, with_core, deposited_in, deposited}
 use Rattle.its_plain.specs.OperatorSymbols.{symbol_shown}
 use Rattle.its_plain.proofs.MachineLaws.{machine_is}
-use Rattle.its_parts.specs.Parts.{bare, alarm_at}
-use Rattle.its_parts.proofs.PartLaws.{raw_job, changed_only, on_slot_here, on_slot_other}
+use Rattle.its_machine.specs.Parts.{bare, alarm_at}
+use Rattle.its_machine.proofs.PartLaws.{raw_job, changed_only, on_slot_here, on_slot_other}
 use Rattle.its_direct.specs.Plain.{machine_of, is_touched, no_slots, Tidy, CoreBecomes, JobBecomes}
 use Rattle.its_word.specs.Refusals.{reason_of}
 use Rattle.its_direct.specs.Lines.{refusal_of, one_slot, Operates, Looks, Rewritten}

@@ -15,10 +15,10 @@ use Rattle.its_plain.specs.Machine.{Linked, Pipe, Shut, Machine}
 use Rattle.its_plain.specs.OperatorClock.{clock_end}
 use Rattle.its_plain.specs.Own.{on_channel}
 use Rattle.its_plain.proofs.MachineLaws.{machine_is}
-use Rattle.its_parts.specs.Across.{channel_at, Across, IsElsewhere}
-use Rattle.its_parts.specs.Can.{chan_in}
-use Rattle.its_parts.specs.Parts.{alarm_at, chan_of, console_at, holder_at, raw_at, symbols_at}
-use Rattle.its_parts.proofs.PartLaws.{changed_at}
+use Rattle.its_machine.specs.Across.{channel_at, Across, IsElsewhere}
+use Rattle.its_machine.specs.Can.{chan_in}
+use Rattle.its_machine.specs.Parts.{alarm_at, chan_of, console_at, holder_at, raw_at, symbols_at}
+use Rattle.its_machine.proofs.PartLaws.{changed_at}
 use Rattle.its_direct.specs.Effects.{Becomes, LinkBecomes}
 use Rattle.its_direct.specs.Plain.{machine_of, Tidy}
 use Rattle.its_direct.specs.declared.plain.Plain.{Plain}

@@ -20,10 +20,10 @@ use Rattle.its_plain.specs.Machine.{Machine, whole, changed, limit, with_new}
 use Rattle.its_plain.specs.OperatorJobs.{loaded, loaded_in, new_job, held_by, with_holder}
 use Rattle.its_plain.specs.OperatorClock.{clock_end}
 use Rattle.its_plain.proofs.MachineLaws.{machine_is}
-use Rattle.its_parts.specs.Across.{channel_by, channel_at, Across}
-use Rattle.its_parts.specs.Parts.{alarm_at, console_at, holder_at, symbols_at, raw_of, raw_at}
-use Rattle.its_parts.proofs.AcrossLaws.{across_table}
-use Rattle.its_parts.proofs.PartLaws.{changed_at, changed_only, fresh_closed, fresh_raw}
+use Rattle.its_machine.specs.Across.{channel_by, channel_at, Across}
+use Rattle.its_machine.specs.Parts.{alarm_at, console_at, holder_at, symbols_at, raw_of, raw_at}
+use Rattle.its_machine.proofs.AcrossLaws.{across_table}
+use Rattle.its_machine.proofs.PartLaws.{changed_at, changed_only, fresh_closed, fresh_raw}
 use Rattle.its_direct.specs.Plain.{machine_of, Aside, Tidy}
 use Rattle.its_direct.specs.Effects.{Becomes, console_of}
 use Rattle.its_direct.specs.Lines.{one_slot, Loads}

@@ -19,7 +19,7 @@ use Rattle.its_jobs.specs.Table.{job_at, superior_at}
 use Rattle.its_plain.specs.Machine.{Whole, Machine, mapped, core_of}
 use Rattle.its_plain.specs.Operator.{and_then}
 use Rattle.its_plain.specs.OperatorJobs.{with_core, stored_in, stored, word_loaded_of, word_loaded, words_stored, any_barred, barred_in, words_loaded_if, words_loaded}
-use Rattle.its_parts.specs.Parts.{alarm_at, raw_of}
+use Rattle.its_machine.specs.Parts.{alarm_at, raw_of}
 use Rattle.its_direct.specs.Plain.{machine_of, Tidy, Aside, CoreBecomes}
 use Rattle.its_direct.specs.Lines.{one_slot, Operates, pages_made}
 use Rattle.its_direct.specs.declared.plain.Plain.{Plain}

@@ -39,13 +39,13 @@ use Rattle.its_stepped.proofs.FrameLaws.{stored_one}
 use Rattle.its_stepped.proofs.GivenLaws.{decision_duty}
 use Rattle.its_stepped.proofs.OwnLaws.{spared, job_kept}
 use Rattle.its_stepped.proofs.UnwindLaws.{most_few}
-use Rattle.its_parts.specs.Can.{HasJob}
+use Rattle.its_machine.specs.Can.{HasJob}
 use Rattle.its_direct.specs.Plain.{machine_of, Tidy}
 use Rattle.its_direct.specs.Ready.{HeldFits, held_in, GoesOn, core_behind, Ready}
 use Rattle.its_direct.specs.Steps.{CallsAt}
 use Rattle.its_direct.specs.declared.plain.Plain.{Plain}
-use Rattle.its_parts.proofs.CanLaws.{Beside, nothing, all_can, DecisionCan}
-use Rattle.its_parts.proofs.CallCanLaws.{Grants, decision_can}
+use Rattle.its_machine.proofs.CanLaws.{Beside, nothing, all_can, DecisionCan}
+use Rattle.its_machine.proofs.CallCanLaws.{Grants, decision_can}
 use Rattle.its_direct.proofs.CallingLaws.{page_for, beginning, nobody, calling, all_alike}
 use Rattle.its_direct.proofs.UserLaws.{own_is, nobody_is}
 

@@ -19,15 +19,15 @@ use Rattle.its_plain.specs.Machine.{Machine, Shut, Symbol, Whole}
 use Rattle.its_plain.specs.OperatorClock.{clock_end}
 use Rattle.its_plain.specs.Own.{on_channel}
 use Rattle.its_plain.proofs.MachineLaws.{machine_is}
-use Rattle.its_parts.specs.Across.{channel_by, channel_at, channel_left as left_of, Across}
-use Rattle.its_parts.specs.Can.{chan_in}
-use Rattle.its_parts.specs.Parts.{alarm_at, bare, chan_of, console_at, holder_at, raw_at, raw_of, symbols_at}
-use Rattle.its_parts.proofs.AcrossLaws.{across_alike}
-use Rattle.its_parts.proofs.CoreLaws.{same_clear}
-use Rattle.its_parts.proofs.LeftLaws.{left_alike, left_chan, raw_superior, shut_here, shut_there}
-use Rattle.its_parts.proofs.PartLaws.{on_slot_here, on_slot_other}
-use Rattle.its_parts.proofs.TurningLaws.{Turning}
-use Rattle.its_parts.proofs.TurningLaws as turnings
+use Rattle.its_machine.specs.Across.{channel_by, channel_at, channel_left as left_of, Across}
+use Rattle.its_machine.specs.Can.{chan_in}
+use Rattle.its_machine.specs.Parts.{alarm_at, bare, chan_of, console_at, holder_at, raw_at, raw_of, symbols_at}
+use Rattle.its_machine.proofs.AcrossLaws.{across_alike}
+use Rattle.its_machine.proofs.CoreLaws.{same_clear}
+use Rattle.its_machine.proofs.LeftLaws.{left_alike, left_chan, raw_superior, shut_here, shut_there}
+use Rattle.its_machine.proofs.PartLaws.{on_slot_here, on_slot_other}
+use Rattle.its_machine.proofs.TurningLaws.{Turning}
+use Rattle.its_machine.proofs.TurningLaws as turnings
 use Rattle.its_direct.specs.Clock.{AlarmBecomes}
 use Rattle.its_direct.specs.Effects.{Becomes}
 use Rattle.its_direct.specs.Lines.{SymbolsBecome}

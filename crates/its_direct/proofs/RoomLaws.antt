@@ -13,7 +13,7 @@ use Rattle.its_core.specs.Cores.{mark_of}
 use Rattle.its_plain.specs.Machine.{Whole, Machine, changed, with_job, mapped, core_of}
 use Rattle.its_plain.specs.Operator.{and_then}
 use Rattle.its_plain.specs.OperatorJobs.{with_core, stored_in, stored, word_loaded_of, word_loaded, words_stored, is_barred, any_barred}
-use Rattle.its_parts.proofs.PartLaws.{changed_only}
+use Rattle.its_machine.proofs.PartLaws.{changed_only}
 use Rattle.its_direct.specs.Lines.{one_unless, pages_absent, pages_made_if, pages_made}
 
 -- a line is obeyed if what it needs is at most what there can be, or it is refused as Full if it needs more

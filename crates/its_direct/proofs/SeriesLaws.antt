@@ -13,14 +13,14 @@ use Rattle.its_plain.specs.Unit.{Outcome, Changed, Faulted, Called, unit}
 use Rattle.its_plain.proofs.MachineLaws.{machine_is}
 use Rattle.its_plain.proofs.StepLaws.{step_by, transition_unit}
 use Rattle.its_plain.proofs.UnitLaws.{unit_keeps}
-use Rattle.its_parts.specs.Parts.{bare}
-use Rattle.its_parts.proofs.BareLaws.{bare_outcome, deliverable_bare, unit_bare}
-use Rattle.its_parts.proofs.PartLaws.{on_slot_here, on_slot_other}
+use Rattle.its_machine.specs.Parts.{bare}
+use Rattle.its_machine.proofs.BareLaws.{bare_outcome, deliverable_bare, unit_bare}
+use Rattle.its_machine.proofs.PartLaws.{on_slot_here, on_slot_other}
 use Rattle.pdp_exec.proofs.SeriesLaws.{no_units, units_keep}
 use Rattle.pdp_exec.specs.Units.{Left, after_outcome, after_unit, after_units, left, unit_unless}
 use Rattle.its_core.specs.Cores.{core_at}
 use Rattle.its_jobs.specs.Table.{job_at, superior_at}
-use Rattle.its_parts.specs.Parts.{alarm_at}
+use Rattle.its_machine.specs.Parts.{alarm_at}
 use Rattle.its_direct.specs.Plain.{machine_of, is_touched, no_slots, Tidy, SlotBecomes, CoreBecomes, JobBecomes}
 use Rattle.its_direct.specs.Events.{Kept, SpotFits}
 use Rattle.its_direct.specs.Series.{Series, is_due, unit_due}

@@ -18,11 +18,11 @@ use Rattle.its_plain.specs.OperatorJobs.{on_job, page_protected_in, page_protect
 use Rattle.its_plain.specs.OperatorSymbols.{with_symbol, symbol_kept_if, symbol_kept_of, symbol_kept}
 use Rattle.its_plain.specs.OperatorVersion.{versioned}
 use Rattle.its_plain.proofs.MachineLaws.{machine_is}
-use Rattle.its_parts.specs.Across.{channel_by, Across}
-use Rattle.its_parts.specs.Parts.{alarm_at, console_at, holder_at, symbols_at, raw_of, raw_at}
-use Rattle.its_parts.proofs.AcrossLaws.{across_table}
-use Rattle.its_parts.proofs.PartLaws.{changed_at}
-use Rattle.its_parts.proofs.VersionLaws.{version_set, same_version}
+use Rattle.its_machine.specs.Across.{channel_by, Across}
+use Rattle.its_machine.specs.Parts.{alarm_at, console_at, holder_at, symbols_at, raw_of, raw_at}
+use Rattle.its_machine.proofs.AcrossLaws.{across_table}
+use Rattle.its_machine.proofs.PartLaws.{changed_at}
+use Rattle.its_machine.proofs.VersionLaws.{version_set, same_version}
 use Rattle.its_direct.specs.Plain.{machine_of, no_slots, Tidy, CoreBecomes}
 use Rattle.its_direct.specs.Lines.{one_slot, Operates, Stands, Keeps, SymbolsBecome, VersionBecomes}
 use Rattle.its_direct.specs.declared.plain.Plain.{Plain}

@@ -8,7 +8,7 @@ use Rattle.its_word.specs.declared.jobs.Job.{Job}
 use Rattle.its_word.specs.declared.session.Reason.TheVariants as reasons
 use Rattle.its_core.specs.Cores.{core_at}
 use Rattle.its_jobs.specs.Table.{job_at, superior_at}
-use Rattle.its_parts.specs.Parts.{symbols_at}
+use Rattle.its_machine.specs.Parts.{symbols_at}
 use Rattle.its_plain.specs.Machine.{Symbol, joined, words_at}
 use Rattle.its_plain.specs.OperatorJobs.{on_job, seen, examined, shown, state_shown}
 use Rattle.its_plain.specs.OperatorSymbols.{symbol_shown}

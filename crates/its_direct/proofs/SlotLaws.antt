@@ -17,11 +17,11 @@ use Rattle.its_plain.specs.Change.{in_job}
 use Rattle.its_plain.specs.Machine.{Whole}
 use Rattle.its_plain.specs.OperatorClock.{clock_end}
 use Rattle.its_plain.proofs.MachineLaws.{machine_is}
-use Rattle.its_parts.specs.Across.{channel_by, channel_at, Across}
-use Rattle.its_parts.specs.Parts.{alarm_at, console_at, holder_at, symbols_at, raw_of, raw_at}
-use Rattle.its_parts.proofs.AcrossLaws.{across_table}
-use Rattle.its_parts.proofs.CoreLaws.{same_clear}
-use Rattle.its_parts.proofs.PartLaws.{raw_job, raw_some, slot_at}
+use Rattle.its_machine.specs.Across.{channel_by, channel_at, Across}
+use Rattle.its_machine.specs.Parts.{alarm_at, console_at, holder_at, symbols_at, raw_of, raw_at}
+use Rattle.its_machine.proofs.AcrossLaws.{across_table}
+use Rattle.its_machine.proofs.CoreLaws.{same_clear}
+use Rattle.its_machine.proofs.PartLaws.{raw_job, raw_some, slot_at}
 use Rattle.its_direct.specs.Plain.{machine_of, Tidy, Aside, SlotBecomes, CoreBecomes, JobBecomes}
 use Rattle.its_direct.specs.declared.plain.Plain.{Plain}
 

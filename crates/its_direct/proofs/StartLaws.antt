@@ -10,9 +10,9 @@ use Rattle.its_pipes.specs.Pipes.{piped}
 use Rattle.its_plain.specs.Machine.{no_machine}
 use Rattle.its_plain.specs.OperatorClock.{clock_end}
 use Rattle.its_plain.proofs.MachineLaws.{machine_is}
-use Rattle.its_parts.specs.Across.{Across}
-use Rattle.its_parts.specs.Parts.{alarm_at, console_at, holder_at, symbols_at, raw_of}
-use Rattle.its_parts.proofs.AcrossLaws.{no_across}
+use Rattle.its_machine.specs.Across.{Across}
+use Rattle.its_machine.specs.Parts.{alarm_at, console_at, holder_at, symbols_at, raw_of}
+use Rattle.its_machine.proofs.AcrossLaws.{no_across}
 use Rattle.its_direct.specs.Plain.{machine_of, Tidy}
 use Rattle.its_direct.specs.declared.plain.Plain.{Plain}
 

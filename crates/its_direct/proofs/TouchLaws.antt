@@ -8,7 +8,7 @@ use Rattle.its_word.specs.Limits.{slots}
 use Rattle.its_plain.specs.Change.{in_job, on_slot}
 use Rattle.its_plain.specs.Footprint.{among}
 use Rattle.its_plain.specs.Machine.{Whole, Machine}
-use Rattle.its_parts.proofs.PartLaws.{on_slot_here, on_slot_other}
+use Rattle.its_machine.proofs.PartLaws.{on_slot_here, on_slot_other}
 use Rattle.its_direct.specs.Plain.{no_slots}
 
 -- a job that is changed is not made, and no other is

@@ -21,9 +21,9 @@ use Rattle.its_plain.specs.Unit.{Outcome, Called, unit}
 use Rattle.its_plain.proofs.DeliveryLaws.{delivered_placed}
 use Rattle.its_plain.proofs.MachineLaws.{machine_is}
 use Rattle.its_plain.proofs.StepLaws.{transition_delivers, transition_unit}
-use Rattle.its_parts.specs.Parts.{bare, alarm_at, chan_of}
-use Rattle.its_parts.proofs.BareLaws.{bare_delivered, bare_outcome, deliverable_bare, delivered_bare, delivered_channels, unit_bare}
-use Rattle.its_parts.proofs.PartLaws.{raw_job, raw_some, raw_none, on_slot_here, on_slot_other}
+use Rattle.its_machine.specs.Parts.{bare, alarm_at, chan_of}
+use Rattle.its_machine.proofs.BareLaws.{bare_delivered, bare_outcome, deliverable_bare, delivered_bare, delivered_channels, unit_bare}
+use Rattle.its_machine.proofs.PartLaws.{raw_job, raw_some, raw_none, on_slot_here, on_slot_other}
 use Rattle.its_direct.specs.Plain.{machine_of, is_touched, no_slots, Tidy, SlotBecomes, CoreBecomes, JobBecomes}
 use Rattle.its_direct.specs.Steps.{CallsAt, SteppedBy}
 pub use Rattle.its_direct.specs.Steps.{own_of}

@@ -7,7 +7,7 @@ use Rattle.its_plain.specs.Alarm.{is_due}
 use Rattle.its_plain.specs.Machine.{Machine}
 use Rattle.its_plain.specs.OperatorClock.{due, rung_if}
 use Rattle.its_stepped.specs.Alarmed.{Periodic}
-use Rattle.its_parts.specs.Parts.{alarm_at}
+use Rattle.its_machine.specs.Parts.{alarm_at}
 use Rattle.its_direct.specs.Plain.{machine_of, is_touched}
 use Rattle.its_direct.specs.declared.plain.Plain.{Plain}
 

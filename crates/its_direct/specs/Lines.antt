@@ -9,8 +9,8 @@ use Rattle.its_jobs.specs.Table.{job_at}
 use Rattle.its_plain.specs.Change.{in_job}
 use Rattle.its_plain.specs.Machine.{Console, Symbol, Machine}
 use Rattle.its_plain.specs.Operator.{nobody, only}
-pub use Rattle.its_parts.specs.Refusals.{refusal_of}
-use Rattle.its_parts.specs.Parts.{bare, console_at, symbols_at}
+pub use Rattle.its_machine.specs.Refusals.{refusal_of}
+use Rattle.its_machine.specs.Parts.{bare, console_at, symbols_at}
 use Rattle.its_direct.specs.Plain.{machine_of, is_touched, no_slots}
 use Rattle.its_direct.specs.declared.plain.Plain.{Plain}
 use Rattle.its_direct.specs.declared.plain.Spot.TheVariants as spots

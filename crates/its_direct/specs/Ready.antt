@@ -14,7 +14,7 @@ use Rattle.its_plain.specs.Arguments.{input, debts, revalued}
 use Rattle.its_plain.specs.CallStep.{deposited}
 use Rattle.its_plain.specs.Change.{effect, effects}
 use Rattle.its_plain.specs.Machine.{Machine, core_of}
-use Rattle.its_parts.specs.Can.{CanMakeAll, HasJob}
+use Rattle.its_machine.specs.Can.{CanMakeAll, HasJob}
 
 -- a byte that a call holds can be stored: its word can be written, and its pointer, input 1 of the call with its new values,
 -- shows a byte of some size

@@ -9,9 +9,9 @@ use Rattle.its_word.specs.declared.jobs.Job.{Job}
 use Rattle.its_core.specs.Cores.{core_at, clear_at}
 use Rattle.its_jobs.specs.Table.{job_at}
 use Rattle.its_plain.specs.Machine.{Shut}
-use Rattle.its_parts.specs.Across.{channel_by}
-use Rattle.its_parts.specs.Can.{chan_in}
-use Rattle.its_parts.specs.Parts.{alarm_at, bare, symbols_at}
+use Rattle.its_machine.specs.Across.{channel_by}
+use Rattle.its_machine.specs.Can.{chan_in}
+use Rattle.its_machine.specs.Parts.{alarm_at, bare, symbols_at}
 use Rattle.its_direct.specs.Plain.{machine_of}
 use Rattle.its_direct.specs.declared.plain.Plain.{Plain}
 

@@ -9,7 +9,7 @@ use Rattle.its_plain.specs.Decode.{ask}
 use Rattle.its_plain.specs.CallStep.{Transition, among, is_made, by_ask}
 use Rattle.its_plain.specs.Machine.{Whole, Machine}
 use Rattle.its_plain.specs.Unit.{Called, unit}
-use Rattle.its_parts.specs.Parts.{alarm_at, bare, chans_of}
+use Rattle.its_machine.specs.Parts.{alarm_at, bare, chans_of}
 use Rattle.its_decide.specs.declared.caller.Seen.{Seen}
 use Rattle.its_direct.specs.Effects.{Becomes}
 use Rattle.its_direct.specs.Plain.{machine_of, is_touched}

@@ -6,7 +6,7 @@ ghost use Rattle.its_plain.specs.CallBasic.{longest_period};
 ghost use Rattle.its_plain.specs.Job.{ALR as ALR_BIT, with_pending};
 ghost use Rattle.its_plain.specs.OperatorClock.{clocked, clock_end};
 ghost use Rattle.its_stepped.specs.Alarmed.{Alarmed};
-ghost use Rattle.its_parts.specs.Parts.{alarm_at};
+ghost use Rattle.its_machine.specs.Parts.{alarm_at};
 ghost use Rattle.its_direct.specs.Plain.{machine_of, no_slots, Tidy};
 ghost use Rattle.its_word.specs.Refusals.{reason_of};
 ghost use Rattle.its_direct.specs.Clock.{Clocks, Periods, RangAt, RangBelow};
@@ -127,7 +127,7 @@ fn with_alr(job: Job) -> Job
 
 /// The next time of an alarm with this period and next time that goes at a clock: it gains the least multiple of the period
 /// that brings it above the clock.
-#[tactic(auto, using(its_parts::proofs::TimeLaws::next_time, its_parts::proofs::TimeLaws::next_fits))]
+#[tactic(auto, using(its_machine::proofs::TimeLaws::next_time, its_machine::proofs::TimeLaws::next_fits))]
 fn time_after(period: u64, next: u64, clock: u64) -> u64
     requires some { 1 ≤ period }
     requires most { period ≤ longest_period }

@@ -3,7 +3,7 @@ ghost use Rattle.std.specs.Prelude.{◌≡◌, ◌<◌, ◌≤◌, ◌++◌, [],
 ghost use Rattle.std.specs.List.{cons_option};
 ghost use Rattle.its_word.specs.Console.{most_waiting};
 ghost use Rattle.its_plain.specs.OperatorConsoles.{typed, dropped, drained};
-ghost use Rattle.its_parts.specs.Parts.{console_at};
+ghost use Rattle.its_machine.specs.Parts.{console_at};
 ghost use Rattle.its_direct.specs.Consoles.{lost_of};
 ghost use Rattle.its_direct.specs.Plain.{machine_of, Tidy};
 ghost use Rattle.its_direct.specs.Lines.{Stands, ConsoleBecomes};

@@ -11,8 +11,8 @@ ghost use Rattle.its_jobs.specs.Table.{job_at};
 ghost use Rattle.its_plain.specs.Change.{in_job, inferior, on_console, poke, protected, put_to, taken_from, with_alarm, with_inf, with_page_at};
 ghost use Rattle.its_plain.specs.Machine.{changed, core_of, limit, with_new};
 ghost use Rattle.its_plain.specs.Own.{leave, left_with, with_registers, with_stores, with_variable};
-ghost use Rattle.its_parts.specs.Can.{HasJob, HasPage, Maps, Pokes};
-ghost use Rattle.its_parts.specs.Parts.{console_at};
+ghost use Rattle.its_machine.specs.Can.{HasJob, HasPage, Maps, Pokes};
+ghost use Rattle.its_machine.specs.Parts.{console_at};
 ghost use Rattle.its_direct.specs.Clock.{AlarmBecomes};
 ghost use Rattle.its_direct.specs.Effects.{Becomes, console_of};
 ghost use Rattle.its_direct.specs.Lines.{ConsoleBecomes};
@@ -165,7 +165,7 @@ impl Plain {
     }
 
     /// Writes the alarm of a slot.
-    #[tactic(auto, using(its_parts::proofs::OpenLaws::alarm_only))]
+    #[tactic(auto, using(its_machine::proofs::OpenLaws::alarm_only))]
     pub(crate) fn put_alarm(&mut self, slot: u8, alarm: Option<(u64, u64)>)
         requires { slot < slots }
         ensures { AlarmBecomes self.old self.new slot alarm }

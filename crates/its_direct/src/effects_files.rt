@@ -6,9 +6,9 @@ ghost use Rattle.its_plain.specs.Change.{files_closed, in_job, renamed, without_
 ghost use Rattle.its_plain.specs.Machine.{Shut};
 ghost use Rattle.its_plain.specs.Own.{at_position, names_of, on_channel, opened_on, with_word};
 ghost use Rattle.its_frame.specs.declared.change.Opened.TheVariants.{Reading as Reads, Writing as Writes};
-ghost use Rattle.its_parts.specs.Across.{channel_at, IsElsewhere};
-ghost use Rattle.its_parts.specs.Can.{CanOpen, chan_in, CanClose, HasJob, HasRoom, Unread};
-ghost use Rattle.its_parts.specs.Parts.{chan_of};
+ghost use Rattle.its_machine.specs.Across.{channel_at, IsElsewhere};
+ghost use Rattle.its_machine.specs.Can.{CanOpen, chan_in, CanClose, HasJob, HasRoom, Unread};
+ghost use Rattle.its_machine.specs.Parts.{chan_of};
 ghost use Rattle.its_direct.specs.Effects.{Becomes, ChannelBecomes};
 ghost use Rattle.its_direct.specs.Plain.{machine_of, Tidy};
 

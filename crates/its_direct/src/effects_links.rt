@@ -6,7 +6,7 @@ ghost use Rattle.its_frame.specs.declared.change.Change.TheVariants.{Join, Part}
 ghost use Rattle.its_plain.specs.CallLink.{words_in};
 ghost use Rattle.its_plain.specs.Change.{effect, end_closed, link_or_new, on_link, with_end_opened, with_received, with_sent};
 ghost use Rattle.its_plain.specs.Machine.{Linked, Shut};
-ghost use Rattle.its_parts.specs.Can.{HasJob, chan_in};
+ghost use Rattle.its_machine.specs.Can.{HasJob, chan_in};
 ghost use Rattle.its_pipes.specs.Pipes.{piped};
 ghost use Rattle.its_direct.specs.Effects.{Becomes, LinkBecomes};
 ghost use Rattle.its_direct.specs.Plain.{machine_of, Tidy};

@@ -5,7 +5,7 @@ ghost use Rattle.its_core.specs.Cores.{core_at};
 ghost use Rattle.its_jobs.specs.Table.{job_at};
 ghost use Rattle.its_plain.specs.Machine.{words_at};
 ghost use Rattle.its_plain.specs.OperatorJobs.{on_registers, started, stopped, continued, interrupted, examined, state_shown, deposited};
-ghost use Rattle.its_parts.specs.Refusals.{refusal_of};
+ghost use Rattle.its_machine.specs.Refusals.{refusal_of};
 ghost use Rattle.its_direct.specs.Plain.{machine_of, Tidy};
 ghost use Rattle.its_word.specs.Refusals.{reason_of};
 ghost use Rattle.its_direct.specs.Lines.{one_slot, Operates, Looks, Rewritten};

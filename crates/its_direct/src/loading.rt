@@ -4,7 +4,7 @@ ghost use Rattle.its_word.specs.Limits.{slots};
 ghost use Rattle.its_word.specs.Tree.{least_free};
 ghost use Rattle.its_plain.specs.Machine.{limit, with_new};
 ghost use Rattle.its_plain.specs.OperatorJobs.{loaded, new_job, with_holder};
-ghost use Rattle.its_parts.specs.Parts.{holder_at};
+ghost use Rattle.its_machine.specs.Parts.{holder_at};
 ghost use Rattle.its_direct.specs.Plain.{machine_of, Tidy};
 ghost use Rattle.its_word.specs.Refusals.{reason_of};
 ghost use Rattle.its_direct.specs.Lines.{Loads};

@@ -5,7 +5,7 @@ use its_console::Console;
 use its_core::Core;
 use its_files::Files;
 use its_jobs::Jobs;
-use its_parts::{SymbolTable, no_alarms, no_symbols, quiet_consoles};
+use its_machine::{SymbolTable, no_alarms, no_symbols, quiet_consoles};
 use its_pipes::Pipes;
 use its_word::{Job, NoMemory, SLOTS, Word};
 use std::alloc::Global;

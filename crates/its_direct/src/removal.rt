@@ -4,7 +4,7 @@ ghost use Rattle.its_word.specs.Limits.{slots};
 ghost use Rattle.its_word.specs.declared.jobs.Channel.TheVariants.{Closed};
 ghost use Rattle.its_jobs.specs.Table.{superior_at, in_tree};
 ghost use Rattle.its_plain.specs.Change.{passed_on, removed, superiors};
-ghost use Rattle.its_parts.specs.Across.{channel_at};
+ghost use Rattle.its_machine.specs.Across.{channel_at};
 ghost use Rattle.its_direct.specs.Effects.{Becomes};
 ghost use Rattle.its_direct.specs.Lines.{SymbolsBecome};
 ghost use Rattle.its_direct.specs.Plain.{machine_of, Tidy};
@@ -110,7 +110,7 @@ impl Plain {
     }
 
     /// Gives up the symbols of a slot.
-    #[tactic(auto, using(its_parts::proofs::OpenLaws::list_here))]
+    #[tactic(auto, using(its_machine::proofs::OpenLaws::list_here))]
     fn forget(&mut self, slot: u8)
         requires { slot < slots }
         ensures { SymbolsBecome self.old self.new slot [] }

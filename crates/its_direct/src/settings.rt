@@ -7,14 +7,14 @@ ghost use Rattle.its_jobs.specs.Table.{job_at};
 ghost use Rattle.its_plain.specs.OperatorJobs.{page_protected};
 ghost use Rattle.its_plain.specs.OperatorSymbols.{symbol_kept};
 ghost use Rattle.its_plain.specs.OperatorVersion.{versioned};
-ghost use Rattle.its_parts.specs.Parts.{symbols_at};
+ghost use Rattle.its_machine.specs.Parts.{symbols_at};
 ghost use Rattle.its_direct.specs.Plain.{machine_of, Tidy};
 ghost use Rattle.its_word.specs.Refusals.{reason_of};
 ghost use Rattle.its_direct.specs.Lines.{Operates, Stands, Keeps, SymbolsBecome, VersionBecomes};
 
 use super::plain::Plain;
 use its_jobs::limit_of;
-use its_parts::MOST_SYMBOLS;
+use its_machine::MOST_SYMBOLS;
 use its_word::{Refusal, Word};
 
 impl Plain {
@@ -105,7 +105,7 @@ impl Plain {
     }
 
     /// Keeps a symbol of a slot's job, the last; there is room for it.
-    #[tactic(auto, using(its_parts::proofs::OpenLaws::list_here))]
+    #[tactic(auto, using(its_machine::proofs::OpenLaws::list_here))]
     fn keep_symbol(&mut self, slot: u8, name: Word, a: u32)
         requires slot { slot < slots }
         requires room { length (symbols_at self.old.symbols.items slot) < most_symbols }

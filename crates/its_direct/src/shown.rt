@@ -6,14 +6,14 @@ ghost use Rattle.its_plain.specs.Job.{pc_word};
 ghost use Rattle.its_plain.specs.Machine.{words_at};
 ghost use Rattle.its_plain.specs.OperatorJobs.{examined, shown, state_shown};
 ghost use Rattle.its_plain.specs.OperatorSymbols.{symbol_shown};
-ghost use Rattle.its_parts.specs.Parts.{symbols_at};
+ghost use Rattle.its_machine.specs.Parts.{symbols_at};
 ghost use Rattle.its_direct.specs.Plain.{machine_of};
 ghost use Rattle.its_word.specs.Refusals.{reason_of};
 
 use super::plain::Plain;
 use arrayvec::ArrayVec;
 use its_core::Core;
-use its_parts::nearest;
+use its_machine::nearest;
 use its_word::{ADDRESSES, Job, JobShow, Refusal, Word, pc_word};
 
 impl Plain {

@@ -7,7 +7,7 @@ ghost use Rattle.its_plain.specs.CallStep.{ended};
 ghost use Rattle.its_plain.specs.Change.{effect, effects, in_job};
 ghost use Rattle.its_plain.specs.Machine.{core_of};
 ghost use Rattle.its_plain.specs.Own.{leave};
-ghost use Rattle.its_parts.specs.Can.{CanMake, CanMakeAll, HasJob};
+ghost use Rattle.its_machine.specs.Can.{CanMake, CanMakeAll, HasJob};
 ghost use Rattle.its_direct.specs.Effects.{Becomes};
 ghost use Rattle.its_direct.specs.Plain.{machine_of, Tidy};
 

@@ -11,7 +11,7 @@ ghost use Rattle.its_plain.specs.Decide.{reach};
 ghost use Rattle.its_plain.specs.Footprint.{among};
 ghost use Rattle.its_plain.specs.Machine.{core_of};
 ghost use Rattle.its_plain.specs.Turns.{is_running};
-ghost use Rattle.its_parts.specs.Can.{HasJob};
+ghost use Rattle.its_machine.specs.Can.{HasJob};
 ghost use Rattle.its_decide.specs.Seen.{machine_seen, raw_with};
 ghost use Rattle.its_direct.specs.Effects.{Becomes};
 ghost use Rattle.its_direct.specs.Events.{Kept};

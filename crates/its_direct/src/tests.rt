@@ -3,7 +3,7 @@ ghost use Rattle.its_direct.specs.Plain.{Tidy};
 ghost use Rattle.std.specs.Prelude.{◌<◌};
 
 use super::{Begun, Plain, Spot};
-use its_parts::{MOST_SYMBOLS, SymbolTable};
+use its_machine::{MOST_SYMBOLS, SymbolTable};
 use its_word::{Event, ILO, Refusal, Word};
 use std::process::Abort;
 use std::test::Fail;

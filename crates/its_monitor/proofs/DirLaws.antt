@@ -5,7 +5,7 @@ use Rattle.its_word.specs.declared.show.FileShow.{FileShow}
 use Rattle.its_files.specs.Files.{Store, file_at, directory}
 use Rattle.its_plain.specs.Machine.{File}
 use Rattle.its_plain.specs.OperatorFiles.{is_in, files_in, show_of}
-use Rattle.its_parts.proofs.DirLaws.{rest_in, rest_next, rest_past}
+use Rattle.its_machine.proofs.DirLaws.{rest_in, rest_next, rest_past}
 use Rattle.its_stepped.specs.State.{plain}
 use Rattle.its_world.specs.World.{state_of}
 use Rattle.its_world.specs.declared.world.World.{World}

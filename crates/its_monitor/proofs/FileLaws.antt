@@ -36,10 +36,10 @@ use Rattle.its_world.specs.World.{alarm_at, chan_of, raw_of, mark_of, state_of}
 use Rattle.its_world.specs.Tidy.{channel_by, Tidy}
 use Rattle.its_world.specs.declared.world.World.{World}
 use Rattle.its_world.proofs.PlaceLaws.{ringed_alike}
-use Rattle.its_parts.proofs.RoomLaws.{full_on}
-use Rattle.its_parts.proofs.KeptLaws.{Stays, made_stays, lengthened_stays, helped_stays}
+use Rattle.its_machine.proofs.RoomLaws.{full_on}
+use Rattle.its_machine.proofs.KeptLaws.{Stays, made_stays, lengthened_stays, helped_stays}
 use Rattle.its_world.proofs.MarkLaws.{none_marked, mark_none, made_none, help_step}
-use Rattle.its_parts.proofs.StoreLaws.{found_named, has_named, found_self}
+use Rattle.its_machine.proofs.StoreLaws.{found_named, has_named, found_self}
 use Rattle.its_pclsr.proofs.PartLaws.{store_state, store_tidy}
 use Rattle.its_world.proofs.StorageLaws.{files_are, chans_are, marks_are}
 use Rattle.its_word.specs.Refusals.{reason_of}

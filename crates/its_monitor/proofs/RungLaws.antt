@@ -18,7 +18,7 @@ use Rattle.its_stepped.specs.Lines.{with_raw}
 use Rattle.its_stepped.specs.Sound.{Sound}
 use Rattle.its_stepped.specs.State.{State, plain}
 use Rattle.its_stepped.specs.Unwind.{unwound, all_unwound}
-use Rattle.its_parts.proofs.TimeLaws.{rung_slot, below_next}
+use Rattle.its_machine.proofs.TimeLaws.{rung_slot, below_next}
 use Rattle.its_stepped.proofs.AlarmLaws.{coming_periodic}
 use Rattle.its_stepped.proofs.DueLaws.{alarm_plain, due_same}
 use Rattle.its_stepped.proofs.UnwindLaws.{all_unwound_turn, all_unwound_end}

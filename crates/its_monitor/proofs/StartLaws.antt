@@ -36,7 +36,7 @@ use Rattle.its_world.specs.World.{alarm_at, frame_at, console_at, holder_at, sym
 use Rattle.its_world.specs.Tidy.{Across}
 use Rattle.its_world.specs.declared.world.World.{World}
 use Rattle.its_world.proofs.StateLaws.{state_is, holder_state}
-use Rattle.its_parts.proofs.AcrossLaws.{no_across}
+use Rattle.its_machine.proofs.AcrossLaws.{no_across}
 use Rattle.its_commit.proofs.TidyLaws.{tidy_alike}
 use Rattle.its_monitor.specs.Kept.{Kept, Loads, Refused, Alters}
 use Rattle.its_monitor.proofs.KeptLaws.{Made, made_sound, made_plain, made_forest, made_timed, made_alarmed, Lasts, kept_lasts, put_lasts}

@@ -27,8 +27,8 @@ use Rattle.its_plain.specs.OperatorClock.{clock_end}
 use Rattle.its_world.specs.Tidy.{channel_by, Across, Tidy}
 use Rattle.its_world.specs.World.{alarm_at, frame_at, console_at, holder_at, symbols_at, raw_of, raw_at, mark_of, state_of, SymbolsBecome, VersionBecomes}
 use Rattle.its_world.specs.declared.world.World.{World}
-use Rattle.its_parts.proofs.AcrossLaws.{across_table}
-use Rattle.its_parts.proofs.VersionLaws.{version_set, same_version}
+use Rattle.its_machine.proofs.AcrossLaws.{across_table}
+use Rattle.its_machine.proofs.VersionLaws.{version_set, same_version}
 use Rattle.its_world.proofs.StateLaws.{state_is, job_of, changed_at, raw_same}
 use Rattle.its_word.specs.Refusals.{reason_of}
 use Rattle.its_monitor.specs.Kept.{Kept, Lands, Refused}

@@ -13,7 +13,7 @@ use Rattle.its_stepped.specs.State.{State, plain}
 use Rattle.its_stepped.specs.Lines.{with_raw}
 use Rattle.its_stepped.specs.Unwind.{unwound, help}
 use Rattle.its_word.specs.Refusals.{reason_of}
-pub use Rattle.its_parts.specs.Refusals.{refusal_of}
+pub use Rattle.its_machine.specs.Refusals.{refusal_of}
 use Rattle.its_world.specs.Filed.{Ringed}
 use Rattle.its_world.specs.World.{state_of}
 use Rattle.its_pclsr.specs.Apart.{CoresOff}

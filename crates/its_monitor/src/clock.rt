@@ -185,7 +185,7 @@ fn with_alr(job: Job) -> Job
 
 /// The next time of an alarm with this period and next time that goes at a clock: it gains the least multiple of the period
 /// that brings it above the clock.
-#[tactic(auto, using(its_parts::proofs::TimeLaws::next_time, its_parts::proofs::TimeLaws::next_fits))]
+#[tactic(auto, using(its_machine::proofs::TimeLaws::next_time, its_machine::proofs::TimeLaws::next_fits))]
 fn time_after(period: u64, next: u64, clock: u64) -> u64
     requires some { 1 ≤ period }
     requires most { period ≤ longest_period }

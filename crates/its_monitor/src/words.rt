@@ -10,7 +10,7 @@ ghost use Rattle.its_stepped.specs.State.{plain};
 ghost use Rattle.its_stepped.specs.Unwind.{unwound};
 ghost use Rattle.its_world.specs.World.{state_of, frames_after, with_frames, CoreBecomes};
 ghost use Rattle.its_pclsr.specs.Apart.{CoresOff};
-ghost use Rattle.its_parts.specs.Refusals.{refusal_of};
+ghost use Rattle.its_machine.specs.Refusals.{refusal_of};
 ghost use Rattle.its_monitor.specs.Kept.{Kept, Lands, Refused, Calmed, undepositable, unloadable, frames_loaded};
 
 use super::monitor::Monitor;

@@ -13,7 +13,7 @@ use Rattle.its_world.specs.World.{alarm_at, mark_of, state_of, symbols_at}
 use Rattle.its_world.specs.declared.world.World.{World}
 use Rattle.its_world.proofs.StorageLaws.{files_are, marks_are, stored_state}
 use Rattle.its_world.proofs.MarkLaws.{mark_none, made, part_step}
-use Rattle.its_parts.proofs.KeptLaws.{Stays}
+use Rattle.its_machine.proofs.KeptLaws.{Stays}
 use Rattle.its_pclsr.specs.Owed.{FirstPart, IsNext}
 use Rattle.its_pclsr.specs.Parts.{NextMade}
 

@@ -28,7 +28,7 @@ use Rattle.its_stepped.specs.Unwind.{unwound, all_unwound}
 use Rattle.its_stepped.proofs.KeptLaws.{user_page}
 use Rattle.its_world.specs.World.{alarm_at, state_of, bare, raw_at, frame_at, frames_after, CoreBecomes, FrameBecomes, PageBecomes}
 use Rattle.its_world.specs.declared.world.World.{World}
-use Rattle.its_parts.proofs.BareLaws.{deliverable_bare, delivered_bare}
+use Rattle.its_machine.proofs.BareLaws.{deliverable_bare, delivered_bare}
 use Rattle.its_world.proofs.StateLaws.{raw_job, raw_some, raw_none}
 use Rattle.its_world.proofs.StorageLaws.{frame_is}
 use Rattle.its_commit.specs.Carried.{standing_of}

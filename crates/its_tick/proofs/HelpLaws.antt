@@ -9,7 +9,7 @@ use Rattle.its_world.specs.Filed.{Ringed}
 use Rattle.its_world.specs.Tidy.{Tidy}
 use Rattle.its_world.specs.World.{mark_of, state_of}
 use Rattle.its_world.specs.declared.world.World.{World}
-use Rattle.its_parts.proofs.KeptLaws.{Stays, helped_stays}
+use Rattle.its_machine.proofs.KeptLaws.{Stays, helped_stays}
 use Rattle.its_world.proofs.MarkLaws.{help_step, none_marked}
 use Rattle.its_pclsr.proofs.PartLaws.{store_state, store_tidy}
 use Rattle.its_world.proofs.StorageLaws.{files_are, marks_are}

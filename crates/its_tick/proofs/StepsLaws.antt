@@ -28,7 +28,7 @@ use Rattle.its_stepped.proofs.TickLaws.{tick_is}
 use Rattle.its_world.specs.Tidy.{Tidy}
 use Rattle.its_world.specs.World.{bare, alarm_at, frame_at, state_of, Becomes}
 use Rattle.its_world.specs.declared.world.World.{World}
-use Rattle.its_parts.proofs.BareLaws.{bare_outcome, deliverable_bare, unit_bare}
+use Rattle.its_machine.proofs.BareLaws.{bare_outcome, deliverable_bare, unit_bare}
 use Rattle.its_world.proofs.StateLaws.{raw_job, state_is, turned_state}
 use Rattle.its_world.proofs.StorageLaws.{frame_is}
 use Rattle.its_world.proofs.WorldLaws.{core_becomes}

@@ -34,7 +34,7 @@ use Rattle.its_stepped.proofs.SoundLaws.{tick_sound}
 use Rattle.its_stepped.proofs.TickLaws.{tick_is}
 use Rattle.its_world.specs.World.{alarm_at, state_of, raw_at, frame_at}
 use Rattle.its_world.specs.declared.world.World.{World}
-use Rattle.its_parts.proofs.BareLaws.{deliverable_bare}
+use Rattle.its_machine.proofs.BareLaws.{deliverable_bare}
 use Rattle.its_world.proofs.StateLaws.{raw_job, raw_some, raw_none}
 use Rattle.its_tick.specs.Kept.{Kept}
 use Rattle.its_tick.specs.Ticks.{ticked}

@@ -41,7 +41,7 @@ use Rattle.its_stepped.proofs.UnwindLaws.{all_unwound_others, slot_same, slot_th
 use Rattle.its_world.specs.Tidy.{Tidy}
 use Rattle.its_world.specs.World.{symbols_at, alarm_at, bare, chan_of, chans_of, mark_of, raw_of, raw_at, frame_at, state_of, Becomes, CoreBecomes, FrameBecomes, JobBecomes, console_at, holder_at}
 use Rattle.its_world.specs.declared.world.World.{World}
-use Rattle.its_parts.proofs.BareLaws.{bare_delivered, bare_outcome, delivered_bare, delivered_channels, delivered_stops, unit_bare, unit_channels}
+use Rattle.its_machine.proofs.BareLaws.{bare_delivered, bare_outcome, delivered_bare, delivered_channels, delivered_stops, unit_bare, unit_channels}
 use Rattle.its_world.proofs.StateLaws.{kept_turn, raw_job, raw_some, state_is, turned_state}
 use Rattle.its_world.proofs.WorldLaws.{then_becomes, alike, frames_still}
 use Rattle.its_world.proofs.PlaceLaws.{user_ringed}

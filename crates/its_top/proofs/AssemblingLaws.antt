@@ -10,13 +10,13 @@ use Rattle.its_asm.specs.Assembly.{assembly}
 use Rattle.its_asm.specs.declared.assembly.Image.{Image}
 use Rattle.its_asm.specs.declared.reason.AsmFault.{AsmFault}
 use Rattle.its_asm.specs.declared.reason.AsmFault.TheVariants.{Line, NoMemory}
-use Rattle.its_image.specs.Past.{runs_past}
-use Rattle.its_image.specs.Written.{assembly_text, image_events}
-use Rattle.its_image.specs.Made.{MadeFrom, IsRefusal, IsSession}
-use Rattle.its_image.proofs.FitLaws.{image_fits}
-use Rattle.its_image.proofs.LoadLaws.{image_whole}
-use Rattle.its_image.specs.declared.source.Made.TheVariants as mades
-use Rattle.its_image.specs.declared.source.Unmade.TheVariants as unmades
+use Rattle.its_assembly.specs.Past.{runs_past}
+use Rattle.its_assembly.specs.Written.{assembly_text, image_events}
+use Rattle.its_assembly.specs.Made.{MadeFrom, IsRefusal, IsSession}
+use Rattle.its_assembly.proofs.FitLaws.{image_fits}
+use Rattle.its_assembly.proofs.LoadLaws.{image_whole}
+use Rattle.its_assembly.specs.declared.source.Made.TheVariants as mades
+use Rattle.its_assembly.specs.declared.source.Unmade.TheVariants as unmades
 use Rattle.its_top.specs.declared.commands.Command.{Command}
 use Rattle.its_top.specs.declared.commands.Command.TheVariants as commands
 use Rattle.its_top.specs.declared.status.Status.{Status}

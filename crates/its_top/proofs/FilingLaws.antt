@@ -29,7 +29,7 @@ use Rattle.its_stepped.specs.Lines.{with_raw}
 use Rattle.its_world.specs.World.{state_of}
 use Rattle.its_world.specs.declared.world.World.{World}
 use Rattle.its_world.proofs.MarkLaws.{none_marked, made_none}
-use Rattle.its_parts.proofs.StoreLaws.{changed_same}
+use Rattle.its_machine.proofs.StoreLaws.{changed_same}
 use Rattle.its_word.specs.Refusals.{reason_of}
 use Rattle.its_monitor.specs.Kept.{Lands, FileRefused}
 use Rattle.its_monitor.specs.Filing.{word_if, length_if}

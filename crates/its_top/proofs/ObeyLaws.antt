@@ -16,7 +16,7 @@ use Rattle.its_top.specs.Conclusion.{IsDone, WasRun, Session}
 use Rattle.its_top.specs.Commands.{reads_input, keeps, IfGenerates}
 use Rattle.its_top.specs.Checking.{checked, checked_text, Passes, Fails, StatusFor, WroteText, CheckOf, Check}
 use Rattle.its_top.specs.Generating.{generated_text}
-use Rattle.its_image.specs.Past.{runs_past}
+use Rattle.its_assembly.specs.Past.{runs_past}
 use Rattle.its_top.specs.Assembling.{Asm, AsmOf}
 use Rattle.its_top.specs.Verifying.{Verify}
 use Rattle.its_top.specs.Outcomes.{Begins, CheckBreaks, CheckFails, CheckPasses, CheckRunsOn, usage}

@@ -8,9 +8,9 @@ use Rattle.its_asm.specs.declared.reason.AsmFault.{AsmFault}
 use Rattle.its_asm.specs.declared.reason.AsmFault.TheVariants.{Line}
 use Rattle.its_asm.specs.declared.reason.AsmFault.TheVariants as faults
 use Rattle.its_reader.specs.Limits.{WithinLimits}
-use Rattle.its_image.specs.Past.{runs_past}
-use Rattle.its_image.specs.Written.{assembly_text}
-use Rattle.its_image.specs.Made.{IsRefusal, IsSession}
+use Rattle.its_assembly.specs.Past.{runs_past}
+use Rattle.its_assembly.specs.Written.{assembly_text}
+use Rattle.its_assembly.specs.Made.{IsRefusal, IsSession}
 use Rattle.its_top.specs.declared.status.Status.{Status}
 use Rattle.its_top.specs.declared.status.Status.TheVariants as statuses
 

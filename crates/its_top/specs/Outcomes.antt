@@ -16,8 +16,8 @@ use Rattle.its_verify.specs.Verified as verified
 use Rattle.its_asm.specs.Assembly.{assembly}
 use Rattle.its_asm.specs.declared.reason.AsmFault.TheVariants.{Line as LineFault}
 use Rattle.its_asm.specs.declared.reason.AsmReason.{AsmReason}
-use Rattle.its_image.specs.Past.{runs_past}
-use Rattle.its_image.specs.Written.{assembly_text, fault_line}
+use Rattle.its_assembly.specs.Past.{runs_past}
+use Rattle.its_assembly.specs.Written.{assembly_text, fault_line}
 use Rattle.its_top.specs.declared.status.Status.{Status}
 use Rattle.its_top.specs.declared.status.Status.TheVariants as statuses
 use Rattle.its_top.specs.declared.checking.Checked.TheVariants.{Beyond}

@@ -21,9 +21,9 @@ use Rattle.its_verify.specs.Judge.{Yes}
 use Rattle.its_verify.specs.Verified.{Judged, Both, parts_from, verified}
 use Rattle.its_asm.specs.Assembly.{assembly}
 use Rattle.its_asm.specs.declared.assembly.Image.{Image}
-use Rattle.its_image.specs.Past.{runs_past}
-use Rattle.its_image.specs.Written.{image_events, lines_text}
-use Rattle.its_image.specs.Loading.{IsWhole}
+use Rattle.its_assembly.specs.Past.{runs_past}
+use Rattle.its_assembly.specs.Written.{image_events, lines_text}
+use Rattle.its_assembly.specs.Loading.{IsWhole}
 use Rattle.its_top.specs.declared.status.Status.{Status}
 use Rattle.its_top.specs.declared.status.Status.TheVariants as statuses
 

@@ -1,7 +1,7 @@
 -- What the program did for the command that its words are. Promise and Outcomes follow from it.
 -- No promise rests on this.
 use Rattle.std.specs.Prelude.{◌≡◌, ℕ, false, Option, Some, None, IfSome, List}
-use Rattle.its_image.specs.Past.{runs_past}
+use Rattle.its_assembly.specs.Past.{runs_past}
 use Rattle.its_top.specs.declared.status.Status.{Status}
 use Rattle.its_top.specs.declared.status.Status.TheVariants as statuses
 use Rattle.its_top.specs.declared.commands.Command.{Command}

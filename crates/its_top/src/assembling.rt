@@ -5,7 +5,7 @@ ghost use Rattle.its_top.specs.Assembling.{Asm};
 
 use super::checking::write_text;
 use super::status::Status;
-use its_image::{Made, Unmade, assemble_source};
+use its_assembly::{Made, Unmade, assemble_source};
 use its_io::{Sink, Source};
 use std::alloc::Global;
 

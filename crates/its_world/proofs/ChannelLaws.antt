@@ -27,13 +27,13 @@ use Rattle.its_plain.specs.Change.{in_job}
 use Rattle.its_stepped.specs.State.{mark_of_close}
 use Rattle.its_word.specs.Directory.{File as PlainFile}
 use Rattle.its_stepped.proofs.EffectLaws.{without_none, renamed_none}
-use Rattle.its_parts.proofs.StoreLaws.{has_named, renamed_directory}
-use Rattle.its_parts.proofs.StandLaws.{writing_stands, not_marked}
+use Rattle.its_machine.proofs.StoreLaws.{has_named, renamed_directory}
+use Rattle.its_machine.proofs.StandLaws.{writing_stands, not_marked}
 use Rattle.its_world.proofs.MarkLaws.{none_marked, mark_same, begin_close}
-use Rattle.its_parts.proofs.ChanLaws.{still_moved, close_marks}
-use Rattle.its_parts.proofs.SetLaws.{open_job, one_channel, set_kept, put_kept}
-use Rattle.its_parts.proofs.ShowLaws.{draft_room, close_can}
-use Rattle.its_parts.proofs.KeptLaws.{Kept, Stays, opened_kept, closed_kept, drafted_kept, discarded_kept, appended_kept, closing_kept, deleted_stays, renamed_stays, delete_is, rename_is}
+use Rattle.its_machine.proofs.ChanLaws.{still_moved, close_marks}
+use Rattle.its_machine.proofs.SetLaws.{open_job, one_channel, set_kept, put_kept}
+use Rattle.its_machine.proofs.ShowLaws.{draft_room, close_can}
+use Rattle.its_machine.proofs.KeptLaws.{Kept, Stays, opened_kept, closed_kept, drafted_kept, discarded_kept, appended_kept, closing_kept, deleted_stays, renamed_stays, delete_is, rename_is}
 use Rattle.its_world.proofs.StorageLaws.{Comes, channel_comes, still_unmarked, store_tidy, filed_state, filed_tidy, channel_still, still_state, store_state, has_job, chan_is, chan_shut, store_unmarked, files_are, shows}
 
 -- a channel of the state is on a draft if that of the world is

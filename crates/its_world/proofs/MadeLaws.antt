@@ -19,8 +19,8 @@ use Rattle.its_world.specs.Tidy.{channel_by, channel_at, Across, Tidy}
 use Rattle.its_world.specs.World.{alarm_at, raw_of, raw_at, frame_at, console_at, holder_at, mark_of, state_of, symbols_at}
 use Rattle.its_pipes.specs.Pipes.{piped}
 use Rattle.its_world.specs.declared.world.World.{World}
-use Rattle.its_parts.proofs.AcrossLaws.{across_table}
-use Rattle.its_parts.proofs.PartLaws.{fresh_closed, fresh_raw}
+use Rattle.its_machine.proofs.AcrossLaws.{across_table}
+use Rattle.its_machine.proofs.PartLaws.{fresh_closed, fresh_raw}
 use Rattle.its_world.proofs.PlaceLaws.{made_ringed}
 use Rattle.its_world.proofs.StateLaws.{state_is}
 use Rattle.its_world.proofs.StorageLaws.{raw_has}

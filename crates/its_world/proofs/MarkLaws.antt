@@ -18,7 +18,7 @@ use Rattle.its_plain.specs.Change.{without_file}
 use Rattle.its_stepped.specs.State.{Part, UnlinkOld, LinkNew, FreeOld, Mark, State, part_made, parts_made, helped, parts_of, mark_of_close}
 use Rattle.its_stepped.specs.Unwind.{rest_marked, with_part, help}
 use Rattle.its_world.specs.World.{no_file, parts_left, last_file, draft_left, marking, mark_of}
-use Rattle.its_parts.proofs.StoreLaws.{has_named}
+use Rattle.its_machine.proofs.StoreLaws.{has_named}
 
 -- a store without a mark, and one with it
 pub mark_is : (s : Store) (m : Option FilesMark) → s.mark ≡ m → mark_of s ≡ marking s m

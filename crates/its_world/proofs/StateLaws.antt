@@ -23,7 +23,7 @@ use Rattle.its_stepped.specs.State.{State, turn, same, reserving}
 use Rattle.its_world.specs.World.{mark_of, alarm_at, raw_of, raw_at, frame_at, console_at, holder_at, state_of, in_raw, with_frames, Becomes, FrameBecomes, ConsoleBecomes, HolderBecomes, LinkBecomes, symbols_at}
 use Rattle.its_pipes.specs.Pipes.{piped}
 use Rattle.its_world.specs.declared.world.World.{World}
-pub use Rattle.its_parts.proofs.PartLaws.{raw_job, changed_at, slot_at}
+pub use Rattle.its_machine.proofs.PartLaws.{raw_job, changed_at, slot_at}
 
 pub state_is : (a b : State) → a.raw ≡ b.raw → ((k : ℕ) → a.frames k ≡ b.frames k) → ((k : ℕ) → a.reserved k ≡ b.reserved k) → a.mark ≡ b.mark → a ≡ b
 state_is a b raw frames reserved mark = λ t. record {

@@ -11,7 +11,7 @@ use Rattle.its_plain.specs.Machine.{Symbol}
 use Rattle.its_world.specs.World.{no_symbols, symbols_at, VersionBecomes}
 use Rattle.its_world.specs.declared.world.World.{World}
 use Rattle.its_world.proofs.PlaceLaws.{ringed_jobs}
-use Rattle.its_parts.proofs.OpenLaws.{list_here}
+use Rattle.its_machine.proofs.OpenLaws.{list_here}
 
 -- the list in place s gains a symbol
 list_had : (xs : List (ArrayVec Symbol)) (s : ℕ) (x : ArrayVec Symbol) → s < length xs → x ≡ slice_index_or xs s x → x.items ≡ symbols_at xs s

@@ -17,7 +17,7 @@ use Rattle.its_plain.specs.Decide.{call_named}
 use Rattle.its_plain.specs.Reasons.{Doors, held_up, reason_by}
 use Rattle.its_pipes.specs.Pipes.{piped}
 use Rattle.its_word.specs.Console.{Console}
-pub use Rattle.its_parts.specs.Parts.{console_at, holder_at}
+pub use Rattle.its_machine.specs.Parts.{console_at, holder_at}
 use Rattle.its_world.specs.Rings.{IsWaitRing, awake_of, place_at, is_within, StandsIn, Filed, AwayFrom}
 use Rattle.its_world.specs.declared.world.World.{World}
 

@@ -10,8 +10,8 @@ use Rattle.its_plain.specs.OperatorFiles.{channels_of}
 use Rattle.its_stepped.specs.State.{State}
 use Rattle.its_core.specs.Cores.{core_at, clear_at}
 use Rattle.its_files.specs.Files.{Store}
-pub use Rattle.its_parts.specs.Across.{IsElsewhere}
-use Rattle.its_parts.specs.Channels.{OnlyChannel}
+pub use Rattle.its_machine.specs.Across.{IsElsewhere}
+use Rattle.its_machine.specs.Channels.{OnlyChannel}
 use Rattle.its_world.specs.World.{frame_at}
 use Rattle.its_world.specs.Filed.{Ringed}
 use Rattle.its_world.specs.declared.world.World.{World}

@@ -4,7 +4,7 @@ use Rattle.std.specs.Prelude.{◌≡◌, ◌<◌, ℕ, None, []}
 use Rattle.its_word.specs.Core.{no_core}
 use Rattle.its_core.specs.Cores.{core_at}
 use Rattle.its_jobs.specs.Table.{job_at}
-pub use Rattle.its_parts.specs.Across.{channel_by, channel_at, of_slot, tally, reads_file, writes_draft, writers, Across}
+pub use Rattle.its_machine.specs.Across.{channel_by, channel_at, of_slot, tally, reads_file, writes_draft, writers, Across}
 use Rattle.its_world.specs.Filed.{Ringed}
 use Rattle.its_plain.specs.OperatorClock.{clock_end}
 use Rattle.its_world.specs.World.{alarm_at, symbols_at}

@@ -17,7 +17,7 @@ use Rattle.its_frame.specs.declared.frame.Frame.{Frame}
 use Rattle.its_plain.specs.Machine.{Symbol, File, Pipe, Whole}
 use Rattle.its_plain.specs.Change.{in_job}
 use Rattle.its_stepped.specs.State.{Part, UnlinkOld, LinkNew, FreeOld, Mark, State}
-pub use Rattle.its_parts.specs.Parts.{chan_of, closed_channels, bare, chans_of, raw_of, alarm_at, raw_at, no_symbols, symbols_at, raw_machine}
+pub use Rattle.its_machine.specs.Parts.{chan_of, closed_channels, bare, chans_of, raw_of, alarm_at, raw_at, no_symbols, symbols_at, raw_machine}
 use Rattle.its_pipes.specs.Pipes.{piped}
 pub use Rattle.its_world.specs.Filed.{frame_at, console_at, holder_at}
 use Rattle.its_world.specs.Filed.{Ringed}

@@ -5,7 +5,7 @@ ghost use Rattle.its_plain.specs.Change.{symbols_left};
 ghost use Rattle.its_world.specs.World.{symbols_at};
 
 use its_jobs::Jobs;
-use its_parts::SymbolTable;
+use its_machine::SymbolTable;
 use its_word::SLOTS;
 
 /// Takes the symbols from the slots that have no job.

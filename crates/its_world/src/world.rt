@@ -11,7 +11,7 @@ use its_core::Core;
 use its_files::Files;
 use its_jobs::{Jobs, limit_of};
 use its_links::Links;
-use its_parts::{SymbolTable, no_alarms, no_symbols, quiet_consoles};
+use its_machine::{SymbolTable, no_alarms, no_symbols, quiet_consoles};
 use its_pipes::Pipes;
 use its_word::{Job, NoAccess, NoMemory, SLOTS, Word};
 use std::alloc::Global;
@@ -327,7 +327,7 @@ impl World {
 }
 
 /// So many places for calls, of jobs in user mode.
-#[tactic(auto, using(its_parts::proofs::OpenLaws::none_more))]
+#[tactic(auto, using(its_machine::proofs::OpenLaws::none_more))]
 fn no_frames(alloc: Global, n: usize) -> Result<Vec<Call>, NoMemory>
     ensures length { IfOk result (λ v. vec_len v ≡ n) }
     ensures none { IfOk result (λ v. (k : ℕ) → slice_index_or v.items k None ≡ None) }

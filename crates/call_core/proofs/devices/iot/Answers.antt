@@ -1,7 +1,7 @@
 -- The call reaches the inferior that its channel is on.
 use Rattle.std.proofs.Common.{sym, ◌∙◌, ap, refl}
 use Rattle.its_frame.specs.declared.name.CallName.TheVariants.{Iot}
-use Rattle.its_parts.specs.Called.{channel_under}
+use Rattle.its_machine.specs.Called.{channel_under}
 use Rattle.call_usr.proofs.OtherLaws.{targets}
 use Rattle.call_core.proofs.devices.iot.Goals as goal
 

@@ -7,7 +7,7 @@ use Rattle.its_plain.specs.Transfer.{next_pointer}
 use Rattle.its_plain.specs.View.{view}
 use Rattle.its_world.specs.World.{state_of}
 use Rattle.call_basic.specs.Seen.{seen_by}
-use Rattle.its_parts.proofs.StopLaws.{ended, few_left, siot_stops, siot_goes}
+use Rattle.its_machine.proofs.StopLaws.{ended, few_left, siot_stops, siot_goes}
 use Rattle.call_file.proofs.transfer.siot_reads.Goals as goal
 
 pub siot_read-requires-clause-few : goal.siot_read-requires-clause-few

@@ -7,7 +7,7 @@ use Rattle.its_plain.specs.Transfer.{next_pointer}
 use Rattle.its_plain.specs.View.{view}
 use Rattle.its_world.specs.World.{state_of}
 use Rattle.call_basic.specs.Seen.{seen_by}
-use Rattle.its_parts.proofs.StopLaws.{siot_stops, siot_goes}
+use Rattle.its_machine.proofs.StopLaws.{siot_stops, siot_goes}
 use Rattle.call_link.proofs.transfer.siot_receives.Goals as goal
 
 pub returns-in-Some : goal.returns-in-Some

@@ -5,7 +5,7 @@ use Rattle.its_plain.specs.Arguments.{input}
 use Rattle.its_plain.specs.CallTty.{siot_in}
 use Rattle.its_plain.specs.Transfer.{next_pointer}
 use Rattle.call_basic.specs.Seen.{seen_by}
-use Rattle.its_parts.proofs.StopLaws.{siot_goes, siot_stops}
+use Rattle.its_machine.proofs.StopLaws.{siot_goes, siot_stops}
 use Rattle.call_tty.proofs.transfer.siot_in.Goals as goal
 
 pub returns-in-Some : goal.returns-in-Some

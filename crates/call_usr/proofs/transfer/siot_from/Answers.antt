@@ -6,7 +6,7 @@ use Rattle.its_plain.specs.Arguments.{input}
 use Rattle.its_plain.specs.Transfer.{next_pointer}
 use Rattle.its_plain.specs.CallUsr.{at_end, other_core, siot_peeks}
 use Rattle.call_basic.specs.Seen.{seen_by}
-use Rattle.its_parts.proofs.StopLaws.{siot_goes, siot_stops}
+use Rattle.its_machine.proofs.StopLaws.{siot_goes, siot_stops}
 use Rattle.call_usr.proofs.OtherLaws.{other_here}
 use Rattle.call_usr.proofs.transfer.siot_from.Goals as goal
 

@@ -5,7 +5,7 @@ use Rattle.its_plain.specs.Arguments.{input}
 use Rattle.its_plain.specs.Transfer.{next_pointer}
 use Rattle.its_plain.specs.CallUsr.{at_end, siot_pokes}
 use Rattle.call_basic.specs.Seen.{seen_by}
-use Rattle.its_parts.proofs.StopLaws.{siot_stops}
+use Rattle.its_machine.proofs.StopLaws.{siot_stops}
 use Rattle.call_usr.proofs.transfer.siot_into.Goals as goal
 
 pub returns-in-Some : goal.returns-in-Some

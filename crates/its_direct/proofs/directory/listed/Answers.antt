@@ -1,6 +1,6 @@
 use Rattle.std.proofs.Common.{◌+◌, ℕ, subst, sym}
 use Rattle.its_word.specs.ArrayVec.{ArrayVec}
-use Rattle.its_parts.proofs.DirLaws.{order_within}
+use Rattle.its_machine.proofs.DirLaws.{order_within}
 use Rattle.its_direct.proofs.DirectoryLaws.{Listing, listing_more, listing_skips}
 use Rattle.its_direct.proofs.directory.listed.Goals.{in-Some+then-is_in, in-Some+else-is_in, in_default}
 use Rattle.its_direct.proofs.directory.listed.Goals as goal

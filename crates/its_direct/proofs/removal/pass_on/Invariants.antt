@@ -1,7 +1,7 @@
 use Rattle.std.proofs.Common.{None}
 use Rattle.its_jobs.specs.Table.{superior_at, in_tree}
 use Rattle.its_plain.specs.Change.{passed_on}
-use Rattle.its_parts.proofs.TurningLaws.{Turning}
+use Rattle.its_machine.proofs.TurningLaws.{Turning}
 use Rattle.its_direct.proofs.removal.pass_on.Given as goal
 
 abbrev pub invariant-loop-c : goal.invariant-loop-c

@@ -1,5 +1,5 @@
 use Rattle.std.proofs.Common.{subst, sym, ◌+◌}
-use Rattle.its_parts.proofs.DirLaws.{order_within}
+use Rattle.its_machine.proofs.DirLaws.{order_within}
 use Rattle.its_monitor.proofs.DirLaws.{IsLeft, dir_passes, dir_skips}
 use Rattle.its_monitor.proofs.filing.file_in.Goals.{in-Some+then-is_in+else-left-eq0, in-Some+else-is_in, in_default}
 use Rattle.its_monitor.proofs.filing.file_in.Goals as goal

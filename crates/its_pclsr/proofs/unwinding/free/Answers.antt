@@ -1,6 +1,6 @@
 use Rattle.std.proofs.Common.{refl}
 use Rattle.its_stepped.specs.State.{FreeOld}
-use Rattle.its_parts.proofs.KeptLaws.{freed_stays}
+use Rattle.its_machine.proofs.KeptLaws.{freed_stays}
 use Rattle.its_world.proofs.PlaceLaws.{ringed_alike}
 use Rattle.its_pclsr.proofs.PartLaws.{next_made, store_tidy}
 use Rattle.its_pclsr.proofs.unwinding.free.Goals as goal

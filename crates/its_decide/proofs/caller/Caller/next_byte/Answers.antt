@@ -4,7 +4,7 @@ use Rattle.its_word.specs.Byte.{has_size}
 use Rattle.its_plain.specs.Arguments.{input}
 use Rattle.its_plain.specs.Transfer.{next_pointer, siot_tests}
 use Rattle.its_decide.specs.Called.{looks}
-use Rattle.its_parts.proofs.StopLaws.{next_left, not_ended, stopped, unstopped}
+use Rattle.its_machine.proofs.StopLaws.{next_left, not_ended, stopped, unstopped}
 use Rattle.its_decide.proofs.caller.Caller.next_byte.Goals as goal
 
 pub returns-in-Some-clause-stops : goal.returns-in-Some-clause-stops

@@ -3,7 +3,7 @@ use Rattle.std.proofs.lemmas.Bool.{both_ways}
 use Rattle.its_files.specs.Blocks.{is_full}
 use Rattle.its_files.specs.Files.{entry_at}
 use Rattle.its_files.proofs.EntryLaws.{draft_stands}
-use Rattle.its_parts.proofs.StandLaws.{writing_stands}
+use Rattle.its_machine.proofs.StandLaws.{writing_stands}
 use Rattle.its_direct.proofs.ChannelLaws.{append_comes, append_room, no_room}
 use Rattle.its_direct.proofs.plain.Plain.append.Goals as goal
 

@@ -1,5 +1,5 @@
 use Rattle.std.proofs.Common.{refl, sym}
-use Rattle.its_parts.proofs.StandLaws.{writing_stands}
+use Rattle.its_machine.proofs.StandLaws.{writing_stands}
 use Rattle.its_direct.proofs.ChannelLaws.{close_comes, begin_can, no_close, store_first}
 use Rattle.its_direct.proofs.plain.Plain.close.Goals as goal
 

@@ -1,5 +1,5 @@
 use Rattle.std.proofs.Common.{refl}
-use Rattle.its_parts.proofs.StandLaws.{drafts_below}
+use Rattle.its_machine.proofs.StandLaws.{drafts_below}
 use Rattle.its_direct.proofs.ChannelLaws.{open_draft_comes, chan_shut, store_first}
 use Rattle.its_direct.proofs.plain.Plain.open_draft.Goals as goal
 

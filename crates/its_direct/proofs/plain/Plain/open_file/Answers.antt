@@ -1,7 +1,7 @@
 use Rattle.std.proofs.Common.{arith, refl}
 use Rattle.std.specs.Prelude.{◌∷◌, []}
-use Rattle.its_parts.proofs.StandLaws.{readers_few}
-use Rattle.its_parts.proofs.ShowLaws.{found_file}
+use Rattle.its_machine.proofs.StandLaws.{readers_few}
+use Rattle.its_machine.proofs.ShowLaws.{found_file}
 use Rattle.its_direct.specs.Plain.{machine_of}
 use Rattle.its_direct.proofs.ChannelLaws.{open_file_comes, shows, store_first}
 use Rattle.its_direct.proofs.plain.Plain.open_file.Goals as goal

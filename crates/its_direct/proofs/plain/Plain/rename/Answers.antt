@@ -1,6 +1,6 @@
 use Rattle.std.proofs.Common.{refl, sym}
 use Rattle.std.specs.Prelude.{◌∷◌, []}
-use Rattle.its_parts.proofs.ShowLaws.{rename_can, found_file}
+use Rattle.its_machine.proofs.ShowLaws.{rename_can, found_file}
 use Rattle.its_direct.specs.Plain.{machine_of}
 use Rattle.its_direct.proofs.ChannelLaws.{rename_comes, shows}
 use Rattle.its_direct.proofs.plain.Plain.rename.Goals as goal

@@ -1,7 +1,7 @@
 use Rattle.std.proofs.Common.{refl, subst, sym}
-use Rattle.its_parts.specs.Across.{IsElsewhere}
-use Rattle.its_parts.proofs.ChanLaws.{elsewhere_of}
-use Rattle.its_parts.proofs.StandLaws.{reading_stands, writing_stands, not_marked}
+use Rattle.its_machine.specs.Across.{IsElsewhere}
+use Rattle.its_machine.proofs.ChanLaws.{elsewhere_of}
+use Rattle.its_machine.proofs.StandLaws.{reading_stands, writing_stands, not_marked}
 use Rattle.its_direct.proofs.ChannelLaws.{shut_file_comes, shut_draft_comes, shut_other_comes, store_first}
 use Rattle.its_direct.proofs.plain.Plain.shut.Goals as goal
 

@@ -1,5 +1,5 @@
 use Rattle.std.proofs.Common.{refl, sym}
-use Rattle.its_parts.proofs.StandLaws.{writing_stands}
+use Rattle.its_machine.proofs.StandLaws.{writing_stands}
 use Rattle.its_world.proofs.StorageLaws.{store_unmarked, store_first}
 use Rattle.its_world.proofs.ChannelLaws.{begin_close_comes, begin_close_can, no_draft}
 use Rattle.its_world.proofs.world.World.begin_close.Goals as goal

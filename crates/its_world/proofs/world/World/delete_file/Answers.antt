@@ -1,6 +1,6 @@
 use Rattle.std.proofs.Common.{refl, sym}
 use Rattle.std.specs.Prelude.{◌∷◌, []}
-use Rattle.its_parts.proofs.ShowLaws.{delete_can}
+use Rattle.its_machine.proofs.ShowLaws.{delete_can}
 use Rattle.its_world.specs.World.{state_of}
 use Rattle.its_world.proofs.StorageLaws.{store_unmarked, shows}
 use Rattle.its_world.proofs.ChannelLaws.{delete_comes, delete_none}

@@ -1,7 +1,7 @@
 use Rattle.std.proofs.Common.{refl, sym}
 use Rattle.its_files.specs.Files.{entry_at}
 use Rattle.its_files.proofs.EntryLaws.{file_stands}
-use Rattle.its_parts.proofs.StandLaws.{reading_file}
+use Rattle.its_machine.proofs.StandLaws.{reading_file}
 use Rattle.its_world.proofs.StorageLaws.{store_first}
 use Rattle.its_world.proofs.ChannelLaws.{move_file_comes, move_usr_comes, move_other_comes}
 use Rattle.its_world.proofs.world.World.move_to.Goals as goal

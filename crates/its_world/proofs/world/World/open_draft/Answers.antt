@@ -1,5 +1,5 @@
 use Rattle.std.proofs.Common.{refl}
-use Rattle.its_parts.proofs.StandLaws.{drafts_below}
+use Rattle.its_machine.proofs.StandLaws.{drafts_below}
 use Rattle.its_world.proofs.StorageLaws.{store_unmarked, store_first, chan_shut}
 use Rattle.its_world.proofs.ChannelLaws.{open_draft_comes}
 use Rattle.its_world.proofs.world.World.open_draft.Goals as goal

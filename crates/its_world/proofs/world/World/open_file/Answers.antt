@@ -1,7 +1,7 @@
 use Rattle.std.proofs.Common.{arith, refl}
 use Rattle.std.specs.Prelude.{◌∷◌, []}
-use Rattle.its_parts.proofs.StandLaws.{readers_few}
-use Rattle.its_parts.proofs.ShowLaws.{found_file}
+use Rattle.its_machine.proofs.StandLaws.{readers_few}
+use Rattle.its_machine.proofs.ShowLaws.{found_file}
 use Rattle.its_world.specs.World.{state_of}
 use Rattle.its_world.proofs.StorageLaws.{store_unmarked, store_first, shows}
 use Rattle.its_world.proofs.ChannelLaws.{open_file_comes}

@@ -1,5 +1,5 @@
 use Rattle.std.proofs.Common.{refl, sym}
-use Rattle.its_parts.proofs.ShowLaws.{rename_can}
+use Rattle.its_machine.proofs.ShowLaws.{rename_can}
 use Rattle.its_world.specs.World.{state_of}
 use Rattle.its_world.proofs.StorageLaws.{store_unmarked, shows}
 use Rattle.its_world.proofs.ChannelLaws.{rename_comes, rename_none}
