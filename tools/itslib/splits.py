@@ -23,7 +23,7 @@ PROMISED = {
     # the transcript, the course of its run, and the judge
     "its_plain/specs/Transcript.antt": {WALK: "Shows"},
     "its_plain/specs/Course.antt": {WALK: "course", EFFECT: "past"},
-    "its_verify/specs/Judge.antt": {WALK: "judged", EFFECT: "gone"},
+    "its_verify/specs/Rulings.antt": {WALK: "judged", EFFECT: "gone"},
     # what each line does, what it may touch, and how many turns it asks for
     "its_plain/specs/OperatorLines.antt": {KIND: "operate lined"},
     "its_plain/specs/Integrity.antt": {KIND: "touched"},
@@ -43,7 +43,7 @@ OTHER = {
     "its_top/specs/Checking.antt": {WALK: "checked_from"},
     # contracts of the code that performs a line
     "its_direct/specs/Events.antt": {EFFECT: "Obeys", KIND: "IsTold MayStand Says"},
-    "its_verify/specs/Showing.antt": {KIND: "lines_of shown_judge is_peek_event IsThere"},
+    "its_verify/specs/Showing.antt": {KIND: "lines_of shown_ruling is_peek_event IsThere"},
     "its_verify/specs/Verifier.antt": {KIND: "RunsOutside"},
     # contracts of the loops that read a session: is it at its end
     "its_reader/specs/Items.antt": {KIND: "is_end"},

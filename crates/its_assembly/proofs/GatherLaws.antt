@@ -182,7 +182,7 @@ beyond_stands k text read old new bytes mid (Some ys) s r ready n e c =
     past_lines bytes s.lines l.first l.behind lines s.short many
 
 pub gather_beyond : (k : Bool) (text : List ℕ) (old new : Lines) (left mid rest : Option (List ℕ)) → LinesSo k text old left mid → Reads (Ok nexts.Beyond) old new mid rest → Ready new rest → new.number ≡ old.number + 1
-    → Gathered (Err unreads.Beyond) text left rest
+    → Gathered (Err unreads.TooLong) text left rest
 gather_beyond k text old new left mid rest s r ready n =
     let c = Consumes-trans left mid rest s.read r.read s.consumed r.consumed in
     record { read = s.read ++ r.read; consumed = c; stands = go left s c }

@@ -29,7 +29,7 @@ ends_by (Ok (mades.Session t)) bytes text read m s =
     let session = subst (λ r. IsSession r t.items) s.1 m in (s.0, session, s.2 (assembles (assembly bytes) t.items session))
 ends_by (Ok (mades.Refusal l)) bytes text read m s = (s.0, subst (λ r. IsRefusal r l.items) s.1 m)
 ends_by (Err unmades.Failed) bytes text read m s = absurd m
-ends_by (Err unmades.Beyond) bytes text read m s = absurd m
+ends_by (Err unmades.TooLong) bytes text read m s = absurd m
 ends_by (Err unmades.NoMemory) bytes text read m s = s.0
 
 if_then : (left : Option (List ℕ)) (P Q : List ℕ → Type 0) → ((b : List ℕ) → P b → Q b) → IfSome left P → IfSome left Q
@@ -42,7 +42,7 @@ ends_made m text left rest g k = record { read = g.read; consumed = g.consumed; 
 pub ends_failed : (text : List ℕ) (left rest : Option (List ℕ)) → Gathered (Err unreads.Failed) text left rest → MadeFrom (Err unmades.Failed) left rest
 ends_failed text left rest g = record { read = g.read; consumed = g.consumed; ends = if_then left _ _ (λ b s. s) g.stands }
 
-pub ends_beyond : (text : List ℕ) (left rest : Option (List ℕ)) → Gathered (Err unreads.Beyond) text left rest → MadeFrom (Err unmades.Beyond) left rest
+pub ends_beyond : (text : List ℕ) (left rest : Option (List ℕ)) → Gathered (Err unreads.TooLong) text left rest → MadeFrom (Err unmades.TooLong) left rest
 ends_beyond text left rest g = record { read = g.read; consumed = g.consumed; ends = if_then left _ _ (λ b s. s) g.stands }
 
 pub ends_refused : (text : List ℕ) (left rest : Option (List ℕ)) → Gathered (Err unreads.NoMemory) text left rest → MadeFrom (Err unmades.NoMemory) left rest

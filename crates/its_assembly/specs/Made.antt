@@ -69,7 +69,7 @@ abbrev pub MakesOf : Result Made Unmade → Result Image AsmFault → Type 0
 MakesOf (Ok (mades.Session text)) r = IsSession r text.items
 MakesOf (Ok (mades.Refusal line)) r = IsRefusal r line.items
 MakesOf (Err unmades.Failed) r = ⊥
-MakesOf (Err unmades.Beyond) r = ⊥
+MakesOf (Err unmades.TooLong) r = ⊥
 MakesOf (Err unmades.NoMemory) r = Unit {0}
 
 -- the text of these bytes has this result, and these of the bytes were read
@@ -77,7 +77,7 @@ abbrev pub EndsOf : Result Made Unmade → List ℕ → List ℕ → Type 0
 EndsOf (Ok (mades.Session text)) bytes read = (runs_past bytes ≡ false) × IsSession (assembly bytes) text.items × (read ≡ bytes)
 EndsOf (Ok (mades.Refusal line)) bytes read = (runs_past bytes ≡ false) × IsRefusal (assembly bytes) line.items
 EndsOf (Err unmades.Failed) bytes read = WithinLimits read
-EndsOf (Err unmades.Beyond) bytes read = runs_past bytes ≡ true
+EndsOf (Err unmades.TooLong) bytes read = runs_past bytes ≡ true
 EndsOf (Err unmades.NoMemory) bytes read = runs_past bytes ≡ false
 
 pub record MadeFrom (result : Result Made Unmade) (left rest : Option (List ℕ)) : Type 0 where

@@ -43,7 +43,7 @@ read_whole false = Err unreads.NoMemory
 -- If the source failed, what was read decides nothing. Want of memory does not hide that there are too many lines
 abbrev pub StandsFor : Result (Unit {0}) Unread → List ℕ → List ℕ → List ℕ → Type 0
 StandsFor (Ok x) bytes text read = (runs_past bytes ≡ false) × (assembly text ≡ assembly bytes) × (Assembles (assembly bytes) → read ≡ bytes)
-StandsFor (Err unreads.Beyond) bytes text read = runs_past bytes ≡ true
+StandsFor (Err unreads.TooLong) bytes text read = runs_past bytes ≡ true
 StandsFor (Err unreads.Failed) bytes text read = WithinLimits read
 StandsFor (Err unreads.NoMemory) bytes text read = runs_past bytes ≡ false
 

@@ -28,7 +28,7 @@ pub enum Unmade {
     /// The source failed.
     Failed,
     /// A line past the most that a text may have begins, and no line before it has more than 255 bytes.
-    Beyond,
+    TooLong,
     /// Memory was refused.
     NoMemory,
 }
@@ -44,7 +44,7 @@ pub fn assemble_source<S: Source>(alloc: Global, src: &mut S) -> Result<Made, Un
     match read_text(&mut text, src) {
         Ok(()) => assembled(alloc, &text),
         Err(Unread::Failed) => Err(Unmade::Failed),
-        Err(Unread::Beyond) => Err(Unmade::Beyond),
+        Err(Unread::TooLong) => Err(Unmade::TooLong),
         Err(Unread::NoMemory) => Err(Unmade::NoMemory),
     }
 }

@@ -132,7 +132,7 @@ fn shown(alloc: Global, text: &[u8], fails: &[u64]) -> Result<Vec<u8>, Fail> {
         Ok(Made::Session(session)) => Ok(session),
         Ok(Made::Refusal(line)) => Ok(line.as_slice().to_vec(alloc)?),
         Err(Unmade::Failed) => Ok(b"failed".to_vec(alloc)?),
-        Err(Unmade::Beyond) => Ok(b"beyond".to_vec(alloc)?),
+        Err(Unmade::TooLong) => Ok(b"beyond".to_vec(alloc)?),
         Err(Unmade::NoMemory) => Ok(b"no memory".to_vec(alloc)?),
     }
 }

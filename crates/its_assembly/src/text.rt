@@ -15,7 +15,7 @@ pub enum Unread {
     /// The source failed.
     Failed,
     /// A line past the most that a text may have begins.
-    Beyond,
+    TooLong,
     /// Memory was refused.
     NoMemory,
 }
@@ -36,7 +36,7 @@ pub fn read_text<S: Source>(text: &mut Vec<u8>, src: &mut S) -> Result<(), Unrea
         match lines.next(src) {
             Ok(Next::Line) => kept = keep_line(kept, text, &lines.line),
             Ok(Next::Long) => return read_whole(keep_long(kept, text)),
-            Ok(Next::Beyond) => return Err(Unread::Beyond),
+            Ok(Next::Beyond) => return Err(Unread::TooLong),
             Ok(Next::End) => return read_whole(kept),
             Err(_) => return Err(Unread::Failed),
         }

@@ -26,12 +26,12 @@ use Rattle.its_plain.specs.Arguments.{debts, revalued}
 use Rattle.its_plain.specs.Change.{superiors, is_gone, removed, inferior, effect}
 use Rattle.its_plain.specs.Machine.{changed}
 use Rattle.its_stepped.specs.Commit.{effect_on, effects_on, committed, gone_on, owed_by, given_up, owed_part, owed_parts, owed_store}
-use Rattle.its_stepped.specs.State.{State, mine, turn, same, ending, waiting}
+use Rattle.its_stepped.specs.State.{State, mine, with_slot, same, ending, waiting}
 use Rattle.its_commit.specs.Built.{CanMake, CanMakeAll, backed}
 use Rattle.its_commit.specs.Carried.{standing_of, Ready, Endable}
 use Rattle.its_world.specs.World.{state_of, marking, mark_of, parts_left, frame_at, FrameBecomes}
 use Rattle.its_world.specs.declared.world.World.{World}
-use Rattle.its_world.proofs.StateLaws.{kept_turn}
+use Rattle.its_world.proofs.StateLaws.{kept_slot}
 use Rattle.its_world.proofs.StorageLaws.{raw_has}
 use Rattle.its_stepped.proofs.ForestLaws.{left_some}
 
@@ -134,15 +134,15 @@ unfolding committed
 wait_committed old new s r job h = go (standing_of (frame_at old.frames.items s)) h
   where
     go : (o : Option Holding) → IfSome o (λ f. FrameBecomes old new s (Some (waiting f.site f.ask f.owes)))
-        → IfSome o (λ f. state_of new ≡ turn (state_of old) s same (Some (waiting f.site f.ask f.owes)))
-    go (Some f) b = kept_turn old new s _ job b
+        → IfSome o (λ f. state_of new ≡ with_slot (state_of old) s same (Some (waiting f.site f.ask f.owes)))
+    go (Some f) b = kept_slot old new s _ job b
     go None b = tt
 
 -- a frame that is put after changes
 put_after : (old mid new : World) (s : ℕ) (cs : List Change) (g : Frame) → state_of mid ≡ effects_on cs s (state_of old) → CanMakeAll cs s (state_of old) → is_some (job_at old.jobs s) ≡ true
-    → FrameBecomes mid new s (Some g) → state_of new ≡ turn (effects_on cs s (state_of old)) s same (Some g)
+    → FrameBecomes mid new s (Some g) → state_of new ≡ with_slot (effects_on cs s (state_of old)) s same (Some g)
 put_after old mid new s cs g e b job f =
-    kept_turn mid new s _ (job_kept old mid s cs e b job) f ∙ ap (λ v. turn v s same (Some g)) e
+    kept_slot mid new s _ (job_kept old mid s cs e b job) f ∙ ap (λ v. with_slot v s same (Some g)) e
 
 -- a call of which a part is done
 pub goes_committed : (old mid new : World) (s : ℕ) (cs : List Change) (h : Option Held) (vs : List ℕ) → state_of mid ≡ effects_on cs s (state_of old) → CanMakeAll cs s (state_of old)
@@ -155,7 +155,7 @@ goes_committed old mid new s cs h vs e b job p =
     (subst (λ o. IfSome (standing_of o) (λ f. FrameBecomes mid new s (Some (gone_on f.site (revalued f.ask vs) (length vs) h)))) (frame_kept old mid s cs e b) p)
   where
     go : (o : Option Holding) → IfSome o (λ f. FrameBecomes mid new s (Some (gone_on f.site (revalued f.ask vs) (length vs) h)))
-        → IfSome o (λ f. state_of new ≡ turn (effects_on cs s (state_of old)) s same (Some (gone_on f.site (revalued f.ask vs) (length vs) h)))
+        → IfSome o (λ f. state_of new ≡ with_slot (effects_on cs s (state_of old)) s same (Some (gone_on f.site (revalued f.ask vs) (length vs) h)))
     go (Some f) p = put_after old mid new s cs _ e b job p
     go None p = tt
 
@@ -192,10 +192,10 @@ ends_committed old mid new s cs ss x e b job p =
     v = effects_on cs s (state_of old)
 
     go : (o : Option Holding) → IfSome o (λ f. FrameBecomes mid new s (Some (ending f.site f.ask (owed_at v s ss x f))))
-        → IfSome o (λ f. state_of new ≡ turn v s same (Some (ending f.site f.ask (owed_by v s (debts f.ask f.owes ++ ss) x))))
+        → IfSome o (λ f. state_of new ≡ with_slot v s same (Some (ending f.site f.ask (owed_by v s (debts f.ask f.owes ++ ss) x))))
     go (Some f) p =
         put_after old mid new s cs _ e b job p
-        ∙ ap (λ os. turn v s same (Some (ending f.site f.ask os))) (sym (owed_is v s (debts f.ask f.owes ++ ss) x))
+        ∙ ap (λ os. with_slot v s same (Some (ending f.site f.ask os))) (sym (owed_is v s (debts f.ask f.owes ++ ss) x))
     go None p = tt
 
 -- a call whose caller is removed

@@ -20,7 +20,7 @@ use Rattle.its_plain.specs.Interrupt.{Delivered, Entry, at_handler, below, by_en
 use Rattle.its_plain.specs.Own.{advanced, exit_of, with_variable}
 use Rattle.its_plain.specs.UnitPlan.{Planned}
 use Rattle.its_plain.specs.Traced.{Traced, also, word}
-use Rattle.its_plain.specs.Unit.{Outcome, Changed, Faulted, Called, chain, done_by, followed, made, outcome_at, outcome_of, reached, row_of, turn, unit}
+use Rattle.its_plain.specs.Unit.{Outcome, Changed, Faulted, Called, chain, done_by, followed, made, outcome_at, outcome_of, reached, row_of, chain_step, unit}
 use Rattle.its_plain.specs.Own.{with_variable}
 use Rattle.its_plain.proofs.UnitLaws.{unit_keeps}
 use Rattle.its_machine.specs.Parts.{bare}
@@ -137,14 +137,14 @@ pub delivered_stops : (c : Core) (j : Job) → (delivered c j).stops ≡ true �
 delivered_stops c j h = (delivered_keeps c j).core h
 
 -- the way to an instruction
-turn_bare : (c : Core) (j : Job) (w used : ℕ) → turn c (bare j) w used ≡ turn c j w used
-unfolding turn
-turn_bare c j w used = refl
+step_bare : (c : Core) (j : Job) (w used : ℕ) → chain_step c (bare j) w used ≡ chain_step c j w used
+unfolding chain_step
+step_bare c j w used = refl
 
 chain_bare : (n : ℕ) (c : Core) (j : Job) (w used : ℕ) → chain n c (bare j) w used ≡ chain n c j w used
-unfolding chain turn
+unfolding chain chain_step
 chain_bare zero c j w used = refl
-chain_bare (suc n) c j w used = λ i. also (turn c j w used) (λ t. followed (λ v k. chain_bare n c j v k i) t)
+chain_bare (suc n) c j w used = λ i. also (chain_step c j w used) (λ t. followed (λ v k. chain_bare n c j v k i) t)
 
 reached_bare : (c : Core) (j : Job) → reached c (bare j) ≡ reached c j
 unfolding reached

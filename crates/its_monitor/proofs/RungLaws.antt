@@ -21,7 +21,7 @@ use Rattle.its_stepped.specs.Unwind.{unwound, all_unwound}
 use Rattle.its_machine.proofs.TimeLaws.{rung_slot, below_next}
 use Rattle.its_stepped.proofs.AlarmLaws.{coming_periodic}
 use Rattle.its_stepped.proofs.DueLaws.{alarm_plain, due_same}
-use Rattle.its_stepped.proofs.UnwindLaws.{all_unwound_turn, all_unwound_end}
+use Rattle.its_stepped.proofs.UnwindLaws.{all_unwound_slot, all_unwound_end}
 use Rattle.its_files.specs.Files.{Store}
 use Rattle.its_world.specs.Tidy.{Across, Tidy}
 use Rattle.its_world.specs.World.{alarm_at, symbols_at, raw_machine, frame_at, mark_of, state_of, in_raw, frames_after, JobBecomes, AlarmBecomes, ClockBecomes}
@@ -65,7 +65,7 @@ rousing_more c n old mid new b l r e t is same sound tidy g =
       sound = sound;
       tidy = tidy;
       same = same ∙ r.same;
-      rest = ap (all_unwound xs) is ∙ all_unwound_turn n xs (state_of mid) ∙ ap (λ ys. all_unwound ys (state_of mid)) (sym first) ∙ r.rest;
+      rest = ap (all_unwound xs) is ∙ all_unwound_slot n xs (state_of mid) ∙ ap (λ ys. all_unwound ys (state_of mid)) (sym first) ∙ r.rest;
       pages = (λ i. pages_unwound xs (is i) (g i)) ∙ ap (λ ys. pages_unwound ys (state_of mid) mid.core.frames) (sym first) ∙ r.pages;
     }
 

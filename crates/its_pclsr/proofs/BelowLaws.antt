@@ -13,7 +13,7 @@ use Rattle.its_stepped.specs.Sound.{Sound}
 use Rattle.its_stepped.specs.State.{State, plain}
 use Rattle.its_stepped.specs.Unwind.{unwound, all_unwound}
 use Rattle.its_stepped.proofs.EffectLaws.{superiors_plain}
-use Rattle.its_stepped.proofs.UnwindLaws.{all_unwound_turn, all_unwound_end, all_unwound_plain}
+use Rattle.its_stepped.proofs.UnwindLaws.{all_unwound_slot, all_unwound_end, all_unwound_plain}
 use Rattle.its_commit.proofs.RemovalLaws.{superiors_are}
 use Rattle.its_pclsr.specs.Pages.{pages_unwound}
 use Rattle.its_world.specs.World.{state_of, frames_after}
@@ -74,7 +74,7 @@ unwinding_more old mid new s k b u t h e p sound g =
       rest = ap (λ sup. all_unwound (drop (k + 1) (slots_below sup s)) (state_of new)) up
           ∙ ap (λ n. all_unwound (drop n xs) (state_of new)) one
           ∙ ap (all_unwound (drop (suc k) xs)) e
-          ∙ all_unwound_turn b (drop (suc k) xs) (state_of mid)
+          ∙ all_unwound_slot b (drop (suc k) xs) (state_of mid)
           ∙ ap (λ ys. all_unwound ys (state_of mid)) (sym (first_of_rest xs k b here))
           ∙ u.rest;
       pages = ap (λ sup. pages_unwound (drop (k + 1) (slots_below sup s)) (state_of new) new.core.frames) up

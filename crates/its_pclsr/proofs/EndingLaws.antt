@@ -18,7 +18,7 @@ use Rattle.its_frame.specs.declared.frame.Frame.{Frame}
 use Rattle.its_frame.specs.declared.frame.Frame.TheVariants as frames
 use Rattle.its_plain.specs.Change.{poke}
 use Rattle.its_plain.specs.Own.{with_stores, left_with, leave}
-use Rattle.its_stepped.specs.State.{Part, Mark, State, mine, turn, same, reserving, ending}
+use Rattle.its_stepped.specs.State.{Part, Mark, State, mine, with_slot, same, reserving, ending}
 use Rattle.its_stepped.specs.Unwind.{due, with_part, settled, unwind_by, unwind_one}
 use Rattle.its_stepped.specs.Sound.{Owes, backs, EndingPays, MarkBy, Sound, file_parts, parts_in_frame}
 use Rattle.its_calls.specs.Calls.{after_step, ending_in}
@@ -26,7 +26,7 @@ use Rattle.its_calls.specs.Steps.{is_file}
 use Rattle.its_calls.proofs.StepLaws.{due_all}
 use Rattle.its_world.specs.World.{state_of, mark_of, frame_at, Becomes, CoreBecomes, FrameBecomes, PageBecomes, JobBecomes}
 use Rattle.its_world.specs.declared.world.World.{World}
-use Rattle.its_world.proofs.StateLaws.{kept_state, kept_turn, stored_turn, left_turn, retaken}
+use Rattle.its_world.proofs.StateLaws.{kept_state, kept_slot, stored_slot, left_slot, retaken}
 use Rattle.its_pclsr.specs.Owed.{Marks, FirstPart, IsNext}
 use Rattle.its_pclsr.specs.Parts.{NextMade, Taken}
 use Rattle.its_pclsr.proofs.UnwindingLaws.{stands_at, row_at}
@@ -154,8 +154,8 @@ step_taken old new s b o some sound own frame first =
     }
 
 left_by_some : (old new : World) (s : ℕ) (e : Exit) (o : Option Job) → job_at old.jobs s ≡ o → is_some o ≡ true → frame_at old.frames.items s ≡ None
-    → IfSome o (λ j. JobBecomes old new s (left_with e j)) → state_of new ≡ turn (state_of old) s (leave e) None
-left_by_some old new s e (Some j) h some none b = left_turn old new s j e None h (subst (λ f. Becomes old new s (core_at old.core s) (Some (left_with e j)) f (clear_at old.core s)) none b)
+    → IfSome o (λ j. JobBecomes old new s (left_with e j)) → state_of new ≡ with_slot (state_of old) s (leave e) None
+left_by_some old new s e (Some j) h some none b = left_slot old new s j e None h (subst (λ f. Becomes old new s (core_at old.core s) (Some (left_with e j)) f (clear_at old.core s)) none b)
 left_by_some old new s e None h some none b = cc
 
 -- and performed
@@ -163,8 +163,8 @@ module _ (old mid : World) (s : ℕ) (o : Owed) (t : Taken old mid s o) (sound :
   pays_at : EndingPays (core_at old.core s) (clear_at old.core s) t.owed
   pays_at = (stands_at old s (ending t.site t.ask t.owed) sound t.here).1
 
-  mid_state : state_of mid ≡ turn (state_of old) s same (Some (ending t.site t.ask t.rest))
-  mid_state = kept_turn old mid s (Some (ending t.site t.ask t.rest)) (stands_at old s (ending t.site t.ask t.owed) sound t.here).0 t.frame
+  mid_state : state_of mid ≡ with_slot (state_of old) s same (Some (ending t.site t.ask t.rest))
+  mid_state = kept_slot old mid s (Some (ending t.site t.ask t.rest)) (stands_at old s (ending t.site t.ask t.owed) sound t.here).0 t.frame
 
   pub taken_job : is_some (job_at mid.jobs s) ≡ true
   taken_job = ap is_some t.frame.job.here ∙ (stands_at old s (ending t.site t.ask t.owed) sound t.here).0
@@ -189,22 +189,22 @@ module _ (old mid : World) (s : ℕ) (o : Owed) (t : Taken old mid s o) (sound :
 
   pub store_row : (new : World) (at w : ℕ) → o ≡ owed.Store at w → CoreBecomes mid new s (stored (core_at mid.core s) (poke at w ∷ [])) → state_of new ≡ unwind_one (state_of old) s
   store_row new at w e b =
-      stored_turn mid new s (poke at w ∷ []) (frame_at mid.frames.items s) taken_job b
-      ∙ (λ i. turn (mid_state i) s (with_stores (poke at w ∷ [])) (t.frame.frame.here i))
+      stored_slot mid new s (poke at w ∷ []) (frame_at mid.frames.items s) taken_job b
+      ∙ (λ i. with_slot (mid_state i) s (with_stores (poke at w ∷ [])) (t.frame.frame.here i))
       ∙ retaken (state_of old) s (Some (ending t.site t.ask t.rest)) (Some (ending t.site t.ask t.rest)) (with_stores (poke at w ∷ []))
       ∙ settled_row (owed.Store at w) e
 
   pub back_row : (new : World) → o ≡ GiveBack → PageBecomes mid new s None → state_of new ≡ unwind_one (state_of old) s
   back_row new e b =
       kept_state mid new s (frame_at mid.frames.items s) None taken_job b
-      ∙ (λ i. reserving (turn (mid_state i) s same (t.frame.frame.here i)) s None)
+      ∙ (λ i. reserving (with_slot (mid_state i) s same (t.frame.frame.here i)) s None)
       ∙ ap (λ (w : State). reserving w s None) (retaken (state_of old) s (Some (ending t.site t.ask t.rest)) (Some (ending t.site t.ask t.rest)) same)
       ∙ settled_row GiveBack e
 
   pub part_row : (new : World) (p : Owed) → o ≡ p → is_file p ≡ true → NextMade mid new → state_of new ≡ unwind_one (state_of old) s
   part_row new p e file b = b.row ∙ ap (λ (w : State). with_part w.mark w) mid_state ∙ by p file ∙ settled_row p e
     where
-      by : (q : Owed) → is_file q ≡ true → with_part (state_of old).mark (turn (state_of old) s same (Some (ending t.site t.ask t.rest))) ≡ settled (state_of old) s t.site t.ask (q ∷ t.rest)
+      by : (q : Owed) → is_file q ≡ true → with_part (state_of old).mark (with_slot (state_of old) s same (Some (ending t.site t.ask t.rest))) ≡ settled (state_of old) s t.site t.ask (q ∷ t.rest)
       by Unlink h = refl
       by Link h = refl
       by Free h = refl
@@ -213,8 +213,8 @@ module _ (old mid : World) (s : ℕ) (o : Owed) (t : Taken old mid s o) (sound :
   pub leave_row : (low new : World) (e : Exit) → o ≡ Leave e → FrameBecomes mid low s None → IfSome (job_at low.jobs s) (λ j. JobBecomes low new s (left_with e j)) → state_of new ≡ unwind_one (state_of old) s
   leave_row low new e is b h =
       left_by_some low new s e (job_at low.jobs s) refl (ap is_some b.job.here ∙ taken_job) b.frame.here h
-      ∙ ap (λ (w : State). turn w s (leave e) None) (kept_turn mid low s None taken_job b ∙ ap (λ (w : State). turn w s same None) mid_state)
-      ∙ retaken (turn (state_of old) s same (Some (ending t.site t.ask t.rest))) s None None (leave e)
+      ∙ ap (λ (w : State). with_slot w s (leave e) None) (kept_slot mid low s None taken_job b ∙ ap (λ (w : State). with_slot w s same None) mid_state)
+      ∙ retaken (with_slot (state_of old) s same (Some (ending t.site t.ask t.rest))) s None None (leave e)
       ∙ retaken (state_of old) s (Some (ending t.site t.ask t.rest)) None (leave e)
       ∙ settled_row (Leave e) is
 

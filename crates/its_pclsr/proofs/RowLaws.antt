@@ -20,7 +20,7 @@ use Rattle.its_plain.specs.Change.{poke}
 use Rattle.its_plain.specs.CallStep.{deposited, with_held}
 use Rattle.its_plain.specs.Own.{with_stores}
 use Rattle.its_word.specs.Stores.{place, stored}
-use Rattle.its_stepped.specs.State.{State, held_at, turn, same, reserving, asked, holding}
+use Rattle.its_stepped.specs.State.{State, held_at, with_slot, same, reserving, asked, holding}
 use Rattle.its_stepped.specs.Unwind.{first_debt, paid, given_back}
 use Rattle.its_stepped.specs.Sound.{Stored, MovingPays}
 use Rattle.its_calls.specs.Calls.{gone_to, request_in}
@@ -28,7 +28,7 @@ use Rattle.its_calls.specs.declared.call.Next.{Next}
 use Rattle.its_world.specs.World.{state_of, frame_at, Becomes, CoreBecomes, FrameBecomes, PageBecomes}
 use Rattle.its_world.specs.declared.world.World.{World}
 use Rattle.its_world.proofs.WorldLaws.{then_becomes}
-use Rattle.its_world.proofs.StateLaws.{job_of, turned_state, stored_turn}
+use Rattle.its_world.proofs.StateLaws.{job_of, turned_state, stored_slot}
 
 each : {X : Type 0} {P Q : X → Type 0} (o : Option X) → ((x : X) → P x → Q x) → IfSome o P → IfSome o Q
 each (Some x) f h = f x h
@@ -68,11 +68,11 @@ backed_row old mid new s a b =
     (subst (λ (o : Option Frame). IfSome (request_in o) (λ r. FrameBecomes mid new s (Some (asked r.site r.ask)))) a.frame.here b)
 
 -- the first pending argument is stored; if nothing is pending, the frame is dropped
-pub some_paid : (w : State) (s n : ℕ) (a : Ask) (t : Store) (f : ℕ → Frame) → n ≢ 0 → first_debt (debts a n) ≡ t ∷ [] → turn w s (with_stores (t ∷ [])) (Some (f (n - 1))) ≡ paid w s a n f
+pub some_paid : (w : State) (s n : ℕ) (a : Ask) (t : Store) (f : ℕ → Frame) → n ≢ 0 → first_debt (debts a n) ≡ t ∷ [] → with_slot w s (with_stores (t ∷ [])) (Some (f (n - 1))) ≡ paid w s a n f
 some_paid w s zero a t f some first = absurd (some refl)
 some_paid w s (suc n) a t f some first =
     let e : suc n - 1 ≡ n = omega arith in
-    ap (λ (k : ℕ). turn w s (with_stores (t ∷ [])) (Some (f k))) e ∙ ap (λ (ss : List Store). turn w s (with_stores ss) (Some (f n))) (sym first)
+    ap (λ (k : ℕ). with_slot w s (with_stores (t ∷ [])) (Some (f k))) e ∙ ap (λ (ss : List Store). with_slot w s (with_stores ss) (Some (f n))) (sym first)
 
 nothing_first : (a : Ask) → first_debt (debts a 0) ≡ []
 unfolding debts
@@ -80,12 +80,12 @@ nothing_first a =
     let e : drop (length a.inputs.items - 0) a.inputs.items ≡ [] = drop_all (length a.inputs.items - 0) a.inputs.items (omega arith) in
     ap (λ os. first_debt (stores_of os)) e
 
-nothing_stored : (old new : World) (s : ℕ) → is_some (job_at old.jobs s) ≡ true → FrameBecomes old new s None → state_of new ≡ turn (state_of old) s (with_stores []) None
+nothing_stored : (old new : World) (s : ℕ) → is_some (job_at old.jobs s) ≡ true → FrameBecomes old new s None → state_of new ≡ with_slot (state_of old) s (with_stores []) None
 unfolding stored
-nothing_stored old new s j b = stored_turn old new s [] None j b
+nothing_stored old new s j b = stored_slot old new s [] None j b
 
 pub none_paid : (old new : World) (s n : ℕ) (a : Ask) (f : ℕ → Frame) → is_some (job_at old.jobs s) ≡ true → n ≡ 0 → FrameBecomes old new s None → state_of new ≡ paid (state_of old) s a n f
-none_paid old new s zero a f j e b = nothing_stored old new s j b ∙ ap (λ ss. turn (state_of old) s (with_stores ss) None) (sym (nothing_first a))
+none_paid old new s zero a f j e b = nothing_stored old new s j b ∙ ap (λ ss. with_slot (state_of old) s (with_stores ss) None) (sym (nothing_first a))
 none_paid old new s (suc n) a f j e b = absurd (omega arith)
 
 -- the first pending argument can be stored
@@ -94,7 +94,7 @@ first_can c [] t h e = cc
 first_can c (x ∷ ss) t h e = let is : x ≡ t = cc in subst (λ (y : Store). can_store c (place y) ≡ true) is h.0
 
 -- a call that has reserved a page gives it back; one that has reserved none pays
-pub page_backed : (w : State) (s n : ℕ) (t : Site) (a : Ask) (page : Option ℕ) → is_some page ≡ true → reserving (turn w s same (Some (asked t a))) s None ≡ given_back w s t a page n
+pub page_backed : (w : State) (s n : ℕ) (t : Site) (a : Ask) (page : Option ℕ) → is_some page ≡ true → reserving (with_slot w s same (Some (asked t a))) s None ≡ given_back w s t a page n
 page_backed w s n t a (Some p) some = refl
 page_backed w s n t a None some = cc
 
@@ -103,10 +103,10 @@ none_backed w s n t a (Some p) none = cc
 none_backed w s n t a None none = refl
 
 -- a held byte is stored
-pub moved_turn : (old new : World) (s : ℕ) (a : Ask) (place byte : ℕ) (f : Option Frame) → is_some (job_at old.jobs s) ≡ true
+pub moved_slot : (old new : World) (s : ℕ) (a : Ask) (place byte : ℕ) (f : Option Frame) → is_some (job_at old.jobs s) ≡ true
     → Becomes old new s (stored (core_at old.core s) (deposited (core_at old.core s) (input a 1) (held_at place byte) ∷ [])) (job_at old.jobs s) f (clear_at old.core s)
-    → state_of new ≡ turn (state_of old) s (with_held a (Some (held_at place byte))) f
-moved_turn old new s a place byte f h b =
+    → state_of new ≡ with_slot (state_of old) s (with_held a (Some (held_at place byte))) f
+moved_slot old new s a place byte f h b =
     let j = job_of (job_at old.jobs s) h in
     turned_state old new s _ j.0 j.0 f (with_held a (Some (held_at place byte)))
     (subst (λ o. Becomes old new s (stored (core_at old.core s) (deposited (core_at old.core s) (input a 1) (held_at place byte) ∷ [])) o f (clear_at old.core s)) j.1 b) j.1 refl

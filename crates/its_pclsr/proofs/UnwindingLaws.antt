@@ -16,22 +16,22 @@ use Rattle.its_jobs.specs.Table.{job_at, superior_at}
 use Rattle.its_frame.specs.declared.frame.Frame.{Frame}
 use Rattle.its_plain.specs.Arguments.{input, debts}
 use Rattle.its_plain.specs.CallStep.{deposited}
-use Rattle.its_stepped.specs.State.{State, plain, seen, held_at, turn, same, entered, parsed, asked, holding, waiting, moving}
+use Rattle.its_stepped.specs.State.{State, plain, seen, held_at, with_slot, same, entered, parsed, asked, holding, waiting, moving}
 use Rattle.its_plain.specs.Machine.{Whole, Machine}
 use Rattle.its_stepped.specs.Unwind.{first_debt, given_back, unwind_by, unwind_one, left, unwind_times, unwound}
 use Rattle.its_stepped.specs.OneChange.{OneChange}
 use Rattle.its_stepped.specs.Sound.{Pays, HoldingPays, WaitingPays, MovingPays, SoundBy, Sound}
 use Rattle.its_stepped.specs.SlotSame.{SlotSame}
-use Rattle.its_stepped.proofs.UnwindLaws.{unwind_fewer, left_none, unwind_plain, unwind_sound, one_change, few_left, unwound_turn, unwound_plain, unwound_sound, unwound_none, unwound_others}
+use Rattle.its_stepped.proofs.UnwindLaws.{unwind_fewer, left_none, unwind_plain, unwind_sound, one_change, few_left, unwound_slot, unwound_plain, unwound_sound, unwound_none, unwound_others}
 use Rattle.its_stepped.proofs.KeptLaws.{user_page}
 use Rattle.its_calls.specs.Calls.{ending_in, frame_seen, request_in}
 use Rattle.its_calls.specs.declared.call.View.{View}
 use Rattle.its_calls.specs.declared.call.View.TheVariants as views
 use Rattle.its_world.specs.World.{state_of, alarm_at, raw_of, raw_at, frame_at, frames_after, Becomes, FrameBecomes}
 use Rattle.its_world.specs.declared.world.World.{World}
-use Rattle.its_world.proofs.StateLaws.{kept_state, kept_turn, stored_turn}
+use Rattle.its_world.proofs.StateLaws.{kept_state, kept_slot, stored_slot}
 use Rattle.its_pclsr.specs.Apart.{CoresOff}
-use Rattle.its_pclsr.proofs.RowLaws.{page_backed, none_backed, some_paid, none_paid, moved_turn}
+use Rattle.its_pclsr.proofs.RowLaws.{page_backed, none_backed, some_paid, none_paid, moved_slot}
 
 -- a slot with a frame has a job, and its frame can be paid
 by_job : (t : Files) (c : Core) (sup : Option ℕ) (a : Option (ℕ × ℕ)) (o : Option Job) (f : Frame) (r : Option ℕ) → SoundBy (raw_of t c sup a o) (Some f) r → (is_some o ≡ true) × Pays f c r
@@ -82,8 +82,8 @@ module _ (old : World) (s : ℕ) (x : View) (e : frame_seen x ≡ frame_at old.f
   moving_pays t a place byte i = (stands_at old s (moving t.now a.now (held_at place byte)) sound (at (views.Moving t a place byte) i)).1
 
   -- the row of what was looked at
-  dropped : (new : World) (f : Frame) (y : View) → x ≡ y → frame_seen y ≡ Some f → FrameBecomes old new s None → state_of new ≡ turn (state_of old) s same None
-  dropped new f y i h b = kept_turn old new s None (job_there f y i h) b
+  dropped : (new : World) (f : Frame) (y : View) → x ≡ y → frame_seen y ≡ Some f → FrameBecomes old new s None → state_of new ≡ with_slot (state_of old) s same None
+  dropped new f y i h b = kept_slot old new s None (job_there f y i h) b
 
   pub entered_row : (new : World) (t : Bor Site) → x ≡ views.Entered t → FrameBecomes old new s None → state_of new ≡ unwind_one (state_of old) s
   entered_row new t i b = dropped new (entered t.now) (views.Entered t) i refl b ∙ sym (row_at old s (entered t.now) (at (views.Entered t) i))
@@ -121,7 +121,7 @@ module _ (old : World) (s : ℕ) (x : View) (e : frame_seen x ≡ frame_at old.f
     holding_paid new d bare some first b =
         let here : Becomes old new s (stored (core_at old.core s) (d ∷ [])) (job_at old.jobs s) (Some (holding t.now a.now None (n - 1))) (clear_at old.core s) =
         subst (λ (o : Option Frame). IfSome (request_in o) (λ r. Becomes old new s (stored (core_at old.core s) (d ∷ [])) (job_at old.jobs s) (Some (holding r.site r.ask None (n - 1))) (clear_at old.core s))) there b in
-        stored_turn old new s (d ∷ []) (Some (holding t.now a.now None (n - 1))) (stands_at old s (holding t.now a.now page n) sound there).0 here
+        stored_slot old new s (d ∷ []) (Some (holding t.now a.now None (n - 1))) (stands_at old s (holding t.now a.now page n) sound there).0 here
         ∙ some_paid (state_of old) s n a.now d (holding t.now a.now None) some first
         ∙ none_backed (state_of old) s n t.now a.now page bare ∙ given
 
@@ -140,7 +140,7 @@ module _ (old : World) (s : ℕ) (x : View) (e : frame_seen x ≡ frame_at old.f
     waiting_paid new d some first b =
         let here : Becomes old new s (stored (core_at old.core s) (d ∷ [])) (job_at old.jobs s) (Some (waiting t.now a.now (n - 1))) (clear_at old.core s) =
         subst (λ (o : Option Frame). IfSome (request_in o) (λ r. Becomes old new s (stored (core_at old.core s) (d ∷ [])) (job_at old.jobs s) (Some (waiting r.site r.ask (n - 1))) (clear_at old.core s))) stands b in
-        stored_turn old new s (d ∷ []) (Some (waiting t.now a.now (n - 1))) (stands_at old s (waiting t.now a.now n) sound stands).0 here
+        stored_slot old new s (d ∷ []) (Some (waiting t.now a.now (n - 1))) (stands_at old s (waiting t.now a.now n) sound stands).0 here
         ∙ some_paid (state_of old) s n a.now d (waiting t.now a.now) some first
         ∙ sym (row_at old s (waiting t.now a.now n) stands)
 
@@ -151,7 +151,7 @@ module _ (old : World) (s : ℕ) (x : View) (e : frame_seen x ≡ frame_at old.f
       let there : frame_at old.frames.items s ≡ Some (moving t.now a.now (held_at place byte)) = at (views.Moving t a place byte) i in
       let here : Becomes old new s (stored (core_at old.core s) (d ∷ [])) (job_at old.jobs s) (Some (holding t.now a.now None 2)) (clear_at old.core s) =
       subst (λ (o : Option Frame). IfSome (request_in o) (λ r. Becomes old new s (stored (core_at old.core s) (d ∷ [])) (job_at old.jobs s) (Some (holding r.site r.ask None 2)) (clear_at old.core s))) there b in
-      moved_turn old new s a.now place byte (Some (holding t.now a.now None 2)) (stands_at old s (moving t.now a.now (held_at place byte)) sound there).0
+      moved_slot old new s a.now place byte (Some (holding t.now a.now None 2)) (stands_at old s (moving t.now a.now (held_at place byte)) sound there).0
       (subst (λ (y : stores.Store). Becomes old new s (stored (core_at old.core s) (y ∷ [])) (job_at old.jobs s) (Some (holding t.now a.now None 2)) (clear_at old.core s)) is here)
       ∙ sym (row_at old s (moving t.now a.now (held_at place byte)) there)
 
@@ -184,7 +184,7 @@ pub unwind_goes_on : (old new : World) (s : ℕ) → is_some (frame_at old.frame
     → unwound (state_of new) s ≡ unwound (state_of old) s
 unwind_goes_on old new s h sound e =
     let f = frame_of old s h in
-    ap (λ w. unwound w s) e ∙ unwound_turn (state_of old) s f.0 sound f.1
+    ap (λ w. unwound w s) e ∙ unwound_slot (state_of old) s f.0 sound f.1
 
 pub unwind_ends : (w : World) (s : ℕ) → is_some (frame_at w.frames.items s) ≡ false → unwound (state_of w) s ≡ state_of w
 unfolding unwound unwind_times

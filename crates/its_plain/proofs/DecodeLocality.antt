@@ -16,10 +16,10 @@ use Rattle.its_word.specs.declared.instruction.Instruction.{Instruction}
 use Rattle.its_word.specs.declared.instruction.Instruction.TheVariants.{Xct}
 use Rattle.its_word.specs.declared.jobs.Job.{Job}
 use Rattle.its_word.specs.declared.plan.Context.{Context}
-use Rattle.its_word.specs.declared.plan.Turn.{Turn}
-use Rattle.its_word.specs.declared.plan.Turn.TheVariants.{Found, Target}
+use Rattle.its_word.specs.declared.plan.ChainStep.{ChainStep}
+use Rattle.its_word.specs.declared.plan.ChainStep.TheVariants.{Found, Target}
 use Rattle.its_plain.specs.Traced.{Traced, also, gives, located, plainly, word}
-use Rattle.its_plain.specs.Unit.{chain, context_of, decoded, followed, reached, target_of, turn, turn_at}
+use Rattle.its_plain.specs.Unit.{chain, context_of, decoded, followed, reached, target_of, chain_step, chain_step_at}
 use Rattle.its_plain.specs.Decode.{Shape, argument, argument_at, argument_words, arguments, block_at, checked, has_bit_0, held, is_legal, kind_of, parsed, shaped, storable, up_to_last, words_of}
 use Rattle.its_plain.proofs.Locality.{Local, local_also, local_held, local_located, local_plainly, local_storable, local_word}
 
@@ -31,19 +31,19 @@ local_target x = elim (cases_Bool (nat_lt x.used budget)) [
   | inr t ↦ rw t (local_plainly (Err Ilo))
 ]
 
-local_turn_at : (i : Instruction) (x : Context) → Local (λ c. turn_at c i x)
-unfolding turn_at
-local_turn_at Xct x = local_target x
-local_turn_at i x = local_plainly (Ok (Found (record { instruction = i; context = x })))
+local_step_at : (i : Instruction) (x : Context) → Local (λ c. chain_step_at c i x)
+unfolding chain_step_at
+local_step_at Xct x = local_target x
+local_step_at i x = local_plainly (Ok (Found (record { instruction = i; context = x })))
 
-local_turn : (j : Job) (w used : ℕ) → Local (λ c. turn c j w used)
-unfolding turn
-local_turn j w used =
-    local_also (λ c. plainly (decoded w)) (λ i c. also (located c w used) (λ f. turn_at c i (context_of j w f.at f.used)))
+local_step : (j : Job) (w used : ℕ) → Local (λ c. chain_step c j w used)
+unfolding chain_step
+local_step j w used =
+    local_also (λ c. plainly (decoded w)) (λ i c. also (located c w used) (λ f. chain_step_at c i (context_of j w f.at f.used)))
     (local_plainly (decoded w))
-    (λ i. local_also (λ c. located c w used) (λ f c. turn_at c i (context_of j w f.at f.used)) (local_located w used) (λ f. local_turn_at i (context_of j w f.at f.used)))
+    (λ i. local_also (λ c. located c w used) (λ f c. chain_step_at c i (context_of j w f.at f.used)) (local_located w used) (λ f. local_step_at i (context_of j w f.at f.used)))
 
-local_followed : (rest : ℕ → ℕ → Core → Traced _) → ((v k : ℕ) → Local (rest v k)) → (t : Turn) → Local (λ c. followed (λ v k. rest v k c) t)
+local_followed : (rest : ℕ → ℕ → Core → Traced _) → ((v k : ℕ) → Local (rest v k)) → (t : ChainStep) → Local (λ c. followed (λ v k. rest v k c) t)
 local_followed rest h (Found r) = local_plainly (Ok r)
 local_followed rest h (Target w used) = h w used
 
@@ -51,7 +51,7 @@ local_chain : (n : ℕ) (j : Job) (w used : ℕ) → Local (λ c. chain n c j w 
 unfolding chain
 local_chain zero j w used = local_plainly (Err Ilo)
 local_chain (suc n) j w used =
-    local_also (λ c. turn c j w used) (λ t c. followed (λ v k. chain n c j v k) t) (local_turn j w used)
+    local_also (λ c. chain_step c j w used) (λ t c. followed (λ v k. chain n c j v k) t) (local_step j w used)
     (λ t. local_followed (λ v k c. chain n c j v k) (λ v k. local_chain n j v k) t)
 
 pub local_reached : (j : Job) → Local (λ c. reached c j)

@@ -16,10 +16,10 @@ use Rattle.its_word.specs.declared.instruction.Instruction.TheVariants.{Call, Io
 use Rattle.its_word.specs.declared.jobs.Job.{Job}
 use Rattle.its_word.specs.declared.plan.Context.{Context}
 use Rattle.its_word.specs.declared.plan.Reached.{Reached}
-use Rattle.its_word.specs.declared.plan.Turn.{Turn}
-use Rattle.its_word.specs.declared.plan.Turn.TheVariants.{Found, Target}
+use Rattle.its_word.specs.declared.plan.ChainStep.{ChainStep}
+use Rattle.its_word.specs.declared.plan.ChainStep.TheVariants.{Found, Target}
 use Rattle.its_plain.specs.Traced.{Located, Traced, also, gives, located, located_by, plainly, word}
-use Rattle.its_plain.specs.Unit.{Called, chain, context_of, decoded, done_by, followed as goes_to, outcome_at, reached, row_of, site_of, target_of, turn, turn_at, unit}
+use Rattle.its_plain.specs.Unit.{Called, chain, context_of, decoded, done_by, followed as goes_to, outcome_at, reached, row_of, site_of, target_of, chain_step, chain_step_at, unit}
 use Rattle.its_plain.specs.Footprint.{SiteFits}
 use Rattle.its_plain.proofs.Locality.{calculation_next}
 use Rattle.its_plain.proofs.SiteLaws.{never_planned}
@@ -108,21 +108,21 @@ record TargetAt (reads : List ℕ) (used next : ℕ) : Type 0 where
   most : next ≤ budget
   few : length reads + 2 * used ≤ 2 * next
 
-Leads : Job → List ℕ → ℕ → Turn → Type 0
+Leads : Job → List ℕ → ℕ → ChainStep → Type 0
 Leads j reads used (Found r) = FoundAt j reads used r.context
 Leads j reads used (Target w next) = TargetAt reads used next
 
 -- what an instruction adds to the words of its address
-Adds : Context → List ℕ → Turn → Type 0
+Adds : Context → List ℕ → ChainStep → Type 0
 Adds x reads (Found r) = (r.context ≡ x) × (length reads ≡ 0)
 Adds x reads (Target w next) = (next ≡ x.used + 1) × (next ≤ budget) × (length reads ≡ 1)
 
-found_adds : (i : Instruction) (x : Context) (t : Turn) → (gives (Found (record { instruction = i; context = x }))).answer ≡ Ok t → Adds x [] t
+found_adds : (i : Instruction) (x : Context) (t : ChainStep) → (gives (Found (record { instruction = i; context = x }))).answer ≡ Ok t → Adds x [] t
 unfolding Adds
 found_adds i x (Found r) h = let e : record { instruction = i; context = x } ≡ r = cc in (ap (λ (r : Reached). r.context) (sym e), refl)
 found_adds i x (Target w k) h = cc
 
-read_adds : (x : Context) (v : ℕ) (reads : List ℕ) (t : Turn) → x.used < budget → length reads ≡ 1 → (gives (Target v (x.used + 1))).answer ≡ Ok t → Adds x reads t
+read_adds : (x : Context) (v : ℕ) (reads : List ℕ) (t : ChainStep) → x.used < budget → length reads ≡ 1 → (gives (Target v (x.used + 1))).answer ≡ Ok t → Adds x reads t
 unfolding Adds
 read_adds x v reads (Found r) l n h = cc
 read_adds x v reads (Target w k) l n h = let e : x.used + 1 ≡ k = cc in (sym e, omega arith, n)
@@ -131,7 +131,7 @@ word_long : (c : Core) (p : ℕ) → length (word c p).reads ≡ 1
 unfolding word
 word_long c p = refl
 
-target_adds : (c : Core) (x : Context) (t : Turn) → (target_of c x).answer ≡ Ok t → Adds x (target_of c x).reads t
+target_adds : (c : Core) (x : Context) (t : ChainStep) → (target_of c x).answer ≡ Ok t → Adds x (target_of c x).reads t
 unfolding target_of
 target_adds c x t h = elim (cases_Bool (nat_lt x.used budget)) [
   | inl b ↦
@@ -143,12 +143,12 @@ target_adds c x t h = elim (cases_Bool (nat_lt x.used budget)) [
   | inr b ↦ let e = rw b at h in cc
 ]
 
-turn_at_adds : (c : Core) (i : Instruction) (x : Context) (t : Turn) → (turn_at c i x).answer ≡ Ok t → Adds x (turn_at c i x).reads t
-unfolding turn_at
-turn_at_adds c Xct x t h = target_adds c x t h
-turn_at_adds c i x t h = found_adds i x t h
+step_at_adds : (c : Core) (i : Instruction) (x : Context) (t : ChainStep) → (chain_step_at c i x).answer ≡ Ok t → Adds x (chain_step_at c i x).reads t
+unfolding chain_step_at
+step_at_adds c Xct x t h = target_adds c x t h
+step_at_adds c i x t h = found_adds i x t h
 
-leads_by : (c : Core) (j : Job) (w used : ℕ) (f : Located) (first more all : List ℕ) (t : Turn) → f.at.e < 2 ^ 18 → used ≤ f.used → f.used ≤ budget
+leads_by : (c : Core) (j : Job) (w used : ℕ) (f : Located) (first more all : List ℕ) (t : ChainStep) → f.at.e < 2 ^ 18 → used ≤ f.used → f.used ≤ budget
     → length first + 2 * used ≤ 2 * f.used + 1 → length all ≡ length first + length more → Adds (context_of j w f.at f.used) more t → Leads j all used t
 unfolding Adds Leads
 leads_by c j w used f first more all (Found r) be mo me fe l a =
@@ -160,19 +160,19 @@ leads_by c j w used f first more all (Target v k) be mo me fe l a =
     let n = a.2 in
     record { most = m; few = omega arith }
 
-turn_leads : (c : Core) (j : Job) (w used : ℕ) (t : Turn) → used ≤ budget → (turn c j w used).answer ≡ Ok t → Leads j (turn c j w used).reads used t
-unfolding turn
-turn_leads c j w used t u h =
-    let at_address = λ (i : Instruction). also (located c w used) (λ f. turn_at c i (context_of j w f.at f.used)) in
+step_leads : (c : Core) (j : Job) (w used : ℕ) (t : ChainStep) → used ≤ budget → (chain_step c j w used).answer ≡ Ok t → Leads j (chain_step c j w used).reads used t
+unfolding chain_step
+step_leads c j w used t u h =
+    let at_address = λ (i : Instruction). also (located c w used) (λ f. chain_step_at c i (context_of j w f.at f.used)) in
     let d = went (plainly (decoded w)) at_address t h in
-    let l = went (located c w used) (λ f. turn_at c d.value (context_of j w f.at f.used)) t d.last in
+    let l = went (located c w used) (λ f. chain_step_at c d.value (context_of j w f.at f.used)) t d.last in
     let f = located_finds c w used l.value u l.first in
-    let more = (turn_at c d.value (context_of j w l.value.at l.value.used)).reads in
+    let more = (chain_step_at c d.value (context_of j w l.value.at l.value.used)).reads in
     leads_by c j w used l.value (located c w used).reads more _ t f.below f.more f.most f.few
     (ap length (d.reads ∙ l.reads) ∙ length-append (located c w used).reads more)
-    (turn_at_adds c d.value (context_of j w l.value.at l.value.used) t l.last)
+    (step_at_adds c d.value (context_of j w l.value.at l.value.used) t l.last)
 
-followed_ends : (j : Job) (used : ℕ) (rest : ℕ → ℕ → Traced Reached) (r : Reached) (first all : List ℕ) (t : Turn)
+followed_ends : (j : Job) (used : ℕ) (rest : ℕ → ℕ → Traced Reached) (r : Reached) (first all : List ℕ) (t : ChainStep)
     → ((v k : ℕ) → k ≤ budget → (rest v k).answer ≡ Ok r → FoundAt j (rest v k).reads k r.context)
     → Leads j first used t → (goes_to rest t).answer ≡ Ok r → length all ≡ length first + length (goes_to rest t).reads → FoundAt j all used r.context
 unfolding Leads
@@ -191,9 +191,9 @@ unfolding chain
 chain_ends zero c j w used r u h = cc
 chain_ends (suc n) c j w used r u h =
     let rest = λ (v k : ℕ). chain n c j v k in
-    let t = went (turn c j w used) (λ t. goes_to rest t) r h in
-    followed_ends j used rest r (turn c j w used).reads _ t.value (λ v k m e. chain_ends n c j v k r m e) (turn_leads c j w used t.value u t.first) t.last
-    (ap length t.reads ∙ length-append (turn c j w used).reads (goes_to rest t.value).reads)
+    let t = went (chain_step c j w used) (λ t. goes_to rest t) r h in
+    followed_ends j used rest r (chain_step c j w used).reads _ t.value (λ v k m e. chain_ends n c j v k r m e) (step_leads c j w used t.value u t.first) t.last
+    (ap length t.reads ∙ length-append (chain_step c j w used).reads (goes_to rest t.value).reads)
 
 -- the instruction word is one more
 pub record EndsUnit (j : Job) (reads : List ℕ) (x : Context) : Type 0 where

@@ -15,7 +15,7 @@ use Rattle.its_frame.specs.declared.name.CallName.TheVariants.{Access, Close, Co
 use Rattle.its_frame.specs.Calls.{sixbit, call_named}
 use Rattle.its_plain.specs.UnitPlan.{read_of}
 use Rattle.its_plain.specs.Traced.{also, located, word}
-use Rattle.its_plain.specs.Unit.{Called, Faulted, chain, decoded, done_by, reached, target_of, turn, turn_at, unit}
+use Rattle.its_plain.specs.Unit.{Called, Faulted, chain, decoded, done_by, reached, target_of, chain_step, chain_step_at, unit}
 use Rattle.its_plain.specs.Decode.{argument, argument_at, argument_words, arguments, ask, ask_of, block_at, error_by, exceeds, held, iot_ask, is_legal, kind_of, parsed, row_named, shaped, storable}
 
 -- words of a page, with some more from an address on
@@ -61,7 +61,7 @@ abbrev siot_site : Site
 siot_site = record { pc = 0o102; e = 0o130; channel = None; used = 0; decode = record { items = 0o102 ∷ [] } }
 
 siot_called : unit siot_core (job_at 0o102) ≡ Called siot_site
-unfolding unit reached also word read_of word_at page_of chain turn decoded instruction_of monitor_opcode located calculation index_places indexed last_used turn_at done_by
+unfolding unit reached also word read_of word_at page_of chain chain_step decoded instruction_of monitor_opcode located calculation index_places indexed last_used chain_step_at done_by
 siot_called = refl
 
 siot_decoded : ask siot_core siot_site ≡ Ok (record {
@@ -95,7 +95,7 @@ iot_site = record {
 }
 
 iot_called : unit (core_of (with_words (with_words [] 0o100 (0o256021000101 ∷ 0o200 ∷ [])) 0o200 (0o040201000000 ∷ []))) (job_at 0o100) ≡ Called iot_site
-unfolding unit reached also word read_of word_at page_of chain turn decoded instruction_of monitor_opcode full_word_opcode branch_opcode located calculation index_places indexed last_used turn_at target_of done_by
+unfolding unit reached also word read_of word_at page_of chain chain_step decoded instruction_of monitor_opcode full_word_opcode branch_opcode located calculation index_places indexed last_used chain_step_at target_of done_by
 iot_called = refl
 
 iot_decoded : (c : Core) → ask c iot_site ≡ Ok (record {
@@ -115,7 +115,7 @@ iot_decoded c = refl
 not_called :
     (unit (core_of (with_words [] 0o100 (0o043040000130 ∷ []))) (job_at 0o100) ≡ Faulted Ilo)
     × (unit (core_of (with_words [] 0o100 (0o043020000101 ∷ 0o000020000101 ∷ []))) (job_at 0o100) ≡ Faulted Ilo)
-unfolding unit reached also word read_of word_at page_of chain turn decoded instruction_of monitor_opcode located calculation index_places indexed last_used turn_at done_by
+unfolding unit reached also word read_of word_at page_of chain chain_step decoded instruction_of monitor_opcode located calculation index_places indexed last_used chain_step_at done_by
 not_called = (refl, refl)
 
 -- the number of the error of a block at 120, its error address and its control; or its fault

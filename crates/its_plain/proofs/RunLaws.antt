@@ -8,13 +8,13 @@ use Rattle.its_word.specs.declared.calls.Pace.TheVariants.{Work}
 use Rattle.its_word.specs.declared.session.Event.{Event}
 use Rattle.its_word.specs.declared.session.Event.TheVariants as events
 use Rattle.its_word.specs.declared.show.Peek.{Peek}
-use Rattle.its_print.specs.Printing.{Line, Refused}
+use Rattle.its_print.specs.Printing.{Line}
 use Rattle.its_print.specs.Printing as printed
 use Rattle.its_plain.specs.OperatorLines.{Lined, Done, Peeks, lined, operate}
 use Rattle.its_plain.specs.Licence.{Licensed, most_dots}
 use Rattle.its_plain.specs.Machine.{Machine}
 use Rattle.its_plain.specs.Operator.{Block, Refuses, Does, Ticks, Quits}
-use Rattle.its_plain.specs.Transcript.{Fate, Ended, Open, Lost, TooLong, Walk, after_letter, walk_after, next_line, Paced, none, letter, Turned, all_made, none_runs, a_turn, Shows, end_line, input_end, too_long, unread_line, refused_line, obeyed_line, tick_line, peek_line}
+use Rattle.its_plain.specs.Transcript.{Fate, Ended, Open, Refused, TooLong, Walk, after_letter, walk_after, next_line, Paced, none, letter, Turned, all_made, none_runs, a_turn, Shows, end_line, input_end, too_long, unread_line, refused_line, obeyed_line, tick_line, peek_line}
 use Rattle.its_plain.specs.Turns.{turn_after, turns_asked, ticks_asked}
 
 -- each letter is licensed in turn, and what follows goes on from there
@@ -33,7 +33,7 @@ TurnsOn (suc n) q v last next lines = TurnBy q v (turn_after v.machine last) (λ
 
 -- a line with this result
 abbrev pub LinedOn : Walk → Lined → (Walk → List Line → Type 0) → List Line → Fate → Type 0
-LinedOn v (Done (Refuses r)) next lines fate = (lines ≡ Refused v.line r ∷ []) × (fate ≡ Lost)
+LinedOn v (Done (Refuses r)) next lines fate = (lines ≡ printed.Refused v.line r ∷ []) × (fate ≡ Refused)
 LinedOn v (Done (Does n out touched b)) next lines fate = (rest : List Line) × (lines ≡ out ++ rest) × next (next_line (walk_after v n touched b)) rest
 LinedOn v (Done (Ticks i k)) next lines fate =
     (ps : List Pace) × (rest : List Line) × (lines ≡ printed.Ticks i ps ∷ rest) × (length ps ≡ k) × PacedOn v i ps (λ w. next (next_line w) rest)
@@ -45,7 +45,7 @@ abbrev pub Run : Walk → ℕ → List Item → List Line → Fate → Type 0
 Run v last [] lines fate = (lines ≡ []) × (fate ≡ Open)
 Run v last (Read e ∷ es) lines fate =
     LinedOn v (lined v.machine v.block e) (λ w rest. TurnsOn (turns_asked e) (ticks_asked e) w last (λ x l more. Run x l es more fate) rest) lines fate
-Run v last (Unread r ∷ es) lines fate = (lines ≡ Refused v.line r ∷ []) × (fate ≡ Lost)
+Run v last (Unread r ∷ es) lines fate = (lines ≡ printed.Refused v.line r ∷ []) × (fate ≡ Refused)
 Run v last (Beyond ∷ es) lines fate = (lines ≡ []) × (fate ≡ TooLong)
 
 -- TICK and PEEK ask for no turns
@@ -97,7 +97,7 @@ shows_run v last (Read e ∷ es) lines fate (end_line is) = lined_run v last e e
 shows_run v last [] lines fate input_end = (refl, refl)
 shows_run v last (Beyond ∷ es) lines fate too_long = (refl, refl)
 shows_run v last (Unread r ∷ es) lines fate unread_line = (refl, refl)
-shows_run v last (Read e ∷ es) lines fate (refused_line {r = r} is) = lined_run v last e es (Refused v.line r ∷ []) Lost (Done (Refuses r)) is (refl, refl)
+shows_run v last (Read e ∷ es) lines fate (refused_line {r = r} is) = lined_run v last e es (printed.Refused v.line r ∷ []) Refused (Done (Refuses r)) is (refl, refl)
 shows_run v last (Read e ∷ es) lines fate (obeyed_line {w = w} {l = l} {n = n} {out = out} {touched = touched} {b = b} {more = more} {rest = rest} is at turns goes) =
     lined_run v last e es lines fate (Done (Does n out touched b)) is
     (more, at, turned_on turns (λ x k ls. Run x k es ls fate) (shows_run w l es rest fate goes))

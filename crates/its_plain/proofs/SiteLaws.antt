@@ -13,11 +13,11 @@ use Rattle.its_word.specs.declared.jobs.Job.{Job}
 use Rattle.its_word.specs.declared.plan.Context.{Context}
 use Rattle.its_word.specs.declared.plan.Plan.{Plan}
 use Rattle.its_word.specs.declared.plan.Reached.{Reached}
-use Rattle.its_word.specs.declared.plan.Turn.{Turn}
-use Rattle.its_word.specs.declared.plan.Turn.TheVariants.{Found, Target}
+use Rattle.its_word.specs.declared.plan.ChainStep.{ChainStep}
+use Rattle.its_word.specs.declared.plan.ChainStep.TheVariants.{Found, Target}
 use Rattle.its_plain.specs.UnitPlan.{Planned}
 use Rattle.its_plain.specs.Traced.{Traced, also, goes_on, located, plainly, word}
-use Rattle.its_plain.specs.Unit.{Called, chain, context_of, decoded, done_by, followed, made, outcome_at, outcome_of, reached, row_of, site_of, target_of, turn, turn_at, unit}
+use Rattle.its_plain.specs.Unit.{Called, chain, context_of, decoded, done_by, followed, made, outcome_at, outcome_of, reached, row_of, site_of, target_of, chain_step, chain_step_at, unit}
 use Rattle.its_plain.proofs.Locality.{Words}
 use Rattle.its_plain.proofs.DecodeLocality.{local_reached}
 
@@ -45,18 +45,18 @@ untested_target c x = elim (cases_Bool (nat_lt x.used budget)) [
   | inr t ↦ rw t refl
 ]
 
-untested_turn_at : (c : Core) (i : Instruction) (x : Context) → (turn_at c i x).tests ≡ []
-unfolding turn_at
-untested_turn_at c Xct x = untested_target c x
-untested_turn_at c i x = refl
+untested_step_at : (c : Core) (i : Instruction) (x : Context) → (chain_step_at c i x).tests ≡ []
+unfolding chain_step_at
+untested_step_at c Xct x = untested_target c x
+untested_step_at c i x = refl
 
-untested_turn : (c : Core) (j : Job) (w used : ℕ) → (turn c j w used).tests ≡ []
-unfolding turn
-untested_turn c j w used =
+untested_step : (c : Core) (j : Job) (w used : ℕ) → (chain_step c j w used).tests ≡ []
+unfolding chain_step
+untested_step c j w used =
     untested_also (plainly (decoded w)) _ refl
-    (λ i. untested_also (located c w used) _ (untested_located c w used) (λ f. untested_turn_at c i (context_of j w f.at f.used)))
+    (λ i. untested_also (located c w used) _ (untested_located c w used) (λ f. untested_step_at c i (context_of j w f.at f.used)))
 
-untested_followed : (rest : ℕ → ℕ → Traced Reached) → ((v k : ℕ) → (rest v k).tests ≡ []) → (t : Turn) → (followed rest t).tests ≡ []
+untested_followed : (rest : ℕ → ℕ → Traced Reached) → ((v k : ℕ) → (rest v k).tests ≡ []) → (t : ChainStep) → (followed rest t).tests ≡ []
 untested_followed rest h (Found r) = refl
 untested_followed rest h (Target w used) = h w used
 
@@ -64,7 +64,7 @@ untested_chain : (n : ℕ) (c : Core) (j : Job) (w used : ℕ) → (chain n c j 
 unfolding chain
 untested_chain zero c j w used = refl
 untested_chain (suc n) c j w used =
-    untested_also (turn c j w used) _ (untested_turn c j w used) (λ t. untested_followed (λ v k. chain n c j v k) (λ v k. untested_chain n c j v k) t)
+    untested_also (chain_step c j w used) _ (untested_step c j w used) (λ t. untested_followed (λ v k. chain n c j v k) (λ v k. untested_chain n c j v k) t)
 
 untested_reached : (c : Core) (j : Job) → (reached c j).tests ≡ []
 unfolding reached

@@ -8,7 +8,7 @@ use Rattle.its_word.specs.declared.calls.Pace.TheVariants.{Work}
 use Rattle.its_word.specs.declared.session.Event.{Event}
 use Rattle.its_word.specs.declared.session.Reason.{Reason}
 use Rattle.its_word.specs.declared.show.Peek.{Peek}
-use Rattle.its_print.specs.Printing.{Line, Refused}
+use Rattle.its_print.specs.Printing.{Line}
 use Rattle.its_print.specs.Printing as printed
 use Rattle.its_plain.specs.OperatorLines.{Lined, Done, Peeks, lined}
 use Rattle.its_plain.specs.Licence.{Licensed, Dots, most_dots, dots_after, dots_after_line}
@@ -21,7 +21,7 @@ use Rattle.its_plain.specs.Turns.{turn_after, highest, turns_asked, ticks_asked}
 pub data Fate : Type 0 where
   Ended : Fate
   Open : Fate
-  Lost : Fate
+  Refused : Fate
   TooLong : Fate
 
 -- the state of a session between two lines: its machine, the dots of each slot, the open block, and the number of the
@@ -87,11 +87,11 @@ pub data Shows : Walk → ℕ → List Item → List Line → Fate → Type 0 wh
   too_long : {v : Walk} {last : ℕ} {es : List Item} → Shows v last (Beyond ∷ es) [] TooLong
   -- a line that is none of the session's grammar
   unread_line : {v : Walk} {last : ℕ} {r : Reason} {es : List Item}
-      → Shows v last (Unread r ∷ es) (Refused v.line r ∷ []) Lost
+      → Shows v last (Unread r ∷ es) (printed.Refused v.line r ∷ []) Refused
   -- a line that the machine refuses
   refused_line : {v : Walk} {last : ℕ} {e : Event} {r : Reason} {es : List Item}
       → Comes v e (Done (Refuses r))
-      → Shows v last (Read e ∷ es) (Refused v.line r ∷ []) Lost
+      → Shows v last (Read e ∷ es) (printed.Refused v.line r ∷ []) Refused
   -- any other line: what it shows comes first, then the turns that it asks for, which RUN alone does
   obeyed_line : {v w : Walk} {last l : ℕ} {e : Event} {n : Machine} {out : List Line} {touched : ℕ → Bool} {b : Block}
       {es : List Item} {lines more rest : List Line} {fate : Fate}

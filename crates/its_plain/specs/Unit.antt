@@ -17,8 +17,8 @@ use Rattle.its_word.specs.declared.instruction.Instruction.TheVariants.{Move, Ex
 use Rattle.its_word.specs.declared.plan.Context.{Context}
 use Rattle.its_word.specs.declared.plan.Plan.{Plan}
 use Rattle.its_word.specs.declared.plan.Reached.{Reached}
-use Rattle.its_word.specs.declared.plan.Turn.{Turn}
-use Rattle.its_word.specs.declared.plan.Turn.TheVariants.{Found, Target}
+use Rattle.its_word.specs.declared.plan.ChainStep.{ChainStep}
+use Rattle.its_word.specs.declared.plan.ChainStep.TheVariants.{Found, Target}
 use Rattle.its_plain.specs.Job.{BRK, named_flags, with_pending}
 use Rattle.its_plain.specs.UnitPlan.{Planned, next}
 use Rattle.its_plain.specs.Traced.{Traced, plainly, gives, faults, also, word, located}
@@ -59,27 +59,27 @@ context_of j w e used = record {
 }
 
 -- the target of an XCT, which counts against the budget; if nothing is left of the budget, that is ILO
-unfoldable pub target_of : Core → Context → Traced Turn
+unfoldable pub target_of : Core → Context → Traced ChainStep
 target_of c x = if nat_lt x.used budget then also (word c x.e) (λ w. gives (Target w (x.used + 1))) else faults Ilo
 
 -- 256 XCT goes on with the word at E; A is not used. Any other instruction is found
-unfoldable pub turn_at : Core → Instruction → Context → Traced Turn
-turn_at c Xct x = target_of c x
-turn_at c i x = gives (Found (record { instruction = i; context = x }))
+unfoldable pub chain_step_at : Core → Instruction → Context → Traced ChainStep
+chain_step_at c Xct x = target_of c x
+chain_step_at c i x = gives (Found (record { instruction = i; context = x }))
 
 -- an instruction word that is reached with so much of the budget used
-unfoldable pub turn : Core → Job → ℕ → ℕ → Traced Turn
-turn c j w used =
-    also (plainly (decoded w)) (λ i. also (located c w used) (λ f. turn_at c i (context_of j w f.at f.used)))
+unfoldable pub chain_step : Core → Job → ℕ → ℕ → Traced ChainStep
+chain_step c j w used =
+    also (plainly (decoded w)) (λ i. also (located c w used) (λ f. chain_step_at c i (context_of j w f.at f.used)))
 
-abbrev pub followed : (ℕ → ℕ → Traced Reached) → Turn → Traced Reached
+abbrev pub followed : (ℕ → ℕ → Traced Reached) → ChainStep → Traced Reached
 followed rest (Found r) = gives r
 followed rest (Target w used) = rest w used
 
 -- the instruction of a word, or at the end of its chain of fewer than n XCTs. PC is that of the first
 unfoldable pub chain : ℕ → Core → Job → ℕ → ℕ → Traced Reached
 chain zero c j w used = faults Ilo
-chain (suc n) c j w used = also (turn c j w used) (λ t. followed (λ v k. chain n c j v k) t)
+chain (suc n) c j w used = also (chain_step c j w used) (λ t. followed (λ v k. chain n c j v k) t)
 
 -- the instruction of a job, which is fetched at its PC
 unfoldable pub reached : Core → Job → Traced Reached

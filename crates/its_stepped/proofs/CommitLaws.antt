@@ -24,7 +24,7 @@ use Rattle.its_plain.specs.Decide.{call_named}
 use Rattle.its_plain.specs.CallStep.{deposited, with_held, moved, ended, acted, Transition}
 use Rattle.its_plain.specs.Footprint.{in_footprint}
 use Rattle.its_word.specs.Stores.{stored}
-use Rattle.its_stepped.specs.State.{Part, UnlinkOld, LinkNew, FreeOld, Mark, State, plain, seen, owed_made, turn, same, waiting, ending}
+use Rattle.its_stepped.specs.State.{Part, UnlinkOld, LinkNew, FreeOld, Mark, State, plain, seen, owed_made, with_slot, same, waiting, ending}
 use Rattle.its_stepped.specs.Commit.{effects_on, sleeps, stays, gone_on, owed_part, owed_parts, given_up, owed_store, owed_by, committed}
 use Rattle.its_stepped.specs.Tick.{reserves}
 use Rattle.its_stepped.specs.Sound.{Debts, parts_in_frame}
@@ -46,7 +46,7 @@ pub record Here (v : State) (j : ℕ) (q : Whole) (a : Ask) (n : ℕ) : Type 0 w
   pub page : reserves a ≡ is_some (v.reserved j)
 
 pub waits_plain : (w : State) (j : ℕ) (s : Site) (a : Ask) (n : ℕ) → ((p : Whole) → seen (w.frames j) p ≡ with_stores (debts a n) p)
-    → plain (turn w j same (Some (waiting s a n))) ≡ plain w
+    → plain (with_slot w j same (Some (waiting s a n))) ≡ plain w
 unfolding seen
 waits_plain w j s a n is = turned w j same same (Some (waiting s a n)) (λ p e. sym (is p)) ∙ same_job (plain w) j
 
@@ -88,7 +88,7 @@ goes_seen c s a n olds (Some b) p h f =
 
 pub goes_plain : (v : State) (j : ℕ) (own : Whole) (s : Site) (a : Ask) (n : ℕ) (cs : List Change) (b : Option Held) (vs : List ℕ)
     → ((p : Whole) → seen (v.frames j) p ≡ with_stores (debts a n) p) → Going v j own s a n cs b vs
-    → plain (turn (effects_on cs j v) j same (Some (gone_on s (revalued a vs) (length vs) b))) ≡ in_job (effects cs j (plain v)) j (moved a b vs)
+    → plain (with_slot (effects_on cs j v) j same (Some (gone_on s (revalued a vs) (length vs) b))) ≡ in_job (effects cs j (plain v)) j (moved a b vs)
 goes_plain v j own s a n cs b vs is g =
     let frames = frames_kept cs j v (all_remain cs j v g.spare) in
     turned (effects_on cs j v) j same (moved a b vs) (Some (gone_on s (revalued a vs) (length vs) b))
@@ -133,7 +133,7 @@ ending_remains v j own n cs ss h = elim h.stores [ inl x ↦ all_remain cs j v x
 
 pub ends_plain : (v : State) (j : ℕ) (own : Whole) (s : Site) (a : Ask) (n : ℕ) (cs : List Change) (ss : List Store) (e : Exit)
     → ((p : Whole) → seen (v.frames j) p ≡ with_stores (debts a n) p) → Ending_by v j own n cs ss
-    → plain (turn (effects_on cs j v) j same (Some (ending s a (owed_by (effects_on cs j v) j (debts a n ++ ss) e))))
+    → plain (with_slot (effects_on cs j v) j same (Some (ending s a (owed_by (effects_on cs j v) j (debts a n ++ ss) e))))
     ≡ in_job (effects cs j (plain v)) j (ended ss (leave e))
 ends_plain v j own s a n cs ss e is h =
     let frames = frames_kept cs j v (ending_remains v j own n cs ss h) in

@@ -27,7 +27,7 @@ use Rattle.its_plain.specs.Arguments.{input, in_footprint, debts, revalued}
 use Rattle.its_plain.specs.Decide.{call_named}
 use Rattle.its_plain.specs.CallStep.{deposited, with_held}
 use Rattle.its_word.specs.Stores.{stored}
-use Rattle.its_stepped.specs.State.{State, seen, turn, same, waiting, ending}
+use Rattle.its_stepped.specs.State.{State, seen, with_slot, same, waiting, ending}
 use Rattle.its_stepped.specs.Commit.{effect_on, effects_on, sleeps, stays, gone_on, owed_parts, owed_by, committed}
 use Rattle.its_stepped.specs.Tick.{reserves}
 use Rattle.its_stepped.specs.Sound.{Stuck, Stands, Stored, Debts, IsWaitable, Transfers, WaitingPays, SoundFrame, SoundBy, SoundSlot, MarkBy, Sound}
@@ -56,9 +56,9 @@ user_sound o f r a b = slot_sound o o None f None r refl a b (record { by = go o
     go (Some q) = refl
 
 -- one slot turned
-pub turn_sound : (v : State) (j : ℕ) (h : Whole → Whole) (f : Option Frame) → ((k : ℕ) → k ≢ j → SoundSlot (v.raw.jobs k) (v.frames k) (v.reserved k))
-    → SoundSlot (option_map h (v.raw.jobs j)) f (v.reserved j) → IfSome v.mark (λ m. MarkBy m (changed v.frames j f)) → Sound (turn v j h f)
-turn_sound v j h f others here mark = record {
+pub with_slot_sound : (v : State) (j : ℕ) (h : Whole → Whole) (f : Option Frame) → ((k : ℕ) → k ≢ j → SoundSlot (v.raw.jobs k) (v.frames k) (v.reserved k))
+    → SoundSlot (option_map h (v.raw.jobs j)) f (v.reserved j) → IfSome v.mark (λ m. MarkBy m (changed v.frames j f)) → Sound (with_slot v j h f)
+with_slot_sound v j h f others here mark = record {
   each = λ k. elim (cases_eq k j) [
     | inl e ↦ subst (λ (i : ℕ). SoundSlot (on_slot v.raw.jobs j h i) (changed v.frames j f i) (v.reserved i)) (sym e)
         (slot_sound (option_map h (v.raw.jobs j)) _ f _ (v.reserved j) _ (on_slot_here v.raw.jobs j h) (changed_only v.frames j f).here refl here)
@@ -79,9 +79,9 @@ unfolding seen
 waiting_frame q s a n r runs quiet stands pays stuck = record { runs = runs; quiet = quiet; standing = stands; pays = pays; stuck = stuck }
 
 pub waits_sound : (w : State) (j : ℕ) (q : Whole) (s : Site) (a : Ask) (n : ℕ) → Sound w → Here w j q a n → Stands (stored q.core (debts a n)) q.job s a → Waiting_by w j a
-    → Stuck (with_stores (debts a n) q) a → Sound (turn w j same (Some (waiting s a n)))
+    → Stuck (with_stores (debts a n) q) a → Sound (with_slot w j same (Some (waiting s a n)))
 waits_sound w j q s a n sound h stands d stuck =
-    turn_sound w j same (Some (waiting s a n)) (λ k ne. sound.each k)
+    with_slot_sound w j same (Some (waiting s a n)) (λ k ne. sound.each k)
     (slot_sound (Some q) _ (Some (waiting s a n)) _ (w.reserved j) _ (ap (option_map same) h.job_is) refl refl
     (record { by = waiting_frame q s a n (w.reserved j) h.runs h.quiet stands (record { debts = h.debts; page_is = d.page; waitable = d.waitable }) stuck }))
     (mark_gone_on j w.frames (Some (waiting s a n)) w.mark (marking_begins j w.mark w.frames sound.mark h.parts))
@@ -153,14 +153,14 @@ ending_frame w j p s a ss e runs quiet stores few = record {
 
 pub ends_sound : (v : State) (j : ℕ) (q : Whole) (s : Site) (a : Ask) (n : ℕ) (cs : List Change) (ss : List Store) (e : Exit) → Sound v → Here v j q a n
     → Ending_by v j (with_stores (debts a n) q) n cs ss
-    → Sound (turn (effects_on cs j v) j same (Some (ending s a (owed_by (effects_on cs j v) j (debts a n ++ ss) e))))
+    → Sound (with_slot (effects_on cs j v) j same (Some (ending s a (owed_by (effects_on cs j v) j (debts a n ++ ss) e))))
 ends_sound v j q s a n cs ss e sound h d =
     let w = effects_on cs j v in
     let marks : Marking j w.mark w.frames (parts_in cs + 0) = marking_all cs j v 0 d.quiet (marking_begins j v.mark v.frames sound.mark h.parts) in
     let caller = caller_ends v j q a n cs ss h d in
     let few : length (owed_by w j (debts a n ++ ss) e) ≤ 4 =
     ending_few v w j (parts_in cs + 0) (debts a n) ss e marks.few (reserved_less cs j v j) (let f = d.few in let r = h.debts.read in omega arith) in
-    turn_sound w j same (Some (ending s a (owed_by w j (debts a n ++ ss) e)))
+    with_slot_sound w j same (Some (ending s a (owed_by w j (debts a n ++ ss) e)))
     (others_sound cs j v d.quiet (λ k ne. sound.each k))
     (slot_sound (Some caller.whole) _ (Some (ending s a (owed_by w j (debts a n ++ ss) e))) _ (w.reserved j) _ (ap (option_map same) caller.is) refl refl
     (record {
@@ -273,7 +273,7 @@ stands_from f c d k i s a e t h = subst (λ (x : Core). Stands (f x) k s a) (sym
 
 pub goes_sound : (v : State) (j : ℕ) (q : Whole) (s : Site) (a : Ask) (n : ℕ) (cs : List Change) (b : Option Held) (vs : List ℕ) → Sound v → Here v j q a n
     → Going v j (with_stores (debts a n) q) s a n cs b vs → a.fail ≡ 0
-    → Sound (turn (effects_on cs j v) j same (Some (gone_on s (revalued a vs) (length vs) b)))
+    → Sound (with_slot (effects_on cs j v) j same (Some (gone_on s (revalued a vs) (length vs) b)))
 goes_sound v j q s a n cs b vs sound h d fine =
     let w = effects_on cs j v in
     let k = revalued a vs in
@@ -284,7 +284,7 @@ goes_sound v j q s a n cs b vs sound h d fine =
     let x = spared cs j v q d.spare h.job_is in
     let core : x.whole.core ≡ q.core = ap (λ (p : Core × Job). p.0) x.same in
     let job : x.whole.job ≡ q.job = ap (λ (p : Core × Job). p.1) x.same in
-    turn_sound w j same (Some (gone_on s k m b))
+    with_slot_sound w j same (Some (gone_on s k m b))
     (others_sound cs j v d.quiet (λ i ne. sound.each i))
     (slot_sound (Some x.whole) _ (Some (gone_on s k m b)) _ (w.reserved j) _ (ap (option_map same) x.is) refl refl
     (record {

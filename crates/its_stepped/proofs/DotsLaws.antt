@@ -24,7 +24,7 @@ use Rattle.its_plain.specs.Machine.{Whole, Machine, changed}
 use Rattle.its_plain.specs.Own.{with_stores}
 use Rattle.its_plain.specs.Licence.{Dots, most_dots, dots_after}
 use Rattle.its_plain.specs.Unit.{Outcome, Changed, Faulted, Called, unit}
-use Rattle.its_stepped.specs.State.{Part, Mark, mine, State, plain, seen, turn, same, reserving, entered, parsed, asked, holding, ending}
+use Rattle.its_stepped.specs.State.{Part, Mark, mine, State, plain, seen, with_slot, same, reserving, entered, parsed, asked, holding, ending}
 use Rattle.its_stepped.specs.Unwind.{with_part, due, settled, unwind_by, unwind_one, all_unwound}
 use Rattle.its_stepped.specs.Commit.{effects_on, committed}
 use Rattle.its_stepped.specs.Tick.{Ticked, off, works, helps, user_on, unit_on, parsed_on, fetched_on, prepared_on, reserves, prepared_for, tried, tried_by, quarters, held_on, tick_in, tick_unless, tick_of, tick}
@@ -75,8 +75,8 @@ pub record RowDots (w : State) (j : ℕ) (t : Ticked) : Type 0 where
   pub others : (k : ℕ) → k ≢ j → Spared (plain w) j t.pace k → t.state.frames k ≡ w.frames k
 
 -- a turn of the own slot
-turn_works : (w v : State) (j : ℕ) (f g : Option Frame) → v.frames ≡ changed w.frames j g → w.frames j ≡ f → bound f + 1 ≤ bound g → RowDots w j (works v)
-turn_works w v j f g e is h = record {
+slot_works : (w v : State) (j : ℕ) (f g : Option Frame) → v.frames ≡ changed w.frames j g → w.frames j ≡ f → bound f + 1 ≤ bound g → RowDots w j (works v)
+slot_works w v j f g e is h = record {
   own =
       let new : v.frames j ≡ g = ap (λ (fs : ℕ → Option Frame). fs j) e ∙ (changed_only w.frames j g).here in
       let b : bound (v.frames j) ≡ bound g = ap bound new in
@@ -85,9 +85,9 @@ turn_works w v j f g e is h = record {
   others = λ k ne t. ap (λ (fs : ℕ → Option Frame). fs k) e ∙ (changed_only w.frames j g).others k ne;
 }
 
-turn_steps : (w v : State) (j : ℕ) (g : Option Frame) → ((k : ℕ) → k ≢ j → disturbed (plain w) j k ≡ false → v.frames k ≡ w.frames k)
+slot_steps : (w v : State) (j : ℕ) (g : Option Frame) → ((k : ℕ) → k ≢ j → disturbed (plain w) j k ≡ false → v.frames k ≡ w.frames k)
     → RowDots w j (record { state = v; pace = Step })
-turn_steps w v j g h = record { own = tt; others = h }
+slot_steps w v j g h = record { own = tt; others = h }
 
 -- whom a step disturbs
 pub disturbs_by : (m : Machine) (j k : ℕ) (o : Option Transition) → transition m j ≡ o → disturbed m j k ≡ among k (disturbs_in o)
@@ -101,9 +101,9 @@ acted_disturbs m j a ks _ t = refl
 
 -- user mode
 unit_dots : (w : State) (j : ℕ) (o : Outcome) → w.frames j ≡ None → RowDots w j (unit_on w j o)
-unit_dots w j (Changed c k) none = turn_steps w _ j None (λ i ne t. (changed_only w.frames j None).others i ne)
-unit_dots w j (Faulted f) none = turn_steps w _ j None (λ i ne t. (changed_only w.frames j None).others i ne)
-unit_dots w j (Called s) none = turn_works w _ j None (Some (entered s)) refl none (omega arith)
+unit_dots w j (Changed c k) none = slot_steps w _ j None (λ i ne t. (changed_only w.frames j None).others i ne)
+unit_dots w j (Faulted f) none = slot_steps w _ j None (λ i ne t. (changed_only w.frames j None).others i ne)
+unit_dots w j (Called s) none = slot_works w _ j None (Some (entered s)) refl none (omega arith)
 
 user_dots : (w : State) (j : ℕ) (q : Whole) (b : Bool) → Sound w → w.raw.jobs j ≡ Some q → q.job.stopped ≡ false → w.frames j ≡ None → deliverable q.job ≡ b
     → RowDots w j (user_on w j q b)
@@ -113,7 +113,7 @@ user_dots w j q true sound is runs none d =
     let ks = informed_slots n.stops q.superior in
     let cs = informs n.stops q.superior in
     let v = all_unwound ks w in
-    turn_steps w _ j None (λ k ne t.
+    slot_steps w _ j None (λ k ne t.
     (changed_only (effects_on cs j v).frames j None).others k ne
     ∙ (effects_others cs j v k (told_quiet w j n.stops q.superior sound) ne).frame
     ∙ (all_unwound_others ks w k
@@ -121,16 +121,16 @@ user_dots w j q true sound is runs none d =
 
 -- the decoding
 parsed_dots : (w : State) (j : ℕ) (s : Site) (f : Option Frame) (r : Result (List ℕ) Fault) → w.frames j ≡ f → bound f ≡ 5 → RowDots w j (parsed_on w j s r)
-parsed_dots w j s f (Ok b) is e = turn_works w _ j f (Some (parsed s b)) refl is (omega arith)
-parsed_dots w j s f (Err x) is e = turn_steps w _ j None (λ i ne t. (changed_only w.frames j None).others i ne)
+parsed_dots w j s f (Ok b) is e = slot_works w _ j f (Some (parsed s b)) refl is (omega arith)
+parsed_dots w j s f (Err x) is e = slot_steps w _ j None (λ i ne t. (changed_only w.frames j None).others i ne)
 
 fetched_dots : (w : State) (j : ℕ) (s : Site) (f : Option Frame) (r : Result Ask Fault) → w.frames j ≡ f → bound f ≡ 6 → RowDots w j (fetched_on w j s r)
-fetched_dots w j s f (Ok a) is e = turn_works w _ j f (Some (asked s a)) refl is (omega arith)
-fetched_dots w j s f (Err x) is e = turn_steps w _ j None (λ i ne t. (changed_only w.frames j None).others i ne)
+fetched_dots w j s f (Ok a) is e = slot_works w _ j f (Some (asked s a)) refl is (omega arith)
+fetched_dots w j s f (Err x) is e = slot_steps w _ j None (λ i ne t. (changed_only w.frames j None).others i ne)
 
 prepared_dots : (w : State) (j : ℕ) (s : Site) (a : Ask) (f : Option Frame) (b : Bool) → w.frames j ≡ f → bound f ≡ 7 → RowDots w j (works (prepared_on w j s a b))
-prepared_dots w j s a f true is e = turn_works w _ j f (Some (holding s a (Some 0) 0)) refl is (omega arith)
-prepared_dots w j s a f false is e = turn_works w _ j f (Some (holding s a None 0)) refl is (omega arith)
+prepared_dots w j s a f true is e = slot_works w _ j f (Some (holding s a (Some 0) 0)) refl is (omega arith)
+prepared_dots w j s a f false is e = slot_works w _ j f (Some (holding s a None 0)) refl is (omega arith)
 
 -- a call that is tried
 found_others : (w : State) (j k : ℕ) (own : Whole) (a : Ask) → among k (reach (plain w) j own a) ≡ false → (prepared_for w j own a).frames k ≡ w.frames k
@@ -153,11 +153,11 @@ decided_dots w v j own s a n (Waits r) duty h few = record {
   others = λ k ne t. (changed_only w.frames j _).others k ne;
 }
 decided_dots w v j own s a n (Goes cs b vs) duty h few =
-    turn_steps w _ j None (λ k ne t. (changed_only (effects_on cs.items j v).frames j _).others k ne ∙ (effects_others cs.items j v k duty.quiet ne).frame ∙ h tt k ne t)
+    slot_steps w _ j None (λ k ne t. (changed_only (effects_on cs.items j v).frames j _).others k ne ∙ (effects_others cs.items j v k duty.quiet ne).frame ∙ h tt k ne t)
 decided_dots w v j own s a n (Ends cs ss e) duty h few =
-    turn_steps w _ j None (λ k ne t. (changed_only (effects_on cs.items j v).frames j _).others k ne ∙ (effects_others cs.items j v k duty.quiet ne).frame ∙ h tt k ne t)
+    slot_steps w _ j None (λ k ne t. (changed_only (effects_on cs.items j v).frames j _).others k ne ∙ (effects_others cs.items j v k duty.quiet ne).frame ∙ h tt k ne t)
 decided_dots w v j own s a n (Gone cs) duty h few =
-    turn_steps w _ j None (λ k ne t. (effects_others (changes.Remove j ∷ cs.items) j v k duty.quiet ne).frame ∙ h tt k ne t)
+    slot_steps w _ j None (λ k ne t. (effects_others (changes.Remove j ∷ cs.items) j v k duty.quiet ne).frame ∙ h tt k ne t)
 
 tried_dots : (w : State) (j : ℕ) (q : Whole) (s : Site) (a : Ask) (n : ℕ) → Trying w j q s a n → Meets w j (with_stores (debts a n) q) s a n → bound (w.frames j) ≤ 12
     → RowDots w j (tried_by w j (with_stores (debts a n) q) s a n)
@@ -173,8 +173,8 @@ held_dots w j q s a None n t m is few = tried_dots w j q s a n t (m tt) few
 held_dots w j q s a (Some p) n t m is few = go (nat_lt p quarters) m
   where
     go : (b : Bool) → (b ≡ false → Meets w j (with_stores (debts a n) q) s a n)
-        → RowDots w j (if b then works (reserving (turn w j same (Some (holding s a (Some (p + 1)) n))) j (Some (p + 1))) else tried_by w j (with_stores (debts a n) q) s a n)
-    go true m = turn_works w _ j (Some (holding s a (Some p) n)) (Some (holding s a (Some (p + 1)) n)) refl is (omega arith)
+        → RowDots w j (if b then works (reserving (with_slot w j same (Some (holding s a (Some (p + 1)) n))) j (Some (p + 1))) else tried_by w j (with_stores (debts a n) q) s a n)
+    go true m = slot_works w _ j (Some (holding s a (Some p) n)) (Some (holding s a (Some (p + 1)) n)) refl is (omega arith)
     go false m = tried_dots w j q s a n t (m refl) few
 
 -- unwinding: a call that has ended has fewer pending steps
@@ -226,11 +226,11 @@ frame_dots w j q (Asked f) sound is fr h g few = prepared_dots w j f.site f.ask 
 frame_dots w j q (Holding f) sound is fr h g few = held_dots w j q f.site f.ask f.page f.owes (trying_holding w j q f is fr h) g fr few
 frame_dots w j q (Waiting f) sound is fr h g few = tried_dots w j q f.site f.ask f.owes (trying_waiting w j q f is fr h) g few
 frame_dots w j q (Moving f) sound is fr h g few =
-    turn_works w (unwind_one w j) j (Some (Moving f)) (Some (holding f.site f.ask None 2)) (ap (λ (o : Option Frame). (unwind_by w j o).frames) fr) fr (omega arith)
+    slot_works w (unwind_one w j) j (Some (Moving f)) (Some (holding f.site f.ask None 2)) (ap (λ (o : Option Frame). (unwind_by w j o).frames) fr) fr (omega arith)
 frame_dots w j q (Ending f) sound is fr h g few =
     let some = owes_some q.core f.owed.items h.pays.owes in
     let s = settled_frames w j f.site f.ask (due (mine w.mark j) f.owed.items) (length f.owed.items) (due_few (mine w.mark j) f.owed.items) some h.pays.few in
-    turn_works w (unwind_one w j) j (Some (Ending f)) s.frame (ap (λ (o : Option Frame). (unwind_by w j o).frames) fr ∙ s.is) fr s.more
+    slot_works w (unwind_one w j) j (Some (Ending f)) s.frame (ap (λ (o : Option Frame). (unwind_by w j o).frames) fr ∙ s.is) fr s.more
 
 -- a bound is at most twelve
 bound_frame : (q : Whole) (f : Frame) (r : Option ℕ) → SoundFrame q f r → bound (Some f) ≤ 12

@@ -16,13 +16,13 @@ use Rattle.its_plain.specs.Machine.{File, Whole, changed}
 use Rattle.its_plain.specs.Own.{with_stores, leave}
 use Rattle.its_plain.specs.Change.{poke}
 use Rattle.its_word.specs.Stores.{place}
-use Rattle.its_stepped.specs.State.{Part, UnlinkOld, LinkNew, FreeOld, Mark, State, part_made, helped, mine, owed_made, seen, turn, same, ending}
+use Rattle.its_stepped.specs.State.{Part, UnlinkOld, LinkNew, FreeOld, Mark, State, part_made, helped, mine, owed_made, seen, with_slot, same, ending}
 use Rattle.its_stepped.specs.Unwind.{rest_marked, with_part, due, settled}
 use Rattle.its_stepped.specs.Sound.{Owes, backs, SoundFrame, MarkBy, file_parts, FilesFirst, parts_in_frame}
 use Rattle.its_stepped.specs.OneChange.{OneWord, OnePart, Registers}
 use Rattle.its_stepped.proofs.FrameLaws.{stored_one, changed_only}
 use Rattle.its_stepped.proofs.OwedLaws.{none_first}
-use Rattle.its_stepped.proofs.RowLaws.{Rowed, job_only, same_job, turn_row, page_row}
+use Rattle.its_stepped.proofs.RowLaws.{Rowed, job_only, same_job, slot_row, page_row}
 use Rattle.its_stepped.proofs.UnwindRows.{At}
 
 left_more : (b : Bool) (o : Owed) (os : List Owed) → count_by (is_made_by b) (o ∷ os) ≡ cond (is_made_by b o) 1 0 + count_by (is_made_by b) os
@@ -135,13 +135,13 @@ left_rest owner j draft p (x ∷ xs) os own e = ap (λ b. count_by (is_made_by b
 part_row : (w : State) (j : ℕ) (q : Whole) (s : Site) (a : Ask) (os ys : List Owed) (owner : ℕ) (draft : File) (p : Part) (ps : List Part)
     → w.mark ≡ Some (record { owner = owner; draft = draft; parts = p ∷ ps }) → (owner == j) ≡ true → file_parts ys ≡ ps → At w j q (ending s a os)
     → owed_made os q ≡ owed_made ys q → SoundFrame q (ending s a ys) (w.reserved j) → 1 + count_by (is_made_by true) ys ≡ count_by (is_made_by true) os
-    → Rowed w (with_part w.mark (turn w j same (Some (ending s a ys)))) j
+    → Rowed w (with_part w.mark (with_slot w j same (Some (ending s a ys)))) j
 unfolding seen
 part_row w j q s a os ys owner draft p ps mark own files at made fits count =
     let m : Mark = record { owner = owner; draft = draft; parts = p ∷ ps } in
     let f = Some (ending s a ys) in
     let o = changed_only w.frames j f in
-    let r : Rowed w (with_part (Some m) (turn w j same f)) j = record {
+    let r : Rowed w (with_part (Some m) (with_slot w j same f)) j = record {
       job = q;
       frame = f;
       page = w.reserved j;
@@ -161,14 +161,14 @@ part_row w j q s a os ys owner draft p ps mark own files at made fits count =
       fits = fits;
       mark = mark_rest owner draft p ps (changed w.frames j f) (ap (λ k. parts_in_frame (changed w.frames j f k)) (eqb-true owner j own) ∙ ap parts_in_frame o.here ∙ files);
       fewer = rw (mark, own, at.frame) (let l = left_rest owner j draft p ps ys own files in omega arith);
-      one = OnePart m p ps mark refl (λ t. record (with_part (Some m) (turn w j same f)) { raw = record (same_job w.raw j t) { files = part_made draft p w.raw.files } });
+      one = OnePart m p ps mark refl (λ t. record (with_part (Some m) (with_slot w j same f)) { raw = record (same_job w.raw j t) { files = part_made draft p w.raw.files } });
     } in
-    subst (λ o. Rowed w (with_part o (turn w j same f)) j) (sym mark) r
+    subst (λ o. Rowed w (with_part o (with_slot w j same f)) j) (sym mark) r
 
 marked_row : (w : State) (j : ℕ) (q : Whole) (s : Site) (a : Ask) (os ys : List Owed) (p : Part) (o : Option Mark)
     → w.mark ≡ o → mine o j ≡ true → IfSome o (λ m. MarkBy m w.frames) → p ∷ file_parts ys ≡ file_parts os → At w j q (ending s a os)
     → owed_made os q ≡ owed_made ys q → SoundFrame q (ending s a ys) (w.reserved j) → 1 + count_by (is_made_by true) ys ≡ count_by (is_made_by true) os
-    → Rowed w (with_part w.mark (turn w j same (Some (ending s a ys)))) j
+    → Rowed w (with_part w.mark (with_slot w j same (Some (ending s a ys)))) j
 marked_row w j q s a os ys p None mark own h files at made fits count = cc
 marked_row w j q s a os ys p (Some m) mark own h files at made fits count =
     let parts : m.parts ≡ p ∷ file_parts ys =
@@ -178,7 +178,7 @@ marked_row w j q s a os ys p (Some m) mark own h files at made fits count =
 file_row : (w : State) (j : ℕ) (q : Whole) (s : Site) (a : Ask) (os ys : List Owed) (o : Owed) (p : Part) → mine w.mark j ≡ true → At w j q (ending s a os)
     → p ∷ file_parts ys ≡ file_parts os → Owes q.core ys → suc (length ys) ≤ length os → backs ys ≡ backs os → owed_made ys q ≡ owed_made os q
     → count_by (is_made_by (mine w.mark j)) (o ∷ ys) ≡ count_by (is_made_by (mine w.mark j)) os → FilesFirst ys
-    → Rowed w (with_part w.mark (turn w j same (Some (ending s a ys)))) j
+    → Rowed w (with_part w.mark (with_slot w j same (Some (ending s a ys)))) j
 file_row w j q s a os ys o p own at files owes few back made count first =
     let same_count : count_by (is_made_by true) (o ∷ ys) ≡ count_by (is_made_by true) os = subst (λ b. count_by (is_made_by b) (o ∷ ys) ≡ count_by (is_made_by b) os) own count in
     marked_row w j q s a os ys p w.mark refl own at.mark files at (sym made)
@@ -189,7 +189,7 @@ settled_row : (w : State) (j : ℕ) (q : Whole) (s : Site) (a : Ask) (os xs : Li
 unfolding seen
 settled_row w j q s a os [] at d = absurd d.owes
 settled_row w j q s a os (Store p v ∷ ys) at d =
-    turn_row w j q (with_stores (poke p v ∷ [])) (Some (ending s a ys)) at.job (rw at.frame (sym (d.made q)))
+    slot_row w j q (with_stores (poke p v ∷ [])) (Some (ending s a ys)) at.job (rw at.frame (sym (d.made q)))
     (ending_sound (with_stores (poke p v ∷ []) q) q s a os ys (w.reserved j) (w.reserved j) at.sound refl
     (rw (stored_one q.core (poke p v)) (owes_behind q.core (place (poke p v)) v ys d.owes.1)) (let few = d.few in omega arith) (d.backs ∙ at.sound.pays.page_is)
     (none_first ys d.first))
@@ -200,7 +200,7 @@ settled_row w j q s a os (GiveBack ∷ ys) at d =
     (none_first ys d.first))
     at.mark (λ own. rw at.frame (d.parts own)) (rw at.frame (let l = left_more (mine w.mark j) GiveBack ys in let c = d.count in omega arith))
 settled_row w j q s a os (Leave e ∷ []) at d =
-    turn_row w j q (leave e) None at.job (rw at.frame (sym (d.made q))) (kept_none (w.reserved j) (d.backs ∙ at.sound.pays.page_is)) at.mark
+    slot_row w j q (leave e) None at.job (rw at.frame (sym (d.made q))) (kept_none (w.reserved j) (d.backs ∙ at.sound.pays.page_is)) at.mark
     (λ own. rw at.frame (d.parts own)) (rw at.frame (let l = left_more (mine w.mark j) (Leave e) [] in let c = d.count in omega arith)) (Registers e refl)
 settled_row w j q s a os (Leave e ∷ o ∷ ys) at d = absurd d.owes
 settled_row w j q s a os (Unlink ∷ ys) at d = file_row w j q s a os ys Unlink UnlinkOld d.head at (d.parts d.head) d.owes d.few d.backs (d.made q) d.count d.first

@@ -21,7 +21,7 @@ use Rattle.its_plain.specs.Arguments.{input, debts}
 use Rattle.its_plain.specs.CallStep.{deposited}
 use Rattle.its_word.specs.Stores.{place, stored}
 use Rattle.its_plain.proofs.MachineLaws.{jobs_are}
-use Rattle.its_stepped.specs.State.{State, held_at, owed_made, seen, seen_jobs, plain, turn}
+use Rattle.its_stepped.specs.State.{State, held_at, owed_made, seen, seen_jobs, plain, with_slot}
 use Rattle.its_word.proofs.StoreLaws.{stored_none}
 
 pub stored_one : (c : Core) (s : Store) → stored c (s ∷ []) ≡ store c (place s) s.word
@@ -158,6 +158,6 @@ jobs_is f f' jobs s h g others here k = elim (cases_eq k s) [
 ]
 
 pub turned : (w : State) (j : ℕ) (h g : Whole → Whole) (f : Option Frame) → ((q : Whole) → w.raw.jobs j ≡ Some q → seen f (h q) ≡ g (seen (w.frames j) q))
-    → plain (turn w j h f) ≡ in_job (plain w) j g
+    → plain (with_slot w j h f) ≡ in_job (plain w) j g
 unfolding plain
 turned w j h g f e = jobs_are _ _ (jobs_is w.frames (changed w.frames j f) w.raw.jobs j h g (changed_only w.frames j f).others (λ q is. rw (changed_only w.frames j f).here (e q is))) refl

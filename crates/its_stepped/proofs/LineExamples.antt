@@ -25,7 +25,7 @@ use Rattle.its_frame.specs.Calls.{sixbit, call_named}
 use Rattle.its_plain.specs.Own.{names_of, exit_of}
 use Rattle.its_plain.specs.CallFile.{blocks_of_drafts}
 use Rattle.its_plain.specs.OperatorFiles.{file_made, word_added, files_in, file_shown}
-use Rattle.its_plain.specs.Transcript.{Ended, Open, Lost}
+use Rattle.its_plain.specs.Transcript.{Ended, Open, Refused}
 use Rattle.its_stepped.specs.State.{LinkNew, FreeOld, State, helped, no_state, parsed, waiting, moving, ending}
 use Rattle.its_stepped.specs.Unwind.{help, left, unwound, all_unwound, unwind_times}
 use Rattle.its_stepped.specs.Tick.{tick}
@@ -43,11 +43,11 @@ unfolding lined operate loaded least_free limit_of free_from calmed tick unwound
 idle = refl
 
 -- an empty slot, and a clock that would reach its end
-empty : stepped (Read (events.Peek 3) ∷ []) ≡ record { lines = printed.Refused 1 reasons.NoJob ∷ []; fate = Lost }
+empty : stepped (Read (events.Peek 3) ∷ []) ≡ record { lines = printed.Refused 1 reasons.NoJob ∷ []; fate = Refused }
 unfolding lined operate calmed no_state no_machine
 empty = refl
 
-late : stepped (Read (events.Clock 0o177777777777) ∷ Read (events.Clock 1) ∷ []) ≡ record { lines = printed.Refused 2 reasons.Range ∷ []; fate = Lost }
+late : stepped (Read (events.Clock 0o177777777777) ∷ Read (events.Clock 1) ∷ []) ≡ record { lines = printed.Refused 2 reasons.Range ∷ []; fate = Refused }
 unfolding lined operate calmed due_slots all_unwound clocked no_state no_machine
 late = refl
 
@@ -137,7 +137,7 @@ iot = refl
 filed : stepped (Read (events.File 1 2 3) ∷ Read (events.Append (record { items = 4 ∷ 5 ∷ [] })) ∷ Read events.EndFile ∷ Read (events.Dir 1) ∷ Read (events.Show 1 2 3)
     ∷ Read (events.File 1 2 3) ∷ []) ≡ record {
       lines = printed.Dir 1 1 ∷ printed.Filed (record { x = 2; y = 3; length = 2 }) ∷ printed.Shown 1 2 3 2 ∷ printed.Row (4 ∷ 5 ∷ []) ∷ printed.Refused 6 reasons.Exists ∷ [];
-      fate = Lost;
+      fate = Refused;
     }
 unfolding lined operate calmed help helped file_made word_added blocks_of_drafts same_names files_in file_shown no_state no_machine
 filed = refl

@@ -13,11 +13,11 @@ use Rattle.its_word.specs.declared.instruction.Instruction.TheVariants.{Iot, Cal
 use Rattle.its_word.specs.declared.jobs.Job.{Job}
 use Rattle.its_word.specs.declared.plan.Context.{Context}
 use Rattle.its_word.specs.declared.plan.Reached.{Reached}
-use Rattle.its_word.specs.declared.plan.Turn.{Turn}
-use Rattle.its_word.specs.declared.plan.Turn.TheVariants.{Found, Target}
+use Rattle.its_word.specs.declared.plan.ChainStep.{ChainStep}
+use Rattle.its_word.specs.declared.plan.ChainStep.TheVariants.{Found, Target}
 use Rattle.its_plain.specs.Footprint.{Stands}
 use Rattle.its_plain.specs.Traced.{Traced, goes_on, also, plainly, gives, word, located}
-use Rattle.its_plain.specs.Unit.{Called, decoded, context_of, target_of, turn_at, turn, followed, chain, reached, row_of, done_by, outcome_at, unit}
+use Rattle.its_plain.specs.Unit.{Called, decoded, context_of, target_of, chain_step_at, chain_step, followed, chain, reached, row_of, done_by, outcome_at, unit}
 use Rattle.its_plain.proofs.SiteLaws.{never_planned}
 
 -- what a part finds, under a function
@@ -51,7 +51,7 @@ with_flags f x = record x { flags = f }
 abbrev flagged : ℕ → Reached → Reached
 flagged f r = record r { context = with_flags f r.context }
 
-abbrev turned : ℕ → Turn → Turn
+abbrev turned : ℕ → ChainStep → ChainStep
 turned f (Found r) = Found (flagged f r)
 turned f (Target w used) = Target w used
 
@@ -62,26 +62,26 @@ target_flagged f c x = elim (cases_Bool (nat_lt x.used budget)) [
   | inr t ↦ rw t refl
 ]
 
-turn_at_flagged : (f : ℕ) (c : Core) (i : Instruction) (x : Context) → turn_at c i (with_flags f x) ≡ finding (turned f) (turn_at c i x)
-unfolding turn_at
-turn_at_flagged f c Xct x = target_flagged f c x
-turn_at_flagged f c i x = refl
+step_at_flagged : (f : ℕ) (c : Core) (i : Instruction) (x : Context) → chain_step_at c i (with_flags f x) ≡ finding (turned f) (chain_step_at c i x)
+unfolding chain_step_at
+step_at_flagged f c Xct x = target_flagged f c x
+step_at_flagged f c i x = refl
 
 -- a job with the PC of another
 module _ (c : Core) (j k : Job) (same : k.pc ≡ j.pc) where
   context_flagged : (w : ℕ) (e : Address) (used : ℕ) → context_of k w e used ≡ with_flags k.flags (context_of j w e used)
   context_flagged w e used = λ t. record (context_of k w e used) { pc = same t }
 
-  turn_flagged : (w used : ℕ) → turn c k w used ≡ finding (turned k.flags) (turn c j w used)
-  unfolding turn
+  turn_flagged : (w used : ℕ) → chain_step c k w used ≡ finding (turned k.flags) (chain_step c j w used)
+  unfolding chain_step
   turn_flagged w used =
       let g = turned k.flags in
       (λ t. also (plainly (decoded w)) (λ i. also (located c w used) (λ f.
-      (ap (turn_at c i) (context_flagged w f.at f.used) ∙ turn_at_flagged k.flags c i (context_of j w f.at f.used)) t)))
-      ∙ (λ t. also (plainly (decoded w)) (λ i. finding_last g (located c w used) (λ f. turn_at c i (context_of j w f.at f.used)) t))
-      ∙ finding_last g (plainly (decoded w)) (λ i. also (located c w used) (λ f. turn_at c i (context_of j w f.at f.used)))
+      (ap (chain_step_at c i) (context_flagged w f.at f.used) ∙ step_at_flagged k.flags c i (context_of j w f.at f.used)) t)))
+      ∙ (λ t. also (plainly (decoded w)) (λ i. finding_last g (located c w used) (λ f. chain_step_at c i (context_of j w f.at f.used)) t))
+      ∙ finding_last g (plainly (decoded w)) (λ i. also (located c w used) (λ f. chain_step_at c i (context_of j w f.at f.used)))
 
-  followed_flagged : (rest more : ℕ → ℕ → Traced Reached) → ((w used : ℕ) → more w used ≡ finding (flagged k.flags) (rest w used)) → (t : Turn)
+  followed_flagged : (rest more : ℕ → ℕ → Traced Reached) → ((w used : ℕ) → more w used ≡ finding (flagged k.flags) (rest w used)) → (t : ChainStep)
       → followed more (turned k.flags t) ≡ finding (flagged k.flags) (followed rest t)
   followed_flagged rest more h (Found r) = refl
   followed_flagged rest more h (Target w used) = h w used
@@ -91,9 +91,9 @@ module _ (c : Core) (j k : Job) (same : k.pc ≡ j.pc) where
   chain_flagged zero w used = refl
   chain_flagged (suc n) w used =
       ap (λ m. also m (λ t. followed (λ v u. chain n c k v u) t)) (turn_flagged w used)
-      ∙ finding_first (turned k.flags) (turn c j w used) (λ t. followed (λ v u. chain n c k v u) t)
-      ∙ (λ i. also (turn c j w used) (λ t. followed_flagged (λ v u. chain n c j v u) (λ v u. chain n c k v u) (λ v u. chain_flagged n v u) t i))
-      ∙ finding_last (flagged k.flags) (turn c j w used) (λ t. followed (λ v u. chain n c j v u) t)
+      ∙ finding_first (turned k.flags) (chain_step c j w used) (λ t. followed (λ v u. chain n c k v u) t)
+      ∙ (λ i. also (chain_step c j w used) (λ t. followed_flagged (λ v u. chain n c j v u) (λ v u. chain n c k v u) (λ v u. chain_flagged n v u) t i))
+      ∙ finding_last (flagged k.flags) (chain_step c j w used) (λ t. followed (λ v u. chain n c j v u) t)
 
   reached_flagged : reached c k ≡ finding (flagged k.flags) (reached c j)
   unfolding reached

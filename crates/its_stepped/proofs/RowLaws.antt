@@ -8,7 +8,7 @@ use Rattle.its_frame.specs.declared.frame.Frame.{Frame}
 use Rattle.its_plain.specs.Machine.{Whole, Machine, changed}
 use Rattle.its_plain.specs.Change.{on_slot, in_job}
 use Rattle.its_plain.proofs.MachineLaws.{jobs_are}
-use Rattle.its_stepped.specs.State.{Mark, State, helped, mine, seen, turn, same, reserving}
+use Rattle.its_stepped.specs.State.{Mark, State, helped, mine, seen, with_slot, same, reserving}
 use Rattle.its_stepped.specs.Unwind.{left_by}
 use Rattle.its_stepped.specs.Sound.{MarkBy, SoundBy, parts_in_frame}
 use Rattle.its_stepped.specs.OneChange.{OneChange, FrameAlone, OnePage}
@@ -73,10 +73,10 @@ mark_kept None frames after j f o e h = tt
 mark_kept (Some m) frames after j f o e h = marked_frames m frames after j f o e h
 
 -- a turn of the slot
-pub turn_row : (w : State) (j : ℕ) (q : Whole) (h : Whole → Whole) (f : Option Frame) → w.raw.jobs j ≡ Some q → seen (w.frames j) q ≡ seen f (h q)
+pub slot_row : (w : State) (j : ℕ) (q : Whole) (h : Whole → Whole) (f : Option Frame) → w.raw.jobs j ≡ Some q → seen (w.frames j) q ≡ seen f (h q)
     → SoundBy (Some (h q)) f (w.reserved j) → IfSome w.mark (λ m. MarkBy m w.frames) → (mine w.mark j ≡ true → parts_in_frame f ≡ parts_in_frame (w.frames j))
-    → left_by (mine w.mark j) f + 1 ≡ left_by (mine w.mark j) (w.frames j) → OneChange w (turn w j h f) j → Rowed w (turn w j h f) j
-turn_row w j q h f is alike fits mark parts fewer one = record {
+    → left_by (mine w.mark j) f + 1 ≡ left_by (mine w.mark j) (w.frames j) → OneChange w (with_slot w j h f) j → Rowed w (with_slot w j h f) j
+slot_row w j q h f is alike fits mark parts fewer one = record {
   job = h q;
   frame = f;
   page = w.reserved j;
@@ -91,19 +91,19 @@ turn_row w j q h f is alike fits mark parts fewer one = record {
   one = one;
 }
 
-frame_alone : (w : State) (j : ℕ) (f : Option Frame) → OneChange w (turn w j same f) j
-frame_alone w j f = FrameAlone (λ t. record (turn w j same f) { raw = same_job w.raw j t })
+frame_alone : (w : State) (j : ℕ) (f : Option Frame) → OneChange w (with_slot w j same f) j
+frame_alone w j f = FrameAlone (λ t. record (with_slot w j same f) { raw = same_job w.raw j t })
 
 -- a turn that changes the frame alone
 pub frame_row : (w : State) (j : ℕ) (q : Whole) (f : Option Frame) → w.raw.jobs j ≡ Some q → seen (w.frames j) q ≡ seen f q
     → SoundBy (Some q) f (w.reserved j) → IfSome w.mark (λ m. MarkBy m w.frames) → (mine w.mark j ≡ true → parts_in_frame f ≡ parts_in_frame (w.frames j))
-    → left_by (mine w.mark j) f + 1 ≡ left_by (mine w.mark j) (w.frames j) → Rowed w (turn w j same f) j
-frame_row w j q f is alike fits mark parts fewer = turn_row w j q same f is alike fits mark parts fewer (frame_alone w j f)
+    → left_by (mine w.mark j) f + 1 ≡ left_by (mine w.mark j) (w.frames j) → Rowed w (with_slot w j same f) j
+frame_row w j q f is alike fits mark parts fewer = slot_row w j q same f is alike fits mark parts fewer (frame_alone w j f)
 
 -- a turn that gives the reserved page up
 pub page_row : (w : State) (j : ℕ) (q : Whole) (f : Option Frame) → w.raw.jobs j ≡ Some q → seen (w.frames j) q ≡ seen f q
     → SoundBy (Some q) f None → IfSome w.mark (λ m. MarkBy m w.frames) → (mine w.mark j ≡ true → parts_in_frame f ≡ parts_in_frame (w.frames j))
-    → left_by (mine w.mark j) f + 1 ≡ left_by (mine w.mark j) (w.frames j) → Rowed w (reserving (turn w j same f) j None) j
+    → left_by (mine w.mark j) f + 1 ≡ left_by (mine w.mark j) (w.frames j) → Rowed w (reserving (with_slot w j same f) j None) j
 page_row w j q f is alike fits mark parts fewer = record {
   job = q;
   frame = f;
@@ -116,5 +116,5 @@ page_row w j q f is alike fits mark parts fewer = record {
   fits = fits;
   mark = mark_kept w.mark w.frames (changed w.frames j f) j f (changed_only w.frames j f) parts mark;
   fewer = fewer;
-  one = OnePage (λ t. record (reserving (turn w j same f) j None) { raw = same_job w.raw j t });
+  one = OnePage (λ t. record (reserving (with_slot w j same f) j None) { raw = same_job w.raw j t });
 }

@@ -19,7 +19,7 @@ use Rattle.its_plain.specs.Machine.{Whole, changed}
 use Rattle.its_plain.specs.Own.{with_stores}
 use Rattle.its_plain.specs.Unit.{Outcome, Changed, Faulted, Called, unit}
 use Rattle.its_word.specs.Stores.{stored}
-use Rattle.its_stepped.specs.State.{State, plain, seen, turn, same, reserving, entered, parsed, asked, holding}
+use Rattle.its_stepped.specs.State.{State, plain, seen, with_slot, same, reserving, entered, parsed, asked, holding}
 use Rattle.its_stepped.specs.Unwind.{all_unwound}
 use Rattle.its_stepped.specs.Commit.{effects_on, committed}
 use Rattle.its_stepped.specs.Tick.{works, delivered_on, user_on, unit_on, parsed_on, fetched_on, prepared_on, reserves, prepared_for, tried, tried_by, quarters, held_on, tick_in, tick_unless, tick_of, tick}
@@ -31,7 +31,7 @@ use Rattle.its_stepped.proofs.DebtLaws.{debts_none}
 use Rattle.its_stepped.proofs.UnwindLaws.{unwind_sound, all_unwound_sound, all_unwound_keeps}
 use Rattle.its_stepped.proofs.OwnLaws.{reserved_none}
 use Rattle.its_stepped.proofs.MarkLaws.{marking_begins, marking_all, marking_within, mark_gone_on}
-use Rattle.its_stepped.proofs.CommitSound.{slot_sound, user_sound, turn_sound, others_sound, waits_sound, committed_sound}
+use Rattle.its_stepped.proofs.CommitSound.{slot_sound, user_sound, with_slot_sound, others_sound, waits_sound, committed_sound}
 use Rattle.its_stepped.proofs.TickLaws.{asks, told_quiet, Found, found, Trying, here_found, trying_holding, trying_waiting}
 
 -- the page of a slot in user mode
@@ -42,25 +42,25 @@ page_none (Some q) (Some f) r h e = cc
 
 -- a slot that gets a frame, or loses it
 put_frame : (w : State) (j : ℕ) (q : Whole) (h : Whole → Whole) (f : Option Frame) → Sound w → w.raw.jobs j ≡ Some q → parts_in_frame (w.frames j) ≡ []
-    → SoundSlot (Some (h q)) f (w.reserved j) → Sound (turn w j h f)
+    → SoundSlot (Some (h q)) f (w.reserved j) → Sound (with_slot w j h f)
 put_frame w j q h f sound is parts here =
-    turn_sound w j h f (λ k ne. sound.each k) (slot_sound (Some (h q)) _ f _ (w.reserved j) _ (ap (option_map h) is) refl refl here)
+    with_slot_sound w j h f (λ k ne. sound.each k) (slot_sound (Some (h q)) _ f _ (w.reserved j) _ (ap (option_map h) is) refl refl here)
     (mark_gone_on j w.frames f w.mark (marking_begins j w.mark w.frames sound.mark parts))
 
-drop_frame : (w : State) (j : ℕ) (q : Whole) (h : Whole → Whole) → Sound w → w.raw.jobs j ≡ Some q → parts_in_frame (w.frames j) ≡ [] → w.reserved j ≡ None → Sound (turn w j h None)
+drop_frame : (w : State) (j : ℕ) (q : Whole) (h : Whole → Whole) → Sound w → w.raw.jobs j ≡ Some q → parts_in_frame (w.frames j) ≡ [] → w.reserved j ≡ None → Sound (with_slot w j h None)
 drop_frame w j q h sound is parts page = put_frame w j q h None sound is parts (user_sound (Some (h q)) None (w.reserved j) refl page)
 
 with_frame : (w : State) (j : ℕ) (q : Whole) (f : Frame) → Sound w → w.raw.jobs j ≡ Some q → parts_in_frame (w.frames j) ≡ [] → SoundFrame q f (w.reserved j)
-    → Sound (turn w j same (Some f))
+    → Sound (with_slot w j same (Some f))
 with_frame w j q f sound is parts h = put_frame w j q same (Some f) sound is parts (record { by = h })
 
 -- a slot whose page is another with its frame
 with_page_frame : (w : State) (j : ℕ) (q : Whole) (f : Frame) (r : Option ℕ) → Sound w → w.raw.jobs j ≡ Some q → parts_in_frame (w.frames j) ≡ [] → SoundFrame q f r
-    → Sound (reserving (turn w j same (Some f)) j r)
+    → Sound (reserving (with_slot w j same (Some f)) j r)
 with_page_frame w j q f r sound is parts h = record {
   each = λ k. elim (cases_eq k j) [
     | inl e ↦ slot_sound (Some q) _ (Some f) _ r _
-        (ap (λ (i : ℕ). (turn w j same (Some f)).raw.jobs i) e ∙ on_slot_here w.raw.jobs j same ∙ ap (option_map same) is)
+        (ap (λ (i : ℕ). (with_slot w j same (Some f)).raw.jobs i) e ∙ on_slot_here w.raw.jobs j same ∙ ap (option_map same) is)
         (ap (λ (i : ℕ). changed w.frames j (Some f) i) e ∙ (changed_only w.frames j (Some f)).here)
         (ap (λ (i : ℕ). changed w.reserved j r i) e ∙ (changed_only w.reserved j r).here)
         (record { by = h })
@@ -88,7 +88,7 @@ delivered_sound w j q d sound none =
     let quiet = told_quiet w j d.stops q.superior sound in
     let marks = marking_all cs j v 0 quiet (marking_begins j v.mark v.frames sv.mark (ap parts_in_frame free)) in
     let no_part : parts_in cs ≡ 0 = informs_part d.stops q.superior in
-    turn_sound u j (becomes d.core d.job) None
+    with_slot_sound u j (becomes d.core d.job) None
     (others_sound cs j v quiet (λ k ne. sv.each k))
     (user_sound (option_map (becomes d.core d.job) (u.raw.jobs j)) None (u.reserved j) refl (reserved_none cs j v j page))
     (mark_gone_on j u.frames None u.mark (marking_within j u.mark u.frames (parts_in cs + 0) 0 (omega arith) marks))
@@ -180,7 +180,7 @@ tried_sound w j q s a n sound t m =
 -- a page that is cleared
 quarter_sound : (w : State) (j : ℕ) (q : Whole) (s : Site) (a : Ask) (p n : ℕ) (b : Bool) → Sound w → Trying w j q s a n → (b ≡ false → Meets w j (with_stores (debts a n) q) s a n)
     → Paged a n p → nat_lt p quarters ≡ b
-    → Sound (if b then works (reserving (turn w j same (Some (holding s a (Some (p + 1)) n))) j (Some (p + 1))) else tried_by w j (with_stores (debts a n) q) s a n).state
+    → Sound (if b then works (reserving (with_slot w j same (Some (holding s a (Some (p + 1)) n))) j (Some (p + 1))) else tried_by w j (with_stores (debts a n) q) s a n).state
 quarter_sound w j q s a p n true sound t m h e =
     let less : p < 4 = ltb-true p 4 e in
     with_page_frame w j q (holding s a (Some (p + 1)) n) (Some (p + 1)) sound t.here.job_is t.here.parts

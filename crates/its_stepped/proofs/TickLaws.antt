@@ -26,7 +26,7 @@ use Rattle.its_plain.specs.Unit.{Outcome, Changed, Faulted, Called, unit}
 use Rattle.its_word.specs.Stores.{stored}
 use Rattle.its_plain.specs.UnitPlan.{given}
 use Rattle.its_stepped.proofs.TwoLaws.{in_two}
-use Rattle.its_stepped.specs.State.{State, plain, seen, turn, same, reserving, entered, parsed, asked, holding, waiting}
+use Rattle.its_stepped.specs.State.{State, plain, seen, with_slot, same, reserving, entered, parsed, asked, holding, waiting}
 use Rattle.its_stepped.specs.Unwind.{all_unwound, unwind_one}
 use Rattle.its_stepped.specs.Commit.{effects_on, committed}
 use Rattle.its_stepped.specs.Tick.{Ticked, helped_if, works, delivered_on, user_on, unit_on, parsed_on, fetched_on, prepared_on, reserves, helps, prepared_for, tried, tried_by, quarters, held_on, tick_in, tick_unless, tick_of, tick}
@@ -67,7 +67,7 @@ unfolding plain
 plain_empty w j is = subst IsOff (sym (ap (option_map (seen (w.frames j))) is)) tt
 
 -- a frame that shows the same job
-still : (w : State) (j : ℕ) (f : Option Frame) → ((p : Whole) → seen f p ≡ seen (w.frames j) p) → plain (turn w j same f) ≡ plain w
+still : (w : State) (j : ℕ) (f : Option Frame) → ((p : Whole) → seen f p ≡ seen (w.frames j) p) → plain (with_slot w j same f) ≡ plain w
 still w j f h = turned w j same same f (λ p e. h p) ∙ same_job (plain w) j
 
 -- a job whose frame has nothing pending is seen as it is
@@ -105,7 +105,7 @@ pub seen_held : (s : Site) (a : Ask) (page : Option ℕ) (p : Whole) → seen (S
 seen_held s a page p = seen_holding s a page 0 p ∙ ap (λ ss. with_stores ss p) (debts_none a) ∙ stores_none p
 
 -- user mode: a job that changes, or faults
-becomes_plain : (w : State) (j : ℕ) (h : Whole → Whole) → AsIs w j → plain (turn w j h None) ≡ in_job (plain w) j h
+becomes_plain : (w : State) (j : ℕ) (h : Whole → Whole) → AsIs w j → plain (with_slot w j h None) ≡ in_job (plain w) j h
 becomes_plain w j h e = turned w j h h None (λ p is. seen_none (h p) ∙ ap h (sym (e p)))
 
 -- what a row of a tick shows: its letter is licensed
@@ -160,7 +160,7 @@ pub asks : (c : Core) (s : Site) (b : List ℕ) (r : Result Ask Fault) → parse
 asks c s b r e f = in_two c s ∙ ap (λ r. given r (λ b. fetch c s b)) e ∙ f
 
 fault_is : (w : State) (j : ℕ) (q : Whole) (s : Site) (f : Fault) → w.raw.jobs j ≡ Some q → q.job.stopped ≡ false → deliverable q.job ≡ false → AsIs w j
-    → unit q.core q.job ≡ Called s → ask q.core s ≡ Err f → step (plain w) j ≡ Some (plain (turn w j (faulted f) None))
+    → unit q.core q.job ≡ Called s → ask q.core s ≡ Err f → step (plain w) j ≡ Some (plain (with_slot w j (faulted f) None))
 fault_is w j q s f is runs quiet e u a =
     step_by (plain w) j _ (transition_called (plain w) j q s (Err f) (seen_at w j q (w.frames j) is refl ∙ ap Some (e q)) runs quiet u a)
     ∙ ap Some (sym (becomes_plain w j (faulted f) e))
@@ -288,7 +288,7 @@ tried_is w j q s a n sound t m =
 
 -- a page that is cleared: a quarter at a tick
 quarter_is : (w : State) (j : ℕ) (q : Whole) (s : Site) (a : Ask) (p n : ℕ) (b : Bool) → Sound w → Trying w j q s a n → (b ≡ false → Meets w j (with_stores (debts a n) q) s a n)
-    → RowIs w j (if b then works (reserving (turn w j same (Some (holding s a (Some (p + 1)) n))) j (Some (p + 1))) else tried_by w j (with_stores (debts a n) q) s a n)
+    → RowIs w j (if b then works (reserving (with_slot w j same (Some (holding s a (Some (p + 1)) n))) j (Some (p + 1))) else tried_by w j (with_stores (debts a n) q) s a n)
 quarter_is w j q s a p n true sound t m =
     works_is w _ j q t.here.job_is t.here.runs
     (reserving_plain _ j (Some (p + 1)) ∙ still w j (Some (holding s a (Some (p + 1)) n)) (λ x. seen_holding s a (Some (p + 1)) n x ∙ sym (t.here.seen_is x)))

@@ -23,7 +23,7 @@ use Rattle.its_plain.specs.CallStep.{with_held, among}
 use Rattle.its_plain.specs.Decide.{call_row, call_named}
 use Rattle.its_plain.proofs.MachineLaws.{machine_is}
 use Rattle.its_stepped.specs.SlotSame.{SlotSame}
-use Rattle.its_stepped.specs.State.{Part, Mark, State, helped, mine, held_at, seen, seen_jobs, plain, turn, same, reserving, holding, waiting, ending, asked}
+use Rattle.its_stepped.specs.State.{Part, Mark, State, helped, mine, held_at, seen, seen_jobs, plain, with_slot, same, reserving, holding, waiting, ending, asked}
 use Rattle.its_stepped.specs.Unwind.{first_debt, less, paid, given_back, with_part, due, settled, left_by, left, unwind_by, unwind_one, unwind_times, unwound, all_unwound}
 use Rattle.its_stepped.specs.Sound.{HoldingPays, SoundFrame, SoundBy, SoundSlot, Sound, most_owed, most_owed_by}
 use Rattle.its_stepped.specs.OneChange.{OneChange, FrameAlone}
@@ -195,14 +195,14 @@ pub record Beside (w v : State) (j : ℕ) : Type 0 where
 beside_same : (w : State) (j : ℕ) → Beside w w j
 beside_same w j = record { slots = λ k ne. slot_same w k; shares = shares_same w; unmarked = λ e. e }
 
-beside_turn : (w : State) (j : ℕ) (h : Whole → Whole) (f : Option Frame) → Beside w (turn w j h f) j
-beside_turn w j h f = record {
+beside_slot : (w : State) (j : ℕ) (h : Whole → Whole) (f : Option Frame) → Beside w (with_slot w j h f) j
+beside_slot w j h f = record {
   slots = λ k ne. record { job = on_slot_other w.raw.jobs j k h ne; frame = (changed_only w.frames j f).others k ne; page = refl };
   shares = record { consoles = refl; holders = refl; clock = refl; version = refl; symbols = refl; links = refl; files = refl };
   unmarked = λ e. e;
 }
 
-beside_page : (w : State) (j : ℕ) (f : Option Frame) → Beside w (reserving (turn w j same f) j None) j
+beside_page : (w : State) (j : ℕ) (f : Option Frame) → Beside w (reserving (with_slot w j same f) j None) j
 beside_page w j f = record {
   slots = λ k ne. record {
     job = on_slot_other w.raw.jobs j k same ne;
@@ -251,28 +251,28 @@ beside_part w v j still b = go w.mark refl
     go (Some m) e = parted w v j m m.parts e still b
 
 beside_paid : (w : State) (j : ℕ) (a : Ask) (n : ℕ) (f : ℕ → Frame) → Beside w (paid w j a n f) j
-beside_paid w j a n f = beside_turn w j (with_stores (first_debt (debts a n))) (less n f)
+beside_paid w j a n f = beside_slot w j (with_stores (first_debt (debts a n))) (less n f)
 
 beside_given : (w : State) (j : ℕ) (s : Site) (a : Ask) (page : Option ℕ) (n : ℕ) → Beside w (given_back w j s a page n) j
 beside_given w j s a (Some p) n = beside_page w j (Some (asked s a))
 beside_given w j s a None n = beside_paid w j a n (holding s a None)
 
 beside_settled : (w : State) (j : ℕ) (s : Site) (a : Ask) (os : List Owed) → Beside w (settled w j s a os) j
-beside_settled w j s a [] = beside_turn w j same None
-beside_settled w j s a (Store p v ∷ os) = beside_turn w j (with_stores (poke p v ∷ [])) (Some (ending s a os))
+beside_settled w j s a [] = beside_slot w j same None
+beside_settled w j s a (Store p v ∷ os) = beside_slot w j (with_stores (poke p v ∷ [])) (Some (ending s a os))
 beside_settled w j s a (GiveBack ∷ os) = beside_page w j (Some (ending s a os))
-beside_settled w j s a (Unlink ∷ os) = beside_part w (turn w j same (Some (ending s a os))) j refl (beside_turn w j same (Some (ending s a os)))
-beside_settled w j s a (Link ∷ os) = beside_part w (turn w j same (Some (ending s a os))) j refl (beside_turn w j same (Some (ending s a os)))
-beside_settled w j s a (Free ∷ os) = beside_part w (turn w j same (Some (ending s a os))) j refl (beside_turn w j same (Some (ending s a os)))
-beside_settled w j s a (Leave e ∷ os) = beside_turn w j (leave e) None
+beside_settled w j s a (Unlink ∷ os) = beside_part w (with_slot w j same (Some (ending s a os))) j refl (beside_slot w j same (Some (ending s a os)))
+beside_settled w j s a (Link ∷ os) = beside_part w (with_slot w j same (Some (ending s a os))) j refl (beside_slot w j same (Some (ending s a os)))
+beside_settled w j s a (Free ∷ os) = beside_part w (with_slot w j same (Some (ending s a os))) j refl (beside_slot w j same (Some (ending s a os)))
+beside_settled w j s a (Leave e ∷ os) = beside_slot w j (leave e) None
 
 beside_by : (w : State) (j : ℕ) (o : Option Frame) → Beside w (unwind_by w j o) j
 beside_by w j None = beside_same w j
 beside_by w j (Some (Holding f)) = beside_given w j f.site f.ask f.page f.owes
 beside_by w j (Some (Waiting f)) = beside_paid w j f.ask f.owes (waiting f.site f.ask)
-beside_by w j (Some (Moving f)) = beside_turn w j (with_held f.ask (Some (held_at f.place f.byte))) (Some (holding f.site f.ask None 2))
+beside_by w j (Some (Moving f)) = beside_slot w j (with_held f.ask (Some (held_at f.place f.byte))) (Some (holding f.site f.ask None 2))
 beside_by w j (Some (Ending f)) = beside_settled w j f.site f.ask (due (mine w.mark j) f.owed.items)
-beside_by w j _ = beside_turn w j same None
+beside_by w j _ = beside_slot w j same None
 
 unwind_beside : (w : State) (j : ℕ) → Beside w (unwind_one w j) j
 unfolding unwind_one
@@ -452,17 +452,17 @@ all_unwound_still (k ∷ ks) w h =
     ap (all_unwound ks) (unwound_still w k (h k (among_first k ks))) ∙ all_unwound_still ks w (λ i e. h i (among_more k i ks e))
 
 -- one turn of a loop that unwinds a job, and its end by `unwound_still`
-pub unwound_turn : (w : State) (j : ℕ) (f : Frame) → Sound w → w.frames j ≡ Some f → unwound (unwind_one w j) j ≡ unwound w j
+pub unwound_slot : (w : State) (j : ℕ) (f : Frame) → Sound w → w.frames j ≡ Some f → unwound (unwind_one w j) j ≡ unwound w j
 unfolding unwound unwind_times
-unwound_turn w j f s e =
+unwound_slot w j f s e =
     let fewer = unwind_fewer w j f s e in
     let n : suc (left (unwind_one w j) j) ≡ left w j = omega arith in
     ap (λ n. unwind_times n w j) n
 
 -- one turn of a loop over several, and its end
-pub all_unwound_turn : (k : ℕ) (ks : List ℕ) (w : State) → all_unwound ks (unwound w k) ≡ all_unwound (k ∷ ks) w
+pub all_unwound_slot : (k : ℕ) (ks : List ℕ) (w : State) → all_unwound ks (unwound w k) ≡ all_unwound (k ∷ ks) w
 unfolding all_unwound
-all_unwound_turn k ks w = refl
+all_unwound_slot k ks w = refl
 
 pub all_unwound_end : (w : State) → all_unwound [] w ≡ w
 unfolding all_unwound

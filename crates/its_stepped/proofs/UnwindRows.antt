@@ -13,14 +13,14 @@ use Rattle.its_plain.specs.Change.{in_job}
 use Rattle.its_plain.specs.Arguments.{input, debts}
 use Rattle.its_plain.specs.CallStep.{deposited, with_held}
 use Rattle.its_word.specs.Stores.{place, stored}
-use Rattle.its_stepped.specs.State.{State, mine, seen, turn, same, reserving, asked, holding, waiting, moving}
+use Rattle.its_stepped.specs.State.{State, mine, seen, with_slot, same, reserving, asked, holding, waiting, moving}
 use Rattle.its_stepped.specs.Unwind.{first_debt, paid, given_back, left_by}
 use Rattle.its_stepped.specs.Sound.{Stuck, Stands, Stored, Debts, SoundFrame, MarkBy, parts_in_frame}
 use Rattle.its_stepped.specs.OneChange.{OneChange, OneWord}
 use Rattle.its_stepped.proofs.FrameLaws.{stored_one, stores_none, stores_cons}
 use Rattle.its_stepped.proofs.DebtLaws.{NextOwed, debts_next, debts_none, debts_behind}
 use Rattle.its_stepped.proofs.PageLaws.{owes_reserves_none}
-use Rattle.its_stepped.proofs.RowLaws.{Rowed, job_alike, turn_row, frame_row, page_row}
+use Rattle.its_stepped.proofs.RowLaws.{Rowed, job_alike, slot_row, frame_row, page_row}
 
 -- a job with a frame, and what soundness says of it
 pub record At (w : State) (j : ℕ) (q : Whole) (f : Frame) : Type 0 where
@@ -31,17 +31,17 @@ pub record At (w : State) (j : ℕ) (q : Whole) (f : Frame) : Type 0 where
 
 -- a call in user mode again
 pub dropped_row : (w : State) (j : ℕ) (q : Whole) (f : Frame) → At w j q f → ((p : Whole) → seen (Some f) p ≡ p) → w.reserved j ≡ None
-    → parts_in_frame (Some f) ≡ [] → left_by (mine w.mark j) (Some f) ≡ 1 → Rowed w (turn w j same None) j
+    → parts_in_frame (Some f) ≡ [] → left_by (mine w.mark j) (Some f) ≡ 1 → Rowed w (with_slot w j same None) j
 unfolding seen
 dropped_row w j q f at sees page parts one =
     frame_row w j q None at.job (rw at.frame (sees q)) page at.mark (λ mine. rw at.frame (sym parts)) (rw at.frame (sym one))
 
 -- the first pending word of a call that is still there is stored
-paid_none : (w : State) (j : ℕ) (a : Ask) (mk : ℕ → Frame) → paid w j a 0 mk ≡ turn w j same None
+paid_none : (w : State) (j : ℕ) (a : Ask) (mk : ℕ → Frame) → paid w j a 0 mk ≡ with_slot w j same None
 paid_none w j a mk =
     let p : in_job w.raw j (with_stores (first_debt (debts a 0))) ≡ in_job w.raw j same =
     job_alike w.raw j _ _ (λ q is. ap (λ ss. with_stores (first_debt ss) q) (debts_none a) ∙ stores_none q) in
-    λ t. record (turn w j same None) { raw = p t }
+    λ t. record (with_slot w j same None) { raw = p t }
 
 debts_less : (c : Core) (a : Ask) (n : ℕ) → (d : Debts c a (suc n)) → (x : NextOwed a n) → Debts (stored c (x.first ∷ [])) a n
 debts_less c a n d x = rw (stored_one c x.first) (debts_behind c (place x.first) x.first.word a n (record {
@@ -65,11 +65,11 @@ paid_row w j q a mk (suc n) at sees lefts parts d page sound =
     let p = with_stores (x.first ∷ []) q in
     let alike : seen (Some (mk (suc n))) q ≡ seen (Some (mk n)) p =
     sees (suc n) q ∙ ap (λ ss. with_stores ss q) x.is ∙ stores_cons x.first (debts a n) q ∙ sym (sees n p) in
-    let r : Rowed w (turn w j (with_stores (x.first ∷ [])) (Some (mk n))) j =
-    turn_row w j q (with_stores (x.first ∷ [])) (Some (mk n)) at.job (ap (λ f. seen f q) at.frame ∙ alike)
+    let r : Rowed w (with_slot w j (with_stores (x.first ∷ [])) (Some (mk n))) j =
+    slot_row w j q (with_stores (x.first ∷ [])) (Some (mk n)) at.job (ap (λ f. seen f q) at.frame ∙ alike)
     (sound n p refl (sym alike) (debts_less q.core a n d x)) at.mark (λ mine. rw at.frame (parts n ∙ sym (parts (suc n))))
     (rw at.frame (let l = lefts n in let m = lefts (suc n) in omega arith)) (OneWord x.first refl) in
-    subst (λ ss. Rowed w (turn w j (with_stores (first_debt ss)) (Some (mk n))) j) (sym x.is) r
+    subst (λ ss. Rowed w (with_slot w j (with_stores (first_debt ss)) (Some (mk n))) j) (sym x.is) r
 
 stands_as : (p q : Whole) (s : Site) (a : Ask) → p ≡ q → Stands q.core q.job s a → Stands p.core p.job s a
 stands_as p q s a e h = subst (λ r. Stands r.core r.job s a) (sym e) h
@@ -86,7 +86,7 @@ holding_none w j q s a n at =
     })
 
 holding_some : (w : State) (j : ℕ) (q : Whole) (s : Site) (a : Ask) (p n : ℕ) → At w j q (holding s a (Some p) n)
-    → Rowed w (reserving (turn w j same (Some (asked s a))) j None) j
+    → Rowed w (reserving (with_slot w j same (Some (asked s a))) j None) j
 unfolding seen
 holding_some w j q s a p n at =
     let none : n ≡ 0 = at.sound.pays.paged.owes in
@@ -115,19 +115,19 @@ waiting_row w j q s a n at =
     })
 
 -- a held byte is stored
-held_word : (w : State) (j : ℕ) (q : Whole) (a : Ask) (h : Held) (f : Option Frame) → w.raw.jobs j ≡ Some q → OneChange w (turn w j (with_held a (Some h)) f) j
+held_word : (w : State) (j : ℕ) (q : Whole) (a : Ask) (h : Held) (f : Option Frame) → w.raw.jobs j ≡ Some q → OneChange w (with_slot w j (with_held a (Some h)) f) j
 held_word w j q a h f is =
     let s = deposited q.core (input a 1) h in
     let p : in_job w.raw j (with_held a (Some h)) ≡ in_job w.raw j (with_stores (s ∷ [])) =
     job_alike w.raw j _ _ (λ p e. let here : p ≡ q = cc in ap (λ r. with_stores (deposited r.core (input a 1) h ∷ []) p) here) in
-    OneWord s (λ t. record (turn w j (with_held a (Some h)) f) { raw = p t })
+    OneWord s (λ t. record (with_slot w j (with_held a (Some h)) f) { raw = p t })
 
 pub moving_row : (w : State) (j : ℕ) (q : Whole) (s : Site) (a : Ask) (h : Held) → At w j q (moving s a h)
-    → Rowed w (turn w j (with_held a (Some h)) (Some (holding s a None 2))) j
+    → Rowed w (with_slot w j (with_held a (Some h)) (Some (holding s a None 2))) j
 unfolding seen
 moving_row w j q s a h at =
     let d = deposited q.core (input a 1) h in
-    turn_row w j q (with_held a (Some h)) (Some (holding s a None 2)) at.job (rw at.frame) (record {
+    slot_row w j q (with_held a (Some h)) (Some (holding s a None 2)) at.job (rw at.frame) (record {
       runs = at.sound.runs;
       quiet = at.sound.quiet;
       standing = at.sound.standing;

@@ -22,7 +22,7 @@ use Rattle.its_plain.specs.Own.{on_channel}
 use Rattle.its_plain.specs.Change.{in_job, channel_in, superiors, is_gone, effect}
 use Rattle.its_plain.specs.Arguments.{debts, revalued}
 use Rattle.its_plain.specs.Decide.{call_named}
-use Rattle.its_stepped.specs.State.{Part, UnlinkOld, LinkNew, FreeOld, Mark, State, mark_of_close, turn, same, holding, waiting, moving, ending}
+use Rattle.its_stepped.specs.State.{Part, UnlinkOld, LinkNew, FreeOld, Mark, State, mark_of_close, with_slot, same, holding, waiting, moving, ending}
 
 -- a change on the stepped machine: a close is marked, and its parts are pending; a page that is made is the reserved
 -- one; a removed job has no frame
@@ -77,9 +77,9 @@ owed_by v j ss e = owed_parts v.mark j ++ (given_up (v.reserved j) ++ (map owed_
 
 -- a decision carried out, of a call with its last n arguments pending
 unfoldable pub committed : State → ℕ → Site → Ask → ℕ → Decision → State
-committed w j s a n (Waits r) = turn w j same (Some (waiting s a n))
+committed w j s a n (Waits r) = with_slot w j same (Some (waiting s a n))
 committed w j s a n (Goes cs h vs) =
-    turn (effects_on cs.items j w) j same (Some (gone_on s (revalued a vs.items) (length vs.items) h))
+    with_slot (effects_on cs.items j w) j same (Some (gone_on s (revalued a vs.items) (length vs.items) h))
 committed w j s a n (Ends cs ss e) =
-    let v = effects_on cs.items j w in turn v j same (Some (ending s a (owed_by v j (debts a n ++ ss.items) e)))
+    let v = effects_on cs.items j w in with_slot v j same (Some (ending s a (owed_by v j (debts a n ++ ss.items) e)))
 committed w j s a n (Gone cs) = effects_on (changes.Remove j ∷ cs.items) j w

@@ -17,14 +17,14 @@ use Rattle.its_frame.specs.declared.frame.Frame.TheVariants.{Entered, Parsed, As
 use Rattle.its_frame.specs.declared.name.CallName.{CallName}
 use Rattle.its_frame.specs.declared.name.CallName.TheVariants.{Iot}
 use Rattle.its_frame.specs.Calls.{sixbit}
-use Rattle.its_print.specs.Printing.{Line, Refused}
+use Rattle.its_print.specs.Printing.{Line}
 use Rattle.its_print.specs.Printing as printed
 use Rattle.its_plain.specs.Machine.{Machine, no_machine, core_of}
 use Rattle.its_plain.specs.Arguments.{place_of_input}
 use Rattle.its_plain.specs.Decide.{call_row, call_named}
 use Rattle.its_plain.specs.OperatorClock.{due_slots}
 use Rattle.its_plain.specs.Operator.{Block, no_block, Operated, Refuses, Does, Ticks, nobody, Quits}
-use Rattle.its_plain.specs.Transcript.{Fate, Ended, Open, Lost, TooLong}
+use Rattle.its_plain.specs.Transcript.{Fate, Ended, Open, Refused, TooLong}
 use Rattle.its_plain.specs.OperatorLines.{Lined, Done, Peeks, lined}
 use Rattle.its_plain.specs.Turns.{turn_after, highest, turns_asked, ticks_asked}
 use Rattle.its_stepped.specs.State.{State, plain, no_state}
@@ -210,7 +210,7 @@ telling out t = record { lines = out ++ t.lines; fate = t.fate }
 
 -- line n, which has this effect in state v, and w is the state before it
 abbrev pub told_by : ℕ → State → State → Block → Lined → (State → Block → Told) → Told
-told_by n w v b (Done (Refuses r)) next = record { lines = Refused n r ∷ []; fate = Lost }
+told_by n w v b (Done (Refuses r)) next = record { lines = printed.Refused n r ∷ []; fate = Refused }
 told_by n w v b (Done (Does m out touched b')) next = telling out (next (with_raw v m) b')
 told_by n w v b (Done (Ticks s k)) next = telling (printed.Ticks s (paces_of w s k) ∷ []) (next (ticked w s k) b)
 told_by n w v b (Done Quits) next = record { lines = []; fate = Ended }
@@ -235,7 +235,7 @@ told n w b last [] = record { lines = []; fate = Open }
 told n w b last (Read e ∷ es) =
     line_told n w b e
     (λ v b'. turned (turns_asked e) (ticks_asked e) v last (λ x l. told (n + 1) x b' l es))
-told n w b last (Unread r ∷ es) = record { lines = Refused n r ∷ []; fate = Lost }
+told n w b last (Unread r ∷ es) = record { lines = printed.Refused n r ∷ []; fate = Refused }
 told n w b last (Beyond ∷ es) = record { lines = []; fate = TooLong }
 
 -- the lines of a session of these events

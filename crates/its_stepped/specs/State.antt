@@ -99,9 +99,9 @@ plain w = record w.raw { jobs = seen_jobs w.frames w.raw.jobs; files = helped w.
 unfoldable pub no_state : Machine → State
 no_state m = record { raw = m; frames = λ _. None; reserved = λ _. None; mark = None }
 
--- the raw job and the frame of one slot changed: every row of a tick or of unwinding is such a turn
-abbrev pub turn : State → ℕ → (Whole → Whole) → Option Frame → State
-turn w j h f = record w { raw = in_job w.raw j h; frames = changed w.frames j f }
+-- the raw job and the frame of one slot changed: every row of a tick or of unwinding is such a change
+abbrev pub with_slot : State → ℕ → (Whole → Whole) → Option Frame → State
+with_slot w j h f = record w { raw = in_job w.raw j h; frames = changed w.frames j f }
 
 abbrev pub same : Whole → Whole
 same q = q

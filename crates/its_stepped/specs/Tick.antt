@@ -22,7 +22,7 @@ use Rattle.its_plain.specs.CallBasic.{channel_at}
 use Rattle.its_plain.specs.CallFile.{disk_device}
 use Rattle.its_plain.specs.Decide.{call_row, call_named, reach}
 use Rattle.its_plain.specs.CallStep.{becomes, faulted, informs, decision, informed_slots}
-use Rattle.its_stepped.specs.State.{State, plain, seen, turn, same, reserving, entered, parsed, asked, holding}
+use Rattle.its_stepped.specs.State.{State, plain, seen, with_slot, same, reserving, entered, parsed, asked, holding}
 use Rattle.its_stepped.specs.Unwind.{unwind_one, all_unwound, help}
 use Rattle.its_stepped.specs.Commit.{effects_on, committed}
 
@@ -44,17 +44,17 @@ off w = record { state = w; pace = Off }
 
 -- a fault of the unit or of the decoding sets its bit and drops the frame
 abbrev pub faults_on : State → ℕ → Fault → Ticked
-faults_on w j f = steps (turn w j (faulted f) None)
+faults_on w j f = steps (with_slot w j (faulted f) None)
 
 -- user mode
 abbrev pub delivered_on : State → ℕ → Whole → Delivered → State
 delivered_on w j q d =
-    turn (effects_on (informs d.stops q.superior) j (all_unwound (informed_slots d.stops q.superior) w)) j (becomes d.core d.job) None
+    with_slot (effects_on (informs d.stops q.superior) j (all_unwound (informed_slots d.stops q.superior) w)) j (becomes d.core d.job) None
 
 abbrev pub unit_on : State → ℕ → Outcome → Ticked
-unit_on w j (Changed c k) = steps (turn w j (becomes c k) None)
+unit_on w j (Changed c k) = steps (with_slot w j (becomes c k) None)
 unit_on w j (Faulted f) = faults_on w j f
-unit_on w j (Called s) = works (turn w j same (Some (entered s)))
+unit_on w j (Called s) = works (with_slot w j same (Some (entered s)))
 
 abbrev pub user_on : State → ℕ → Whole → Bool → Ticked
 user_on w j q true = steps (delivered_on w j q (delivered q.core q.job))
@@ -62,11 +62,11 @@ user_on w j q false = unit_on w j (unit q.core q.job)
 
 -- the decoding in its two ticks
 abbrev pub parsed_on : State → ℕ → Site → Result (List ℕ) Fault → Ticked
-parsed_on w j s (Ok b) = works (turn w j same (Some (parsed s b)))
+parsed_on w j s (Ok b) = works (with_slot w j same (Some (parsed s b)))
 parsed_on w j s (Err f) = faults_on w j f
 
 abbrev pub fetched_on : State → ℕ → Site → Result Ask Fault → Ticked
-fetched_on w j s (Ok a) = works (turn w j same (Some (asked s a)))
+fetched_on w j s (Ok a) = works (with_slot w j same (Some (asked s a)))
 fetched_on w j s (Err f) = faults_on w j f
 
 -- a call that makes a page, by its operation 1, and whose decoding gave no error, reserves a page, which is cleared a
@@ -79,8 +79,8 @@ unfoldable pub reserves : Ask → Bool
 reserves a = (a.fail == 0) && makes_page (call_named a.name) (input a 0)
 
 abbrev pub prepared_on : State → ℕ → Site → Ask → Bool → State
-prepared_on w j s a true = reserving (turn w j same (Some (holding s a (Some 0) 0))) j (Some 0)
-prepared_on w j s a false = turn w j same (Some (holding s a None 0))
+prepared_on w j s a true = reserving (with_slot w j same (Some (holding s a (Some 0) 0))) j (Some 0)
+prepared_on w j s a false = with_slot w j same (Some (holding s a None 0))
 
 -- a call on files, before whose commit the pending parts of a marked close are performed
 abbrev pub is_disk : Chan → Bool
@@ -126,7 +126,7 @@ quarters = 4
 abbrev pub held_on : State → ℕ → Whole → Site → Ask → Option ℕ → ℕ → Ticked
 held_on w j own s a None n = tried_by w j own s a n
 held_on w j own s a (Some p) n =
-    if nat_lt p quarters then works (reserving (turn w j same (Some (holding s a (Some (p + 1)) n))) j (Some (p + 1)))
+    if nat_lt p quarters then works (reserving (with_slot w j same (Some (holding s a (Some (p + 1)) n))) j (Some (p + 1)))
     else tried_by w j own s a n
 
 abbrev pub tick_in : State → ℕ → Whole → Option Frame → Ticked

@@ -14,7 +14,7 @@ use Rattle.its_plain.specs.Own.{with_stores, leave}
 use Rattle.its_plain.specs.Change.{poke}
 use Rattle.its_plain.specs.Arguments.{debts}
 use Rattle.its_plain.specs.CallStep.{with_held}
-use Rattle.its_stepped.specs.State.{Part, Mark, State, part_made, mine, helped, held_at, turn, same, reserving, asked, holding, waiting, ending}
+use Rattle.its_stepped.specs.State.{Part, Mark, State, part_made, mine, helped, held_at, with_slot, same, reserving, asked, holding, waiting, ending}
 
 -- a call with pending words that is still there stores the first one; a call without any drops its frame
 abbrev pub first_debt : List stores.Store → List stores.Store
@@ -26,7 +26,7 @@ less zero f = None
 less (suc n) f = Some (f n)
 
 abbrev pub paid : State → ℕ → Ask → ℕ → (ℕ → Frame) → State
-paid w j a n f = turn w j (with_stores (first_debt (debts a n))) (less n f)
+paid w j a n f = with_slot w j (with_stores (first_debt (debts a n))) (less n f)
 
 -- the next part of a marked close
 abbrev pub rest_marked : Mark → List Part → Option Mark
@@ -51,28 +51,28 @@ due false (Free ∷ os) = due false os
 due false (o ∷ os) = o ∷ os
 
 abbrev pub settled : State → ℕ → Site → Ask → List Owed → State
-settled w j s a [] = turn w j same None
-settled w j s a (Store p v ∷ os) = turn w j (with_stores (poke p v ∷ [])) (Some (ending s a os))
-settled w j s a (GiveBack ∷ os) = reserving (turn w j same (Some (ending s a os))) j None
-settled w j s a (Unlink ∷ os) = with_part w.mark (turn w j same (Some (ending s a os)))
-settled w j s a (Link ∷ os) = with_part w.mark (turn w j same (Some (ending s a os)))
-settled w j s a (Free ∷ os) = with_part w.mark (turn w j same (Some (ending s a os)))
-settled w j s a (Leave e ∷ os) = turn w j (leave e) None
+settled w j s a [] = with_slot w j same None
+settled w j s a (Store p v ∷ os) = with_slot w j (with_stores (poke p v ∷ [])) (Some (ending s a os))
+settled w j s a (GiveBack ∷ os) = reserving (with_slot w j same (Some (ending s a os))) j None
+settled w j s a (Unlink ∷ os) = with_part w.mark (with_slot w j same (Some (ending s a os)))
+settled w j s a (Link ∷ os) = with_part w.mark (with_slot w j same (Some (ending s a os)))
+settled w j s a (Free ∷ os) = with_part w.mark (with_slot w j same (Some (ending s a os)))
+settled w j s a (Leave e ∷ os) = with_slot w j (leave e) None
 
 -- a call that has reserved a page gives it back, and is as before it was prepared
 abbrev pub given_back : State → ℕ → Site → Ask → Option ℕ → ℕ → State
-given_back w j s a (Some p) n = reserving (turn w j same (Some (asked s a))) j None
+given_back w j s a (Some p) n = reserving (with_slot w j same (Some (asked s a))) j None
 given_back w j s a None n = paid w j a n (holding s a None)
 
 abbrev pub unwind_by : State → ℕ → Option Frame → State
 unwind_by w j None = w
-unwind_by w j (Some (Entered f)) = turn w j same None
-unwind_by w j (Some (Parsed f)) = turn w j same None
-unwind_by w j (Some (Asked f)) = turn w j same None
+unwind_by w j (Some (Entered f)) = with_slot w j same None
+unwind_by w j (Some (Parsed f)) = with_slot w j same None
+unwind_by w j (Some (Asked f)) = with_slot w j same None
 unwind_by w j (Some (Holding f)) = given_back w j f.site f.ask f.page f.owes
 unwind_by w j (Some (Waiting f)) = paid w j f.ask f.owes (waiting f.site f.ask)
 unwind_by w j (Some (Moving f)) =
-    turn w j (with_held f.ask (Some (held_at f.place f.byte))) (Some (holding f.site f.ask None 2))
+    with_slot w j (with_held f.ask (Some (held_at f.place f.byte))) (Some (holding f.site f.ask None 2))
 unwind_by w j (Some (Ending f)) = settled w j f.site f.ask (due (mine w.mark j) f.owed.items)
 
 -- one step of unwinding

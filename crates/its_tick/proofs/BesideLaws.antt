@@ -35,7 +35,7 @@ use Rattle.its_stepped.specs.Forest.{Forest}
 use Rattle.its_stepped.specs.Quiet.{IsStill, AllQuiet}
 use Rattle.its_stepped.specs.SlotSame.{SlotSame}
 use Rattle.its_stepped.specs.Sound.{SoundFrame, SoundBy, Sound, Paged, most_owed}
-use Rattle.its_stepped.specs.State.{State, plain, seen, turn, same, reserving, entered, parsed, asked, holding, waiting}
+use Rattle.its_stepped.specs.State.{State, plain, seen, with_slot, same, reserving, entered, parsed, asked, holding, waiting}
 use Rattle.its_stepped.specs.Tick.{Ticked, helped_if, works, helps, user_on, unit_on, parsed_on, fetched_on, prepared_on, reserves, prepared_for, tried, tried_by, quarters, held_on, tick_in, tick_unless, tick_of, tick}
 use Rattle.its_stepped.specs.Unwind.{all_unwound}
 use Rattle.its_stepped.proofs.DecodingLaws.{decoding}
@@ -95,10 +95,10 @@ abbrev Row : State → ℕ → ℕ → Ticked → Type 0
 Row w j k t = Leaves w t.state j k t.pace
 
 -- a turn of another slot, or of its page
-turn_others : (w : State) (j k : ℕ) (h : Whole → Whole) (f : Option Frame) → k ≢ j → SlotSame w (turn w j h f) k
-turn_others w j k h f ne = record { job = on_slot_other w.raw.jobs j k h ne; frame = (changed_only w.frames j f).others k ne; page = refl }
+slot_others : (w : State) (j k : ℕ) (h : Whole → Whole) (f : Option Frame) → k ≢ j → SlotSame w (with_slot w j h f) k
+slot_others w j k h f ne = record { job = on_slot_other w.raw.jobs j k h ne; frame = (changed_only w.frames j f).others k ne; page = refl }
 
-page_others : (w : State) (j k : ℕ) (h : Whole → Whole) (f : Option Frame) (r : Option ℕ) → k ≢ j → SlotSame w (reserving (turn w j h f) j r) k
+page_others : (w : State) (j k : ℕ) (h : Whole → Whole) (f : Option Frame) (r : Option ℕ) → k ≢ j → SlotSame w (reserving (with_slot w j h f) j r) k
 page_others w j k h f r ne = record {
   job = on_slot_other w.raw.jobs j k h ne;
   frame = (changed_only w.frames j f).others k ne;
@@ -141,11 +141,11 @@ unit_beside : (w : State) (j k : ℕ) (q : Whole) (o : Outcome) → k ≢ j → 
     → unit q.core q.job ≡ o → Row w j k (unit_on w j o)
 unit_beside w j k q (Changed c x) ne sound is runs none d u =
     steps_alone w _ j k sound (disturbs_by (plain w) j k _ (transition_unit (plain w) j q (Changed c x) (seen_at w j q None is none ∙ ap Some (seen_none q)) runs d u))
-    (turn_others w j k (becomes c x) None ne)
+    (slot_others w j k (becomes c x) None ne)
 unit_beside w j k q (Faulted f) ne sound is runs none d u =
     steps_alone w _ j k sound (disturbs_by (plain w) j k _ (transition_unit (plain w) j q (Faulted f) (seen_at w j q None is none ∙ ap Some (seen_none q)) runs d u))
-    (turn_others w j k (faulted f) None ne)
-unit_beside w j k q (Called s) ne sound is runs none d u = turn_others w j k same (Some (entered s)) ne
+    (slot_others w j k (faulted f) None ne)
+unit_beside w j k q (Called s) ne sound is runs none d u = slot_others w j k same (Some (entered s)) ne
 
 informs_others : (b : Bool) (o : Option ℕ) (v : State) (j k : ℕ) → among k (informed_slots b o) ≡ false → SlotSame v (effects_on (informs b o) j v) k
 unfolding effect_on effect
@@ -170,7 +170,7 @@ user_beside w j k q true ne sound is runs none d =
           (slot_then w v (effects_on cs j v) k (all_unwound_others ks w k (sym whom ∙ t)) (informs_others n.stops q.superior v j k (sym whom ∙ t)));
       free = λ t. frames_none cs j v k (all_unwound_none ks w k sound (sym whom ∙ t));
     })
-    (turn_others (effects_on cs j v) j k (becomes n.core n.job) None ne)
+    (slot_others (effects_on cs j v) j k (becomes n.core n.job) None ne)
 
 shaped_fails : (c : Core) (s : Site) (f : Fault) → (decode.parsed c s.e).answer ≡ Err f → (shaped c s).answer ≡ Err f
 unfolding shaped
@@ -186,19 +186,19 @@ items_fail (Err g) f e = let is : g ≡ f = cc in ap Err is
 
 parsed_beside : (w : State) (j k : ℕ) (q : Whole) (s : Site) (r : Result (List ℕ) Fault) → k ≢ j → Sound w → (plain w).jobs j ≡ Some q → q.job.stopped ≡ false → deliverable q.job ≡ false
     → unit q.core q.job ≡ Called s → parse q.core s ≡ r → Row w j k (parsed_on w j s r)
-parsed_beside w j k q s (Ok b) ne sound is runs d u p = turn_others w j k same (Some (parsed s b)) ne
+parsed_beside w j k q s (Ok b) ne sound is runs d u p = slot_others w j k same (Some (parsed s b)) ne
 parsed_beside w j k q s (Err f) ne sound is runs d u p =
-    steps_alone w _ j k sound (disturbs_fault (plain w) j k q s f is runs d u (asks_none q.core s f p)) (turn_others w j k (faulted f) None ne)
+    steps_alone w _ j k sound (disturbs_fault (plain w) j k q s f is runs d u (asks_none q.core s f p)) (slot_others w j k (faulted f) None ne)
 
 fetched_beside : (w : State) (j k : ℕ) (q : Whole) (s : Site) (b : List ℕ) (r : Result Ask Fault) → k ≢ j → Sound w → (plain w).jobs j ≡ Some q → q.job.stopped ≡ false → deliverable q.job ≡ false
     → unit q.core q.job ≡ Called s → parse q.core s ≡ Ok b → fetch q.core s b ≡ r → Row w j k (fetched_on w j s r)
-fetched_beside w j k q s b (Ok a) ne sound is runs d u p e = turn_others w j k same (Some (asked s a)) ne
+fetched_beside w j k q s b (Ok a) ne sound is runs d u p e = slot_others w j k same (Some (asked s a)) ne
 fetched_beside w j k q s b (Err f) ne sound is runs d u p e =
-    steps_alone w _ j k sound (disturbs_fault (plain w) j k q s f is runs d u (asks q.core s b (Err f) p e)) (turn_others w j k (faulted f) None ne)
+    steps_alone w _ j k sound (disturbs_fault (plain w) j k q s f is runs d u (asks q.core s b (Err f) p e)) (slot_others w j k (faulted f) None ne)
 
 prepared_beside : (w : State) (j k : ℕ) (s : Site) (a : Ask) (b : Bool) → k ≢ j → SlotSame w (prepared_on w j s a b) k
 prepared_beside w j k s a true ne = page_others w j k same (Some (holding s a (Some 0) 0)) (Some 0) ne
-prepared_beside w j k s a false ne = turn_others w j k same (Some (holding s a None 0)) ne
+prepared_beside w j k s a false ne = slot_others w j k same (Some (holding s a None 0)) ne
 
 -- a call does its duty in every state that it can find. In this one all jobs are inside a call except for those that it
 -- reaches: so it changes none but these
@@ -291,15 +291,15 @@ changes_beside w v u j k s cs ne sound quiet h stays = record {
 decided_beside : (w v u : State) (j k : ℕ) (own : Whole) (s : Site) (a : Ask) (n : ℕ) (d : Decision) → k ≢ j → Sound w → Duty v j own s a n d → Duty u j own s a n d → FitsAll d j (plain v) → Forest (plain v)
     → u.raw ≡ v.raw → (Acts d → Finds w v u j k s) → Row w j k (tried w v j s a n d)
 unfolding committed
-decided_beside w v u j k own s a n (Waits r) ne sound dv du fits forest e h = turn_others w j k same (Some (waiting s a n)) ne
+decided_beside w v u j k own s a n (Waits r) ne sound dv du fits forest e h = slot_others w j k same (Some (waiting s a n)) ne
 decided_beside w v u j k own s a n (Goes cs b vs) ne sound dv du fits forest e h =
     steps_then w (effects_on cs.items j v) _ j k
     (changes_beside w v u j k s cs.items ne sound dv.quiet (h tt) (λ fr. effects_same cs.items j u v k (entered s) du.quiet dv.quiet fits forest e ne fr))
-    (turn_others (effects_on cs.items j v) j k same _ ne)
+    (slot_others (effects_on cs.items j v) j k same _ ne)
 decided_beside w v u j k own s a n (Ends cs ss x) ne sound dv du fits forest e h =
     steps_then w (effects_on cs.items j v) _ j k
     (changes_beside w v u j k s cs.items ne sound dv.quiet (h tt) (λ fr. effects_same cs.items j u v k (entered s) du.quiet dv.quiet fits forest e ne fr))
-    (turn_others (effects_on cs.items j v) j k same _ ne)
+    (slot_others (effects_on cs.items j v) j k same _ ne)
 decided_beside w v u j k own s a n (Gone cs) ne sound dv du fits forest e h =
     changes_beside w v u j k s (changes.Remove j ∷ cs.items) ne sound dv.quiet (h tt)
     (λ fr. gone_same cs.items j u v k (entered s) du.quiet dv.quiet fits.0 fits.1 forest e ne fr)
@@ -342,7 +342,7 @@ held_beside : (w : State) (j k : ℕ) (q : Whole) (s : Site) (a : Ask) (page : O
 held_beside w j k q s a None n ne sound forest t m = tried_beside w j k q s a n ne sound forest t (m tt)
 held_beside w j k q s a (Some p) n ne sound forest t m = go (nat_lt p quarters) refl
   where
-    go : (b : Bool) → nat_lt p quarters ≡ b → Row w j k (if b then works (reserving (turn w j same (Some (holding s a (Some (p + 1)) n))) j (Some (p + 1))) else tried_by w j (with_stores (debts a n) q) s a n)
+    go : (b : Bool) → nat_lt p quarters ≡ b → Row w j k (if b then works (reserving (with_slot w j same (Some (holding s a (Some (p + 1)) n))) j (Some (p + 1))) else tried_by w j (with_stores (debts a n) q) s a n)
     go true e = page_others w j k same (Some (holding s a (Some (p + 1)) n)) (Some (p + 1)) ne
     go false e = tried_beside w j k q s a n ne sound forest t (m e)
 

@@ -25,13 +25,13 @@ use Rattle.its_plain.specs.Footprint.{SiteFits}
 use Rattle.its_plain.specs.Job.{bit_of, with_pending}
 use Rattle.its_plain.specs.Machine.{Whole}
 use Rattle.its_stepped.specs.Sound.{Standing, SoundBy}
-use Rattle.its_stepped.specs.State.{State, plain, seen, turn, same, parsed, asked, holding, reserving}
+use Rattle.its_stepped.specs.State.{State, plain, seen, with_slot, same, parsed, asked, holding, reserving}
 use Rattle.its_stepped.specs.Tick.{Ticked, works, faults_on, parsed_on, fetched_on, reserves, tick_in, prepared_on, held_on, tried_by}
 use Rattle.its_world.specs.Tidy.{Tidy}
 use Rattle.its_world.specs.World.{alarm_at, state_of, raw_of, raw_at, frame_at, Becomes, JobBecomes, FrameBecomes, PageBecomes}
 use Rattle.its_world.specs.declared.world.World.{World}
 use Rattle.its_world.proofs.SiteLaws.{site_fits, block_words}
-use Rattle.its_world.proofs.StateLaws.{kept_turn, retaken, turned_state, kept_state}
+use Rattle.its_world.proofs.StateLaws.{kept_slot, retaken, turned_state, kept_state}
 use Rattle.its_commit.proofs.TidyLaws.{becomes_pages, tidy_kept}
 use Rattle.its_pclsr.proofs.RowLaws.{paged_becomes}
 use Rattle.its_pclsr.proofs.UnwindingLaws.{stands_at}
@@ -100,7 +100,7 @@ frame_next (Ok g) = Some g
 frame_next (Err f) = None
 
 abbrev part_on : State → ℕ → Result Frame Fault → Ticked
-part_on w s (Ok g) = works (turn w s same (Some g))
+part_on w s (Ok g) = works (with_slot w s same (Some g))
 part_on w s (Err f) = faults_on w s f
 
 pub record Part (old mid : World) (s : ℕ) (r : Result (Unit {0}) Fault) : Type 0 where
@@ -206,12 +206,12 @@ none_by (Err f) (Ok x) g e h = absurd cc
 row_by : (old mid : World) (v : State) (s : ℕ) (r : Result (Unit {0}) Fault) (n : Result Frame Fault) (p : Pace) → is_some (job_at old.jobs s) ≡ true → fault_of r ≡ fault_of n
     → FrameBecomes old mid s (frame_next n) → v ≡ state_decoded (state_of mid) s r → p ≡ pace_decoded r → part_on (state_of old) s n ≡ ticked v p
 row_by old mid v s (Ok u) (Ok g) p j f b h e =
-    let is : turn (state_of old) s same (Some g) ≡ v = sym (kept_turn old mid s (Some g) j b) ∙ sym h in λ i. record { state = is i; pace = sym e i }
+    let is : with_slot (state_of old) s same (Some g) ≡ v = sym (kept_slot old mid s (Some g) j b) ∙ sym h in λ i. record { state = is i; pace = sym e i }
 row_by old mid v s (Err x) (Err y) p j f b h e =
     let one : x ≡ y = cc in
-    let is : turn (state_of old) s (faulted y) None ≡ v =
-    sym (h ∙ ap (λ (u : State). turn u s (faulted x) None) (kept_turn old mid s None j b) ∙ retaken (state_of old) s None None (faulted x)
-    ∙ ap (λ (z : Fault). turn (state_of old) s (faulted z) None) one) in
+    let is : with_slot (state_of old) s (faulted y) None ≡ v =
+    sym (h ∙ ap (λ (u : State). with_slot u s (faulted x) None) (kept_slot old mid s None j b) ∙ retaken (state_of old) s None None (faulted x)
+    ∙ ap (λ (z : Fault). with_slot (state_of old) s (faulted z) None) one) in
     λ i. record { state = is i; pace = sym e i }
 row_by old mid v s (Ok u) (Err y) p j f b h e = absurd cc
 row_by old mid v s (Err x) (Ok g) p j f b h e = absurd cc
@@ -277,7 +277,7 @@ page_prepared old mid new s t a j e page frame =
 
 pub none_prepared : (old new : World) (s : ℕ) (t : Site) (a : Ask) → is_some (job_at old.jobs s) ≡ true → reserves a ≡ false → FrameBecomes old new s (Some (holding t a None 0))
     → state_of new ≡ prepared_on (state_of old) s t a (reserves a)
-none_prepared old new s t a j e frame = kept_turn old new s (Some (holding t a None 0)) j frame ∙ ap (prepared_on (state_of old) s t a) (sym e)
+none_prepared old new s t a j e frame = kept_slot old new s (Some (holding t a None 0)) j frame ∙ ap (prepared_on (state_of old) s t a) (sym e)
 
 module _ (old : World) (s : ℕ) (b : Bool) (x : Asking old s b) (k : Kept old) where
   asked_job : is_some (job_at old.jobs s) ≡ true
@@ -319,10 +319,10 @@ held_page (Some q) (Some (Holding i)) r f h e = h.pays.page_is ∙ (let same : i
 held_page (Some q) _ r f h e = cc
 
 held_quarter : (w : State) (j : ℕ) (own : Whole) (s : Site) (a : Ask) (page : Option ℕ) (n c : ℕ) → page ≡ Some c → c < 4
-    → held_on w j own s a page n ≡ works (reserving (turn w j same (Some (holding s a (Some (c + 1)) n))) j (Some (c + 1)))
+    → held_on w j own s a page n ≡ works (reserving (with_slot w j same (Some (holding s a (Some (c + 1)) n))) j (Some (c + 1)))
 held_quarter w j own s a page n c e l =
     ap (λ (x : Option ℕ). held_on w j own s a x n) e
-    ∙ ap (λ (b : Bool). if b then works (reserving (turn w j same (Some (holding s a (Some (c + 1)) n))) j (Some (c + 1))) else tried_by w j own s a n) (lt-ltb c 4 l)
+    ∙ ap (λ (b : Bool). if b then works (reserving (with_slot w j same (Some (holding s a (Some (c + 1)) n))) j (Some (c + 1))) else tried_by w j own s a n) (lt-ltb c 4 l)
 
 -- the next quarter of its page is to be cleared
 pub record Clearing (w : World) (s c n : ℕ) : Type 0 where
@@ -359,16 +359,16 @@ module _ (old : World) (s c n : ℕ) (x : Clearing old s c n) (k : Kept old) whe
   unfolding seen
   cleared_row mid new l paged framed =
       let g : Option Frame = Some (holding x.frame.site x.frame.ask (Some (c + 1)) n) in
-      let is : state_of new ≡ reserving (turn (state_of old) s same g) s (Some (c + 1)) =
+      let is : state_of new ≡ reserving (with_slot (state_of old) s same g) s (Some (c + 1)) =
       kept_state old new s g (Some (c + 1)) (stands_at old s (Holding x.frame) k.sound x.is).0 (paged_becomes old mid new s (Some (c + 1)) g paged framed) in
       all_some (raw_at old.files old.core old.jobs old.alarms.items s) (λ q. tick_in (state_of old) s q (frame_at old.frames.items s) ≡ ticked (state_of new) Work)
       (λ q. ap (tick_in (state_of old) s q) x.is
       ∙ held_quarter (state_of old) s (seen (Some (Holding x.frame)) q) x.frame.site x.frame.ask x.frame.page x.frame.owes c x.page l
-      ∙ ap (λ (m : ℕ). works (reserving (turn (state_of old) s same (Some (holding x.frame.site x.frame.ask (Some (c + 1)) m))) s (Some (c + 1)))) x.owes
+      ∙ ap (λ (m : ℕ). works (reserving (with_slot (state_of old) s same (Some (holding x.frame.site x.frame.ask (Some (c + 1)) m))) s (Some (c + 1)))) x.owes
       ∙ ap works (sym is))
 
 pub fault_set : (old new : World) (s : ℕ) (j : Job) (o : Option Job) (f : Fault) → frame_at old.frames.items s ≡ None → o ≡ job_at old.jobs s → o ≡ Some j
-    → JobBecomes old new s (with_pending j (bit_of f)) → state_of new ≡ turn (state_of old) s (faulted f) None
+    → JobBecomes old new s (with_pending j (bit_of f)) → state_of new ≡ with_slot (state_of old) s (faulted f) None
 fault_set old new s j o f none e i b =
     turned_state old new s (core_at old.core s) (with_pending j (bit_of f)) j None (faulted f)
     (subst (λ g. Becomes old new s (core_at old.core s) (Some (with_pending j (bit_of f))) g (clear_at old.core s)) none b)

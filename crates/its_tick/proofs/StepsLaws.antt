@@ -18,7 +18,7 @@ use Rattle.its_plain.specs.Unit.{Outcome, Changed, Faulted, Called, unit}
 use Rattle.its_plain.proofs.MachineLaws.{machine_is}
 use Rattle.its_stepped.specs.Lines.{paces_of, ticked}
 use Rattle.its_stepped.specs.Sound.{Sound}
-use Rattle.its_stepped.specs.State.{State, plain, turn}
+use Rattle.its_stepped.specs.State.{State, plain, with_slot}
 use Rattle.its_stepped.specs.Tick.{Ticked, steps, tick, tick_in, tick_of, tick_unless, unit_on, user_on}
 use Rattle.its_stepped.proofs.DecodingLaws.{decoding}
 use Rattle.its_stepped.proofs.FrameLaws.{changed_only, on_slot_here}
@@ -52,8 +52,8 @@ latest : {X : Type 0} (b : Bool) (x y z : X) → (if b then x else (if b then y 
 latest true x y z = refl
 latest false x y z = refl
 
-turn_then : (w : State) (s : ℕ) (h g : Whole → Whole) (f e : Option Frame) → turn (turn w s h f) s g e ≡ turn w s (λ q. g (h q)) e
-turn_then w s h g f e = state_is _ _
+slot_then : (w : State) (s : ℕ) (h g : Whole → Whole) (f e : Option Frame) → with_slot (with_slot w s h f) s g e ≡ with_slot w s (λ q. g (h q)) e
+slot_then w s h g f e = state_is _ _
     (machine_is _ _ (λ k. twice (k == s) (w.raw.jobs k) h g) (λ k. refl) (λ k. refl) refl refl refl (λ k. refl) (λ k. refl))
     (λ k. latest (k == s) e f (w.frames k))
     (λ k. refl)
@@ -62,8 +62,8 @@ turn_then w s h g f e = state_is _ _
 mapped_here : (o : Option Whole) (q : Whole) (h g : Whole → Whole) → o ≡ Some q → h q ≡ g q → option_map h o ≡ option_map g o
 mapped_here o q h g is e = ap (option_map h) is ∙ ap Some e ∙ sym (ap (option_map g) is)
 
-turn_alike : (w : State) (s : ℕ) (q : Whole) (h g : Whole → Whole) (f : Option Frame) → w.raw.jobs s ≡ Some q → h q ≡ g q → turn w s h f ≡ turn w s g f
-turn_alike w s q h g f is e = state_is _ _
+slot_alike : (w : State) (s : ℕ) (q : Whole) (h g : Whole → Whole) (f : Option Frame) → w.raw.jobs s ≡ Some q → h q ≡ g q → with_slot w s h f ≡ with_slot w s g f
+slot_alike w s q h g f is e = state_is _ _
     (machine_is _ _
     (λ k. elim (cases_Bool (k == s)) [
       | inl t ↦ let n : k ≡ s = grind (arith, nat_tests) in rw t (mapped_here (w.raw.jobs k) q h g (ap w.raw.jobs n ∙ is) e)
@@ -74,8 +74,8 @@ turn_alike w s q h g f is e = state_is _ _
     (λ k. refl)
     refl
 
-pub turn_nothing : (w : State) (s : ℕ) (q : Whole) (h : Whole → Whole) (f : Option Frame) → w.raw.jobs s ≡ Some q → h q ≡ q → w.frames s ≡ f → w ≡ turn w s h f
-turn_nothing w s q h f is e free = state_is _ _
+pub slot_nothing : (w : State) (s : ℕ) (q : Whole) (h : Whole → Whole) (f : Option Frame) → w.raw.jobs s ≡ Some q → h q ≡ q → w.frames s ≡ f → w ≡ with_slot w s h f
+slot_nothing w s q h f is e free = state_is _ _
     (machine_is _ _
     (λ k. elim (cases_Bool (k == s)) [
       | inl t ↦ let n : k ≡ s = grind (arith, nat_tests) in rw t (ap w.raw.jobs n ∙ is ∙ sym (ap (option_map h) (ap w.raw.jobs n ∙ is) ∙ ap Some e))
@@ -111,33 +111,33 @@ unit_tick w s p l r quiet =
     ∙ ap (user_on w s q) (deliverable_bare l.job ∙ quiet)
     ∙ ap (unit_on w s) (unit_bare l.core l.job)
 
-outcome_turn : (w : State) (s : ℕ) (p : Whole) (l m : Left) (o : Outcome) → Runs w s p l → after_outcome o l.core l.job ≡ Some m → unit_on w s (bare_outcome o) ≡ steps (turn w s (with_left m) None)
-outcome_turn w s p l m (Changed d k) r e =
+outcome_slot : (w : State) (s : ℕ) (p : Whole) (l m : Left) (o : Outcome) → Runs w s p l → after_outcome o l.core l.job ≡ Some m → unit_on w s (bare_outcome o) ≡ steps (with_slot w s (with_left m) None)
+outcome_slot w s p l m (Changed d k) r e =
     let is : left d k ≡ m = cc in
-    ap (λ (x : Left). steps (turn w s (with_left x) None)) is
-outcome_turn w s p l m (Faulted f) r e =
+    ap (λ (x : Left). steps (with_slot w s (with_left x) None)) is
+outcome_slot w s p l m (Faulted f) r e =
     let is : left l.core (with_pending l.job (bit_of f)) ≡ m = cc in
-    ap steps (turn_alike w s (with_left l p) (faulted f) (with_left (left l.core (with_pending l.job (bit_of f)))) None r.there refl)
-    ∙ ap (λ (x : Left). steps (turn w s (with_left x) None)) is
-outcome_turn w s p l m (Called x) r e = absurd cc
+    ap steps (slot_alike w s (with_left l p) (faulted f) (with_left (left l.core (with_pending l.job (bit_of f)))) None r.there refl)
+    ∙ ap (λ (x : Left). steps (with_slot w s (with_left x) None)) is
+outcome_slot w s p l m (Called x) r e = absurd cc
 
-unit_turn : (w : State) (s : ℕ) (p : Whole) (l m : Left) → Runs w s p l → after_unit (Some l) ≡ Some m → tick w s ≡ steps (turn w s (with_left m) None)
-unit_turn w s p l m r e = go (deliverable l.job) refl e
+unit_slot : (w : State) (s : ℕ) (p : Whole) (l m : Left) → Runs w s p l → after_unit (Some l) ≡ Some m → tick w s ≡ steps (with_slot w s (with_left m) None)
+unit_slot w s p l m r e = go (deliverable l.job) refl e
   where
-    go : (b : Bool) → deliverable l.job ≡ b → unit_unless b l ≡ Some m → tick w s ≡ steps (turn w s (with_left m) None)
+    go : (b : Bool) → deliverable l.job ≡ b → unit_unless b l ≡ Some m → tick w s ≡ steps (with_slot w s (with_left m) None)
     go true d e = absurd cc
-    go false d e = unit_tick w s p l r d ∙ outcome_turn w s p l m (unit l.core l.job) r e
+    go false d e = unit_tick w s p l r d ∙ outcome_slot w s p l m (unit l.core l.job) r e
 
 -- n units are n ticks
 record Ticks (w : State) (s n : ℕ) (m : Left) : Type 0 where
-  state : ticked w s n ≡ turn w s (with_left m) None
+  state : ticked w s n ≡ with_slot w s (with_left m) None
   paces : paces_of w s n ≡ replicate n Step
 
 then_ticked : (n : ℕ) (w : State) (s : ℕ) (p : Whole) (l m : Left) → Runs w s p l → ((v : State) (k : Left) → Runs v s p k → after_units n (Some k) ≡ Some m → Ticks v s n m)
     → (o : Option Left) → after_unit (Some l) ≡ o → after_units n o ≡ Some m → Ticks w s (suc n) m
 then_ticked n w s p l m r more (Some k) is e =
-    let v : State = turn w s (with_left k) None in
-    let t : tick w s ≡ steps v = unit_turn w s p l k r is in
+    let v : State = with_slot w s (with_left k) None in
+    let t : tick w s ≡ steps v = unit_slot w s p l k r is in
     let h : Runs v s p k = record {
       there = on_slot_here w.raw.jobs s (with_left k) ∙ ap (option_map (with_left k)) r.there;
       runs = (unless_keeps (deliverable l.job) l k is).stopped ∙ r.runs;
@@ -145,7 +145,7 @@ then_ticked n w s p l m r more (Some k) is e =
     } in
     let rest = more v k h e in
     record {
-      state = ap (λ (x : Ticked). ticked x.state s n) t ∙ rest.state ∙ turn_then w s (with_left k) (with_left m) None None;
+      state = ap (λ (x : Ticked). ticked x.state s n) t ∙ rest.state ∙ slot_then w s (with_left k) (with_left m) None None;
       paces = ap (λ (x : Ticked). x.pace ∷ paces_of x.state s n) t ∙ ap (λ ps. Step ∷ ps) rest.paces;
     }
 then_ticked n w s p l m r more None is e = let z = no_units n in absurd cc
@@ -153,7 +153,7 @@ then_ticked n w s p l m r more None is e = let z = no_units n in absurd cc
 units_ticked : (n : ℕ) (w : State) (s : ℕ) (p : Whole) (l m : Left) → Runs w s p l → after_units n (Some l) ≡ Some m → Ticks w s n m
 units_ticked zero w s p l m r e =
     let is : l ≡ m = cc in
-    record { state = turn_nothing w s (with_left l p) (with_left l) None r.there refl r.free ∙ ap (λ (x : Left). turn w s (with_left x) None) is; paces = refl }
+    record { state = slot_nothing w s (with_left l p) (with_left l) None r.there refl r.free ∙ ap (λ (x : Left). with_slot w s (with_left x) None) is; paces = refl }
 units_ticked (suc n) w s p l m r e = then_ticked n w s p l m r (λ v k h u. units_ticked n v s p k m h u) (after_unit (Some l)) refl e
 
 -- what the units of a slot's job make of a world
@@ -260,7 +260,7 @@ module _ (old new : World) (s n k : ℕ) (j : Job) (m : UnitsMade old new s n k)
   ticks : Ticks (state_of old) s n m.left
   ticks = units_ticked n (state_of old) s rest start m.left runs m.is
 
-  turns : state_of new ≡ turn (state_of old) s (with_left m.left) None
+  turns : state_of new ≡ with_slot (state_of old) s (with_left m.left) None
   turns =
       turned_state old new s m.left.core m.left.job m.job None (with_left m.left)
       (subst (λ (f : Option Frame). Becomes old new s m.left.core (Some m.left.job) f (clear_at old.core s)) none m.becomes) m.had
@@ -272,7 +272,7 @@ module _ (old new : World) (s n k : ℕ) (j : Job) (m : UnitsMade old new s n k)
   pub steps_most : n < k → unit_due (state_of new) s ≡ false
   steps_most h =
       ap (λ (w : State). unit_due w s) turns
-      ∙ due_at (turn (state_of old) s (with_left m.left) None) s (Some (with_left m.left rest)) None
+      ∙ due_at (with_slot (state_of old) s (with_left m.left) None) s (Some (with_left m.left rest)) None
       (on_slot_here (state_of old).raw.jobs s (with_left m.left) ∙ ap (option_map (with_left m.left)) runs.there) (changed_only (state_of old).frames s None).here
       ∙ left_due rest m.left ((units_keep n start m.left m.is).stopped ∙ runs.runs) (m.most h)
 

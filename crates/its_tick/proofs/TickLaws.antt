@@ -54,8 +54,8 @@ tick_at : (w : World) (s : ℕ) (o : Option Whole) → raw_at w.files w.core w.j
 unfolding tick state_of
 tick_at w s o e = ap (tick_of (state_of w) s) e
 
-pub turn_absent : (w : World) (s : ℕ) → job_at w.jobs s ≡ None → tick (state_of w) s ≡ ticked (state_of w) Off
-turn_absent w s none = tick_at w s None (raw_none w s none)
+pub tick_absent : (w : World) (s : ℕ) → job_at w.jobs s ≡ None → tick (state_of w) s ≡ ticked (state_of w) Off
+tick_absent w s none = tick_at w s None (raw_none w s none)
 
 tick_some : (w : World) (s : ℕ) (j : Job) (b : Bool) → job_at w.jobs s ≡ Some j → j.stopped ≡ b
     → tick (state_of w) s ≡ tick_unless (state_of w) s (raw_job w.files (core_at w.core s) j (superior_at w.jobs s) (alarm_at w.alarms.items s)) b
@@ -63,8 +63,8 @@ tick_some w s j b is h =
     let q : Whole = raw_job w.files (core_at w.core s) j (superior_at w.jobs s) (alarm_at w.alarms.items s) in
     tick_at w s (Some q) (raw_some w s j is) ∙ ap (tick_unless (state_of w) s q) h
 
-pub turn_stopped : (w : World) (s : ℕ) (j : Job) → job_at w.jobs s ≡ Some j → j.stopped ≡ true → tick (state_of w) s ≡ ticked (state_of w) Off
-turn_stopped w s j is h = tick_some w s j true is h
+pub tick_stopped : (w : World) (s : ℕ) (j : Job) → job_at w.jobs s ≡ Some j → j.stopped ≡ true → tick (state_of w) s ≡ ticked (state_of w) Off
+tick_stopped w s j is h = tick_some w s j true is h
 
 pub runs_by : (w : World) (s : ℕ) (j : Job) (f : Option Frame) (t : Ticked) → job_at w.jobs s ≡ Some j → j.stopped ≡ false → frame_at w.frames.items s ≡ f
     → IfSome (raw_at w.files w.core w.jobs w.alarms.items s) (λ q. tick_in (state_of w) s q f ≡ t) → tick (state_of w) s ≡ t
@@ -74,10 +74,10 @@ runs_by w s j f t is runs fr row =
     ∙ ap (tick_in (state_of w) s q) (frame_is w s ∙ fr)
     ∙ subst (λ (o : Option Whole). IfSome o (λ q. tick_in (state_of w) s q f ≡ t)) (raw_some w s j is) row
 
-pub turn_call : (old new : World) (s : ℕ) (j : Job) (p : Pace) → job_at old.jobs s ≡ Some j → j.stopped ≡ false
+pub tick_call : (old new : World) (s : ℕ) (j : Job) (p : Pace) → job_at old.jobs s ≡ Some j → j.stopped ≡ false
     → IfSome (raw_at old.files old.core old.jobs old.alarms.items s) (λ q. tick_in (state_of old) s q (frame_at old.frames.items s) ≡ ticked (state_of new) p)
     → tick (state_of old) s ≡ ticked (state_of new) p
-turn_call old new s j p is runs row = runs_by old s j (frame_at old.frames.items s) (ticked (state_of new) p) is runs refl row
+tick_call old new s j p is runs row = runs_by old s j (frame_at old.frames.items s) (ticked (state_of new) p) is runs refl row
 
 -- in user mode an interrupt is delivered, or a unit is executed
 deliverable_raw : (s : Store) (c : Core) (j : Job) (o : Option ℕ) (a : Option (ℕ × ℕ)) → deliverable (raw_job s c j o a).job ≡ deliverable j
@@ -96,14 +96,14 @@ delivered_row : (o : Option Whole) (v w : State) (s : ℕ) → IfSome o (λ q. v
 delivered_row (Some q) v w s h = ap (λ (x : State). ticked x Step) (sym h)
 delivered_row None v w s h = tt
 
-pub turn_delivery : (old new : World) (s : ℕ) (j : Job) → job_at old.jobs s ≡ Some j → j.stopped ≡ false → is_some (frame_at old.frames.items s) ≡ false → deliverable j ≡ true
+pub tick_delivery : (old new : World) (s : ℕ) (j : Job) → job_at old.jobs s ≡ Some j → j.stopped ≡ false → is_some (frame_at old.frames.items s) ≡ false → deliverable j ≡ true
     → IfSome (raw_at old.files old.core old.jobs old.alarms.items s) (λ q. state_of new ≡ delivered_on (state_of old) s q (delivered q.core q.job)) → tick (state_of old) s ≡ ticked (state_of new) Step
-turn_delivery old new s j is runs fr d row =
+tick_delivery old new s j is runs fr d row =
     user_by old s j true (ticked (state_of new) Step) is runs (none_is (frame_at old.frames.items s) fr) d (delivered_row (raw_at old.files old.core old.jobs old.alarms.items s) (state_of new) (state_of old) s row)
 
-pub turn_unit : (old new : World) (s : ℕ) (j : Job) (p : Pace) → job_at old.jobs s ≡ Some j → j.stopped ≡ false → is_some (frame_at old.frames.items s) ≡ false → deliverable j ≡ false
+pub tick_unit : (old new : World) (s : ℕ) (j : Job) (p : Pace) → job_at old.jobs s ≡ Some j → j.stopped ≡ false → is_some (frame_at old.frames.items s) ≡ false → deliverable j ≡ false
     → IfSome (raw_at old.files old.core old.jobs old.alarms.items s) (λ q. unit_on (state_of old) s (unit q.core q.job) ≡ ticked (state_of new) p) → tick (state_of old) s ≡ ticked (state_of new) p
-turn_unit old new s j p is runs fr d row = user_by old s j false (ticked (state_of new) p) is runs (none_is (frame_at old.frames.items s) fr) d row
+tick_unit old new s j p is runs fr d row = user_by old s j false (ticked (state_of new) p) is runs (none_is (frame_at old.frames.items s) fr) d row
 
 -- a tick is licensed by its letter
 given_of : (w : World) (s : ℕ) → Kept w → Given (state_of w) s

@@ -30,7 +30,7 @@ use Rattle.its_stepped.specs.Commit.{effect_on, effects_on}
 use Rattle.its_stepped.specs.Duty.{GivenBy}
 use Rattle.its_stepped.specs.SlotSame.{SlotSame}
 use Rattle.its_stepped.specs.Sound.{Sound}
-use Rattle.its_stepped.specs.State.{State, entered, same, turn}
+use Rattle.its_stepped.specs.State.{State, entered, same, with_slot}
 use Rattle.its_stepped.specs.Tick.{delivered_on, steps, unit_on, works}
 use Rattle.its_stepped.specs.Unwind.{all_unwound, unwound}
 use Rattle.its_stepped.proofs.DecodingLaws.{decoding}
@@ -42,7 +42,7 @@ use Rattle.its_world.specs.Tidy.{Tidy}
 use Rattle.its_world.specs.World.{symbols_at, alarm_at, bare, chan_of, chans_of, mark_of, raw_of, raw_at, frame_at, state_of, Becomes, CoreBecomes, FrameBecomes, JobBecomes, console_at, holder_at}
 use Rattle.its_world.specs.declared.world.World.{World}
 use Rattle.its_machine.proofs.BareLaws.{bare_delivered, bare_outcome, delivered_bare, delivered_channels, delivered_stops, unit_bare, unit_channels}
-use Rattle.its_world.proofs.StateLaws.{kept_turn, raw_job, raw_some, state_is, turned_state}
+use Rattle.its_world.proofs.StateLaws.{kept_slot, raw_job, raw_some, state_is, turned_state}
 use Rattle.its_world.proofs.WorldLaws.{then_becomes, alike, frames_still}
 use Rattle.its_world.proofs.PlaceLaws.{user_ringed}
 use Rattle.its_world.specs.Rings.{heads}
@@ -196,8 +196,8 @@ pub call_row : (old new : World) (s : ℕ) (x : Site) → is_some (job_at old.jo
     → FrameBecomes old new s (Some (entered x)) → IfSome (raw_at old.files old.core old.jobs old.alarms.items s) (λ q. unit_on (state_of old) s (unit q.core q.job) ≡ ticked (state_of new) Work)
 call_row old new s x some h b = go (job_at old.jobs s) refl h
   where
-    row : state_of new ≡ turn (state_of old) s same (Some (entered x))
-    row = kept_turn old new s (Some (entered x)) some b
+    row : state_of new ≡ with_slot (state_of old) s same (Some (entered x))
+    row = kept_slot old new s (Some (entered x)) some b
 
     go : (o : Option Job) → job_at old.jobs s ≡ o → IfSome o (λ j. unit (core_at old.core s) j ≡ Called x)
         → IfSome (raw_of old.files (core_at old.core s) (superior_at old.jobs s) (alarm_at old.alarms.items s) o) (λ q. unit_on (state_of old) s (unit q.core q.job) ≡ ticked (state_of new) Work)
@@ -228,8 +228,8 @@ put_at old new s j k is h = subst (λ (r : Option Job). IfSome r (λ i. JobBecom
 
 -- a delivery that does not stop the job
 delivered_by : (w : State) (s : ℕ) (q : Whole) (b : Bool) (d : Delivered) → d.stops ≡ b
-    → turn (effects_on (informs b q.superior) s (all_unwound (informed_slots b q.superior) w)) s (becomes d.core d.job) None ≡ delivered_on w s q d
-delivered_by w s q b d e = ap (λ (x : Bool). turn (effects_on (informs x q.superior) s (all_unwound (informed_slots x q.superior) w)) s (becomes d.core d.job) None) (sym e)
+    → with_slot (effects_on (informs b q.superior) s (all_unwound (informed_slots b q.superior) w)) s (becomes d.core d.job) None ≡ delivered_on w s q d
+delivered_by w s q b d e = ap (λ (x : Bool). with_slot (effects_on (informs x q.superior) s (all_unwound (informed_slots x q.superior) w)) s (becomes d.core d.job) None) (sym e)
 
 nobody_unwound : (w : State) (o : Option ℕ) → all_unwound (informed_slots false o) w ≡ w
 unfolding all_unwound
@@ -247,7 +247,7 @@ delivery_done old mid new s i j had none a e b quiet =
     (turned_state old new s d.core d.job i None (becomes d.core (bare d.job))
     (subst (λ (f : Option Frame). Becomes old new s d.core (Some d.job) f (clear_at old.core s)) none (put_then old mid new s d.core d.job a put)) had
     (becomes_raw old.files (core_at old.core s) d.core (superior_at old.jobs s) (alarm_at old.alarms.items s) i d.job (delivered_channels (core_at old.core s) i))
-    ∙ ap (λ (v : State). turn v s (becomes d.core (bare d.job)) None) (sym (nobody_unwound (state_of old) (superior_at old.jobs s)))
+    ∙ ap (λ (v : State). with_slot v s (becomes d.core (bare d.job)) None) (sym (nobody_unwound (state_of old) (superior_at old.jobs s)))
     ∙ delivered_by (state_of old) s q false (bare_delivered d) quiet
     ∙ ap (delivered_on (state_of old) s q) (sym (delivered_bare (core_at old.core s) i)))
 
@@ -384,6 +384,6 @@ stop_done old mid after new s i j had none kept b stops row e put =
     (turned_state after new s (core_at after.core s) k h.still.job None (becomes d.core (bare d.job))
     (subst (λ (f : Option Frame). Becomes after new s (core_at after.core s) (Some k) f (clear_at after.core s)) h.frame written) h.still.had
     (still_becomes after s q d h.still (delivered_stops c i stops))
-    ∙ ap (λ (v : State). turn v s (becomes d.core (bare d.job)) None) h.row
+    ∙ ap (λ (v : State). with_slot v s (becomes d.core (bare d.job)) None) h.row
     ∙ delivered_by (state_of old) s q true (bare_delivered d) stops
     ∙ ap (delivered_on (state_of old) s q) (sym (delivered_bare c i)))

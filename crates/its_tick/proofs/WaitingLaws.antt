@@ -48,7 +48,7 @@ use Rattle.its_tick.proofs.WaitsLaws.{Placed, placed, stands_there, stands_here,
 use Rattle.its_tick.specs.Pages.{pages_in, pages_ticked}
 use Rattle.its_tick.specs.Ticks.{is_waiting, ticked}
 use Rattle.its_tick.proofs.FramesLaws.{frames_call}
-use Rattle.its_tick.proofs.StepsLaws.{turn_nothing}
+use Rattle.its_tick.proofs.StepsLaws.{slot_nothing}
 use Rattle.its_tick.proofs.TickLaws.{runs_by}
 
 -- its tick, which leaves all as it was
@@ -57,7 +57,7 @@ waits_row : (w : State) (s : ℕ) (q : Whole) (f : Waiting) (r : Wait) → w.raw
 unfolding committed
 waits_row w s q f r is fr d =
     ap (tried w (prepared_for w s (seen (Some (frames.Waiting f)) q) f.ask) s f.site f.ask f.owes) d
-    ∙ ap (λ (v : State). ticked v Waited) (sym (turn_nothing w s q same (Some (waiting f.site f.ask f.owes)) is refl fr))
+    ∙ ap (λ (v : State). ticked v Waited) (sym (slot_nothing w s q same (Some (waiting f.site f.ask f.owes)) is refl fr))
 
 record IsWaiting (o : Option Frame) : Type 0 where
   frame : Waiting

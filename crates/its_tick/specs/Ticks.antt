@@ -23,7 +23,7 @@ use Rattle.its_plain.specs.Decide.{call_named, listed, with_below}
 use Rattle.its_plain.specs.Machine.{Machine, Whole}
 use Rattle.its_plain.specs.Interrupt.{deliverable}
 use Rattle.its_plain.specs.Unit.{Outcome, Changed, Faulted, Called, unit}
-use Rattle.its_stepped.specs.State.{State, turn}
+use Rattle.its_stepped.specs.State.{State, with_slot}
 use Rattle.its_stepped.specs.Tick.{Ticked}
 use Rattle.its_world.specs.Filed.{Blocked}
 use Rattle.its_world.specs.World.{frame_at, Becomes}
@@ -87,7 +87,7 @@ asked_in _ = None
 -- a part of the decoding, whose frame is there: at a fault its bit is set
 abbrev pub state_decoded : State → ℕ → Result (Unit {0}) Fault → State
 state_decoded w s (Ok u) = w
-state_decoded w s (Err f) = turn w s (faulted f) None
+state_decoded w s (Err f) = with_slot w s (faulted f) None
 
 abbrev pub pace_decoded : Result (Unit {0}) Fault → Pace
 pace_decoded (Ok u) = Work

@@ -10,7 +10,7 @@ ghost use Rattle.its_commit.specs.Carried.{standing_of};
 ghost use Rattle.its_plain.specs.CallStep.{decision, faulted};
 ghost use Rattle.its_stepped.specs.Forest.{Forest};
 ghost use Rattle.its_stepped.specs.Duty.{IsTried};
-ghost use Rattle.its_stepped.specs.State.{turn};
+ghost use Rattle.its_stepped.specs.State.{with_slot};
 ghost use Rattle.its_stepped.specs.Tick.{helps, reserves, tick_in};
 ghost use Rattle.its_stepped.specs.Unwind.{unwind_one as unwind_one_of};
 ghost use Rattle.its_world.specs.World.{frame_at, frames_after, raw_at, state_of, PageBecomes};
@@ -128,7 +128,7 @@ fn set_fault(w: &mut World, slot: u8, fault: Fault)
     requires job { is_some (job_at w.old.jobs slot) ≡ true }
     requires frame { frame_at w.old.frames.items slot ≡ None }
     requires tidy { Tidy w.old }
-    ensures row { state_of w.new ≡ turn (state_of w.old) slot (faulted fault) None }
+    ensures row { state_of w.new ≡ with_slot (state_of w.old) slot (faulted fault) None }
     ensures pages { w.new.core.frames ≡ w.old.core.frames }
     ensures tidy { Tidy w.new }
 {

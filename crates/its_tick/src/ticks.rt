@@ -67,13 +67,13 @@ fn go_on(w: &mut World, slot: u8) -> Pace
     ensures pages { w.new.core.frames ≡ pages_ticked (state_of w.old) slot w.old.core.frames }
     ensures kept { Kept w.new }
 {
-    turn(w, slot)
+    one_tick(w, slot)
 }
 
 /// What a tick does, and its letter.
 #[inline(always)]
-#[tactic(auto, using(crate::proofs::FramesLaws::frames_absent, crate::proofs::FramesLaws::frames_stopped, crate::proofs::TickLaws::turn_absent, crate::proofs::TickLaws::turn_stopped, crate::proofs::TickLaws::turn_call, crate::proofs::TickLaws::turn_delivery, crate::proofs::TickLaws::turn_unit))]
-fn turn(w: &mut World, slot: u8) -> Pace
+#[tactic(auto, using(crate::proofs::FramesLaws::frames_absent, crate::proofs::FramesLaws::frames_stopped, crate::proofs::TickLaws::tick_absent, crate::proofs::TickLaws::tick_stopped, crate::proofs::TickLaws::tick_call, crate::proofs::TickLaws::tick_delivery, crate::proofs::TickLaws::tick_unit))]
+fn one_tick(w: &mut World, slot: u8) -> Pace
     requires slot { slot < slots }
     requires kept { Kept w.old }
     ensures row { tick_of (state_of w.old) slot ≡ ticked (state_of w.new) result }

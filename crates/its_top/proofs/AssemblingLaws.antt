@@ -98,7 +98,7 @@ asm_failed left rest out e = record {
   unwritten = λ k. refl;
 }
 
-pub asm_beyond : (left rest out : Option (List ℕ)) → MadeFrom (Err unmades.Beyond) left rest → Asm statuses.TooLong left rest out out
+pub asm_beyond : (left rest out : Option (List ℕ)) → MadeFrom (Err unmades.TooLong) left rest → Asm statuses.TooLong left rest out out
 asm_beyond left rest out e = record {
   read = e.read;
   wrote = [];

@@ -19,7 +19,7 @@ use Rattle.its_reader.specs.Lines.{Ready}
 use Rattle.its_reader.specs.Items.{is_last, is_end, last_items, Finds, FoundSoFar, AllFound}
 use Rattle.its_reader.proofs.ItemsLaws as reader
 use Rattle.its_top.specs.declared.checking.Checked.{Checked}
-use Rattle.its_top.specs.declared.checking.Checked.TheVariants.{Ended, Beyond}
+use Rattle.its_top.specs.declared.checking.Checked.TheVariants.{Ended, TooLong}
 use Rattle.its_top.specs.Checking.{checked_from, checked, CheckedBy, CheckSoFar, FoundIn, Finding, GoesOn, Passes, Fails, checked_text, StatusFor, WroteText, CheckedAs, Reported, CheckOf, Check}
 use Rattle.its_top.specs.declared.status.Status.{Status}
 use Rattle.its_top.specs.declared.status.Status.TheVariants as statuses
@@ -137,7 +137,7 @@ reported_ok st c bytes old new p e t = record { ran = ran_by st statuses.Done by
 pub reported_refused : (st : Status) (c : Checked) (bytes : List ℕ) (old new : Option (List ℕ)) → Fails c → bytes ≡ checked_text c → WroteText st statuses.Refused bytes old new → Reported st c old new
 reported_refused st c bytes old new p e t = record { ran = ran_by st statuses.Refused bytes t.wrote tt t.complete; wrote = t.wrote; appended = t.appended; reported = refused_as st c bytes t.wrote p e t.complete }
 
-pub reported_beyond : (out : Option (List ℕ)) → Reported statuses.TooLong Beyond out out
+pub reported_beyond : (out : Option (List ℕ)) → Reported statuses.TooLong TooLong out out
 reported_beyond out = record { ran = tt; wrote = []; appended = Appends-nil out; reported = (refl, refl) }
 
 -- the end of a check

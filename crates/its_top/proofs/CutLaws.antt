@@ -9,7 +9,7 @@ use Rattle.its_plain.specs.Transcript.{at_start}
 use Rattle.its_plain.specs.Turns.{highest}
 use Rattle.its_reader.specs.TextLines.{in_front, lines_in}
 use Rattle.its_verify.specs.Accepted.{IsFirst}
-use Rattle.its_verify.specs.Judge.{Verdict, Yes, No, judged}
+use Rattle.its_verify.specs.Rulings.{Verdict, Yes, No, judged}
 use Rattle.its_verify.specs.Verified.{Answer, Judged, Long, Cut, TooLong, Parts, Both, LongLine, NoEnd, TooMany, bounded, by_parts, parts_from, verified, within}
 use Rattle.its_verify.proofs.BoundedLaws.{has_no, has_yes, long_past, no_has, past_long, yes_has}
 use Rattle.its_verify.proofs.LinesLaws.{concat_lines}

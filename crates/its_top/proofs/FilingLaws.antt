@@ -33,8 +33,8 @@ use Rattle.its_machine.proofs.StoreLaws.{changed_same}
 use Rattle.its_word.specs.Refusals.{reason_of}
 use Rattle.its_monitor.specs.Kept.{Lands, FileRefused}
 use Rattle.its_monitor.specs.Filing.{word_if, length_if}
-use Rattle.its_top.specs.declared.turn.Turn.{Turn}
-use Rattle.its_top.specs.declared.turn.Turn.TheVariants as turns
+use Rattle.its_top.specs.declared.flow.Flow.{Flow}
+use Rattle.its_top.specs.declared.flow.Flow.TheVariants as flows
 use Rattle.its_top.specs.Telling.{goes_on}
 use Rattle.its_top.specs.Answer.{WroteFor, Tells, Looked, Stood, AddSo, WritesSo}
 use Rattle.its_top.proofs.LoadingLaws.{front}
@@ -139,40 +139,40 @@ text_more : (l : Line) (ls : List Line) → text (l ∷ ls) ≡ text_of_line l +
 unfolding text
 text_more l ls = refl
 
-wrote_on : (turn : Turn) (bytes wrote : List ℕ) → goes_on turn ≡ true → WroteFor turn turns.On bytes wrote → bytes ≡ wrote
-wrote_on turns.On bytes wrote g c = c.1
+wrote_on : (flow : Flow) (bytes wrote : List ℕ) → goes_on flow ≡ true → WroteFor flow flows.On bytes wrote → bytes ≡ wrote
+wrote_on flows.On bytes wrote g c = c.1
 wrote_on _ bytes wrote g c = cc
 
-pub writes_next : (turn : Turn) (lines rest : List Line) (l : Line) (old now new : Option (List ℕ)) → goes_on turn ≡ true → WritesSo lines (l ∷ rest) old now → Tells turn turns.On (text_of_line l) now new
+pub writes_next : (flow : Flow) (lines rest : List Line) (l : Line) (old now new : Option (List ℕ)) → goes_on flow ≡ true → WritesSo lines (l ∷ rest) old now → Tells flow flows.On (text_of_line l) now new
     → WritesSo lines rest old new
-writes_next turn lines rest l old now new g w t = record {
+writes_next flow lines rest l old now new g w t = record {
   wrote = w.wrote ++ t.wrote;
   appended = Appends-trans old now new w.wrote t.wrote w.appended t.appended;
-  whole = w.whole ∙ ap (λ x. w.wrote ++ x) (text_more l rest) ∙ ap (λ x. w.wrote ++ (x ++ text rest)) (wrote_on turn (text_of_line l) t.wrote g t.complete)
+  whole = w.whole ∙ ap (λ x. w.wrote ++ x) (text_more l rest) ∙ ap (λ x. w.wrote ++ (x ++ text rest)) (wrote_on flow (text_of_line l) t.wrote g t.complete)
       ∙ sym (append_assoc w.wrote t.wrote (text rest));
 }
 
 -- a write that fails has begun what was to be written
-begun : (turn : Turn) (bytes wrote before behind : List ℕ) → goes_on turn ≡ false → WroteFor turn turns.On bytes wrote → WroteFor turn turns.On (before ++ (bytes ++ behind)) (before ++ wrote)
-begun turns.On bytes wrote before behind g c = cc
-begun turns.Ended bytes wrote before behind g c = absurd (let k : turns.Ended ≡ turns.On = c.0 in cc)
-begun turns.Refused bytes wrote before behind g c = absurd (let k : turns.Refused ≡ turns.On = c.0 in cc)
-begun turns.Beyond bytes wrote before behind g c = absurd (let k : turns.Beyond ≡ turns.On = c.0 in cc)
-begun turns.Fault bytes wrote before behind g c = (
+begun : (flow : Flow) (bytes wrote before behind : List ℕ) → goes_on flow ≡ false → WroteFor flow flows.On bytes wrote → WroteFor flow flows.On (before ++ (bytes ++ behind)) (before ++ wrote)
+begun flows.On bytes wrote before behind g c = cc
+begun flows.Ended bytes wrote before behind g c = absurd (let k : flows.Ended ≡ flows.On = c.0 in cc)
+begun flows.Refused bytes wrote before behind g c = absurd (let k : flows.Refused ≡ flows.On = c.0 in cc)
+begun flows.TooLong bytes wrote before behind g c = absurd (let k : flows.TooLong ≡ flows.On = c.0 in cc)
+begun flows.Fault bytes wrote before behind g c = (
   c.0 ++ behind,
   ap (λ x. before ++ (x ++ behind)) c.1 ∙ ap (λ x. before ++ x) (append_assoc wrote c.0 behind) ∙ sym (append_assoc before wrote (c.0 ++ behind)),
 )
 
-pub writes_cut : (turn : Turn) (lines rest : List Line) (l : Line) (old now new : Option (List ℕ)) → goes_on turn ≡ false → WritesSo lines (l ∷ rest) old now → Tells turn turns.On (text_of_line l) now new
-    → Tells turn turns.On (text lines) old new
-writes_cut turn lines rest l old now new g w t = record {
+pub writes_cut : (flow : Flow) (lines rest : List Line) (l : Line) (old now new : Option (List ℕ)) → goes_on flow ≡ false → WritesSo lines (l ∷ rest) old now → Tells flow flows.On (text_of_line l) now new
+    → Tells flow flows.On (text lines) old new
+writes_cut flow lines rest l old now new g w t = record {
   wrote = w.wrote ++ t.wrote;
   appended = Appends-trans old now new w.wrote t.wrote w.appended t.appended;
-  complete = subst (λ x. WroteFor turn turns.On x (w.wrote ++ t.wrote)) (sym (w.whole ∙ ap (λ x. w.wrote ++ x) (text_more l rest)))
-      (begun turn (text_of_line l) t.wrote w.wrote (text rest) g t.complete);
+  complete = subst (λ x. WroteFor flow flows.On x (w.wrote ++ t.wrote)) (sym (w.whole ∙ ap (λ x. w.wrote ++ x) (text_more l rest)))
+      (begun flow (text_of_line l) t.wrote w.wrote (text rest) g t.complete);
 }
 
-pub writes_end : (lines rest : List Line) (old now : Option (List ℕ)) → rest ≡ [] → WritesSo lines rest old now → Tells turns.On turns.On (text lines) old now
+pub writes_end : (lines rest : List Line) (old now : Option (List ℕ)) → rest ≡ [] → WritesSo lines rest old now → Tells flows.On flows.On (text lines) old now
 unfolding text
 writes_end lines rest old now e w = record {
   wrote = w.wrote;
@@ -181,24 +181,24 @@ writes_end lines rest old now e w = record {
 }
 
 -- a line, and then more lines
-then_by : (turn : Turn) (first more wrote : List ℕ) → WroteFor turn turns.On more wrote → WroteFor turn turns.On (first ++ more) (first ++ wrote)
-then_by turns.On first more wrote c = (refl, ap (λ x. first ++ x) c.1)
-then_by turns.Fault first more wrote c = (c.0, ap (λ x. first ++ x) c.1 ∙ sym (append_assoc first wrote c.0))
-then_by turns.Ended first more wrote c = absurd (let k : turns.Ended ≡ turns.On = c.0 in cc)
-then_by turns.Refused first more wrote c = absurd (let k : turns.Refused ≡ turns.On = c.0 in cc)
-then_by turns.Beyond first more wrote c = absurd (let k : turns.Beyond ≡ turns.On = c.0 in cc)
+then_by : (flow : Flow) (first more wrote : List ℕ) → WroteFor flow flows.On more wrote → WroteFor flow flows.On (first ++ more) (first ++ wrote)
+then_by flows.On first more wrote c = (refl, ap (λ x. first ++ x) c.1)
+then_by flows.Fault first more wrote c = (c.0, ap (λ x. first ++ x) c.1 ∙ sym (append_assoc first wrote c.0))
+then_by flows.Ended first more wrote c = absurd (let k : flows.Ended ≡ flows.On = c.0 in cc)
+then_by flows.Refused first more wrote c = absurd (let k : flows.Refused ≡ flows.On = c.0 in cc)
+then_by flows.TooLong first more wrote c = absurd (let k : flows.TooLong ≡ flows.On = c.0 in cc)
 
-pub tells_then : (first turn : Turn) (l : Line) (ls : List Line) (old mid new : Option (List ℕ)) → goes_on first ≡ true → Tells first turns.On (text_of_line l) old mid → Tells turn turns.On (text ls) mid new
-    → Tells turn turns.On (text (l ∷ ls)) old new
-tells_then first turn l ls old mid new g a b = record {
+pub tells_then : (first flow : Flow) (l : Line) (ls : List Line) (old mid new : Option (List ℕ)) → goes_on first ≡ true → Tells first flows.On (text_of_line l) old mid → Tells flow flows.On (text ls) mid new
+    → Tells flow flows.On (text (l ∷ ls)) old new
+tells_then first flow l ls old mid new g a b = record {
   wrote = a.wrote ++ b.wrote;
   appended = Appends-trans old mid new a.wrote b.wrote a.appended b.appended;
-  complete = subst (λ x. WroteFor turn turns.On x (a.wrote ++ b.wrote)) (sym (text_more l ls ∙ ap (λ x. x ++ text ls) (wrote_on first (text_of_line l) a.wrote g a.complete)))
-      (then_by turn a.wrote (text ls) b.wrote b.complete);
+  complete = subst (λ x. WroteFor flow flows.On x (a.wrote ++ b.wrote)) (sym (text_more l ls ∙ ap (λ x. x ++ text ls) (wrote_on first (text_of_line l) a.wrote g a.complete)))
+      (then_by flow a.wrote (text ls) b.wrote b.complete);
 }
 
-pub tells_cut : (turn : Turn) (l : Line) (ls : List Line) (old new : Option (List ℕ)) → goes_on turn ≡ false → Tells turn turns.On (text_of_line l) old new → Tells turn turns.On (text (l ∷ ls)) old new
-tells_cut turn l ls old new g t = writes_cut turn (l ∷ ls) ls l old old new g (writes_start (l ∷ ls) old) t
+pub tells_cut : (flow : Flow) (l : Line) (ls : List Line) (old new : Option (List ℕ)) → goes_on flow ≡ false → Tells flow flows.On (text_of_line l) old new → Tells flow flows.On (text (l ∷ ls)) old new
+tells_cut flow l ls old new g t = writes_cut flow (l ∷ ls) ls l old old new g (writes_start (l ∷ ls) old) t
 
 -- the lines of files, from the k-th on
 abbrev pub listed_from : ℕ → List File → ℕ → List Line
@@ -237,7 +237,7 @@ listing_none old now d k n none still e l h =
     omega (arith, past, e, l)
 
 pub listing_end : (d k n : ℕ) (fs : List File) (old now : Option (List ℕ)) → n ≡ length (files_in d fs) → k ≡ n → WritesSo (map filed_line (files_in d fs)) (listed_from d fs k) old now
-    → Tells turns.On turns.On (text (map filed_line (files_in d fs))) old now
+    → Tells flows.On flows.On (text (map filed_line (files_in d fs))) old now
 listing_end d k n fs old now e f w =
     let past : length (files_in d fs) ≤ k = omega (arith, e, f) in
     writes_end (map filed_line (files_in d fs)) (listed_from d fs k) old now (ap (map filed_line) (drop_all k (files_in d fs) past)) w
@@ -260,7 +260,7 @@ pub rows_next : (ws : List ℕ) (n row : ℕ) (old new : Option (List ℕ)) → 
     → WritesSo (rows n ws) (printed.Row (take 8 (drop (row * 8) ws)) ∷ rows_from ws n (row + 1)) old new
 rows_next ws n row old new h w = subst (λ ls. WritesSo (rows n ws) ls old new) (rows_more ws n row h) w
 
-pub rows_end : (ws : List ℕ) (n row : ℕ) (old new : Option (List ℕ)) → row ≡ n → WritesSo (rows n ws) (rows_from ws n row) old new → Tells turns.On turns.On (text (rows n ws)) old new
+pub rows_end : (ws : List ℕ) (n row : ℕ) (old new : Option (List ℕ)) → row ≡ n → WritesSo (rows n ws) (rows_from ws n row) old new → Tells flows.On flows.On (text (rows n ws)) old new
 rows_end ws n row old new e w =
     let none : n - row ≡ 0 = omega arith in
     writes_end (rows n ws) (rows_from ws n row) old new (ap (λ k. rows k (drop (row * 8) ws)) none) w

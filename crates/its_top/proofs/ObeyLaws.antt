@@ -107,7 +107,7 @@ pub check_too_long : (d : Option Command) (st : Status) (left rest old new : Opt
 check_too_long d st left rest old new o c e =
     let k = found_as st statuses.TooLong d left rest old new o c e (λ k. cc) in
     if_then left (λ bytes. CheckOf statuses.TooLong bytes k.read k.wrote) (λ bytes. CheckRunsOn bytes old new)
-    (λ bytes f. record { beyond = f.0; wrote = subst (Appends old new) f.1 k.appended }) k.found
+    (λ bytes f. record { too_long = f.0; wrote = subst (Appends old new) f.1 k.appended }) k.found
 
 told_breaks : (left rest old new : Option (List ℕ)) (k : Check statuses.ReadFault left rest old new) → IfSome left (λ bytes. CheckBreaks bytes rest old new)
 told_breaks None rest old new k = tt
@@ -131,7 +131,7 @@ not_failed c p f = by c p f
     by (checks.Ended n) p f = f
     by (checks.Open n) p f = f
     by (checks.Refused n r) p f = p
-    by checks.Beyond p f = p
+    by checks.TooLong p f = p
 
 passing : (st : Status) (bytes read w : List ℕ) → st ≢ statuses.ReadFault → st ≢ statuses.WriteFault → WasRun st → CheckOf st bytes read w → Passes (checked (events_of bytes)) → st ≡ statuses.Done
 passing statuses.Done bytes read w r k run f p = refl

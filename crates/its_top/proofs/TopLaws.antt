@@ -4,7 +4,7 @@ use Rattle.std.proofs.Common.{sym, ◌∙◌, ap, subst, inl, inr}
 use Rattle.std.specs.Io.KnownBytes.{Appends}
 use Rattle.its_print.specs.Printing.{Line, text}
 use Rattle.its_session.specs.Events.{events_of}
-use Rattle.its_plain.specs.Transcript.{Fate, Ended, Open, Lost, TooLong}
+use Rattle.its_plain.specs.Transcript.{Fate, Ended, Open, Refused, TooLong}
 use Rattle.its_plain.proofs.FairLaws.{fair_all}
 use Rattle.its_stepped.specs.Lines.{stepped}
 use Rattle.its_stepped.proofs.DecodingLaws.{decoding}
@@ -33,7 +33,7 @@ session_refused st None rest old new e s = tt
 session_refused st (Some bytes) rest old new e s =
     let t = subst (λ x. Session x (Some bytes) rest old new) e s in
     let f = t.concluded in
-    record { lost = f.1; wrote = subst (Appends old new) (sym f.0) t.appended }
+    record { refused = f.1; wrote = subst (Appends old new) (sym f.0) t.appended }
 
 pub session_too_long : (st : Status) (left rest old new : Option (List ℕ)) → st ≡ statuses.TooLong → Session st left rest old new → IfSome left (λ bytes. RunsOn bytes old new)
 session_too_long st None rest old new e s = tt
@@ -74,13 +74,13 @@ session_written st (Some bytes) rest old new (inr e) s = (session_too_long st (S
 done_answer : (f : Fate) → IsDone f → statuses.Done ≡ answer_of f
 done_answer Ended d = refl
 done_answer Open d = refl
-done_answer Lost d = absurd d
+done_answer Refused d = absurd d
 done_answer TooLong d = absurd d
 
 answered : (st : Status) (bytes : List ℕ) (rest old new : Option (List ℕ)) → ((st ≡ statuses.Done) ⊎ (st ≡ statuses.Refused)) ⊎ (st ≡ statuses.TooLong) → Session st (Some bytes) rest old new
     → st ≡ answer_of (stepped (events_of bytes)).fate
 answered st bytes rest old new (inl (inl e)) s = e ∙ done_answer _ (session_done st (Some bytes) rest old new e s).done
-answered st bytes rest old new (inl (inr e)) s = e ∙ ap answer_of (sym (session_refused st (Some bytes) rest old new e s).lost)
+answered st bytes rest old new (inl (inr e)) s = e ∙ ap answer_of (sym (session_refused st (Some bytes) rest old new e s).refused)
 answered st bytes rest old new (inr e) s = e ∙ ap answer_of (sym (session_too_long st (Some bytes) rest old new e s).too_long)
 
 -- the lines that the stepped machine shows of a session
@@ -137,7 +137,7 @@ pub session_complete : (st : Status) (left rest old new : Option (List ℕ)) →
     → IfSome left (λ bytes. IsDone (stepped (events_of bytes)).fate → st ≡ statuses.Done)
 session_complete st None rest old new r w s = tt
 session_complete statuses.Done (Some bytes) rest old new r w s = λ d. refl
-session_complete statuses.Refused (Some bytes) rest old new r w s = λ d. absurd (no_fate _ Lost d (s.concluded.1))
+session_complete statuses.Refused (Some bytes) rest old new r w s = λ d. absurd (no_fate _ Refused d (s.concluded.1))
 session_complete statuses.TooLong (Some bytes) rest old new r w s = λ d. absurd (no_fate _ TooLong d (s.concluded.1))
 session_complete statuses.ReadFault (Some bytes) rest old new r w s = absurd (r refl)
 session_complete statuses.WriteFault (Some bytes) rest old new r w s = absurd (w refl)

@@ -8,7 +8,7 @@ use Rattle.its_print.specs.Printing.{Refused, text, text_of_line}
 use Rattle.its_verify.specs.Finds.{Breaks, Found, ReadsOut}
 use Rattle.its_verify.specs.declared.keeping.Broken.TheVariants.{Source}
 use Rattle.its_verify.specs.TranscriptReader.{answer_of}
-use Rattle.its_verify.specs.Judge.{Yes, No}
+use Rattle.its_verify.specs.Rulings.{Yes, No}
 use Rattle.its_verify.specs.Verified.{Answer, Judged, Long, Cut, TooLong, answer_text, verified}
 use Rattle.its_verify.specs.declared.outcome.Outcome.{Outcome}
 use Rattle.its_verify.specs.declared.outcome.Outcome.TheVariants as outcomes
@@ -78,7 +78,7 @@ pub tells_cut : (st : Status) (n : ℕ) (old new : Option (List ℕ)) → WroteT
     → TellsAnswer st (answer_of (outcomes.Cut n)) old new
 tells_cut st n old new t = tells st statuses.Refused (Cut n) (text_of_line (Refused n reasons.Cut)) old new refl refl t
 
-pub tells_nothing : (out : Option (List ℕ)) → TellsAnswer statuses.TooLong (answer_of outcomes.Beyond) out out
+pub tells_nothing : (out : Option (List ℕ)) → TellsAnswer statuses.TooLong (answer_of outcomes.TooLong) out out
 tells_nothing out = record { wrote = []; appended = Appends-nil out; told = (refl, refl) }
 
 -- the end of a verification
@@ -108,7 +108,7 @@ read_out statuses.Done (outcomes.Yes n) left rest w h t e = h
 read_out statuses.Done (outcomes.No n) left rest w h t e = absurd (let k : statuses.Done ≡ statuses.Refused = t.0 in cc)
 read_out statuses.Done (outcomes.Long n) left rest w h t e = absurd (let k : statuses.Done ≡ statuses.Refused = t.0 in cc)
 read_out statuses.Done (outcomes.Cut n) left rest w h t e = absurd (let k : statuses.Done ≡ statuses.Refused = t.0 in cc)
-read_out statuses.Done outcomes.Beyond left rest w h t e = absurd (let k : statuses.Done ≡ statuses.TooLong = t.0 in cc)
+read_out statuses.Done outcomes.TooLong left rest w h t e = absurd (let k : statuses.Done ≡ statuses.TooLong = t.0 in cc)
 read_out st f left rest w h t e = cc
 
 pub verify_told : (st : Status) (f : Outcome) (left rest old new : Option (List ℕ)) → Found (Ok f) left rest → ReadsOut f left rest → TellsAnswer st (answer_of f) old new → Verify st left rest old new

@@ -12,7 +12,7 @@ use Rattle.its_stepped.proofs.DecodingLaws.{decoding}
 use Rattle.its_stepped.proofs.WrittenLaws.{written_transcript}
 use Rattle.its_verify.specs.Accepted.{Accepted}
 use Rattle.its_verify.specs.Lines.{Said, says}
-use Rattle.its_verify.specs.Judge.{Yes}
+use Rattle.its_verify.specs.Rulings.{Yes}
 use Rattle.its_verify.specs.Verified.{Judged, verified}
 use Rattle.its_verify.proofs.PartsLaws.{session_parts}
 use Rattle.its_verify.proofs.PrintedLaws.{tells_text}

@@ -19,40 +19,40 @@ use Rattle.its_plain.specs.OperatorJobs.{words_stored, examined}
 use Rattle.its_print.specs.Printing.{Line, text}
 use Rattle.its_world.specs.World.{state_of}
 use Rattle.its_world.specs.declared.world.World.{World}
-use Rattle.its_top.specs.declared.turn.Turn.{Turn}
-use Rattle.its_top.specs.declared.turn.Turn.TheVariants as turns
+use Rattle.its_top.specs.declared.flow.Flow.{Flow}
+use Rattle.its_top.specs.declared.flow.Flow.TheVariants as flows
 use Rattle.its_top.specs.Telling.{Answers, FollowsBy, CircledBy, after, said}
 
 -- the block of the slot that the last LOAD line made, and of the file that the last FILE line made
 abbrev pub block_of : ℕ → Names → Block
 block_of s f = record { slot = s; file = f }
 
--- these bytes were to be written, after which the turn would have been `good`
-abbrev pub WroteFor : Turn → Turn → List ℕ → List ℕ → Type 0
-WroteFor turns.Fault good bytes wrote = (more : List ℕ) × (bytes ≡ wrote ++ more)
-WroteFor turn good bytes wrote = (turn ≡ good) × (bytes ≡ wrote)
+-- these bytes were to be written, after which the flow would have been `good`
+abbrev pub WroteFor : Flow → Flow → List ℕ → List ℕ → Type 0
+WroteFor flows.Fault good bytes wrote = (more : List ℕ) × (bytes ≡ wrote ++ more)
+WroteFor flow good bytes wrote = (flow ≡ good) × (bytes ≡ wrote)
 
-pub record Tells (turn good : Turn) (bytes : List ℕ) (old new : Option (List ℕ)) : Type 0 where
+pub record Tells (flow good : Flow) (bytes : List ℕ) (old new : Option (List ℕ)) : Type 0 where
   pub wrote : List ℕ
   pub appended : Appends old new wrote
-  pub complete : WroteFor turn good bytes wrote
+  pub complete : WroteFor flow good bytes wrote
 
-pub record Answered (turn : Turn) (n : ℕ) (v : State) (b : Block) (e : Event) (v' : State) (b' : Block) (old new : Option (List ℕ)) : Type 0 where
+pub record Answered (flow : Flow) (n : ℕ) (v : State) (b : Block) (e : Event) (v' : State) (b' : Block) (old new : Option (List ℕ)) : Type 0 where
   pub wrote : List ℕ
   pub appended : Appends old new wrote
-  pub answers : Answers turn n v b e v' b' wrote
+  pub answers : Answers flow n v b e v' b' wrote
 
 -- a line and the turns that it asks for
-pub record Follows (turn : Turn) (n : ℕ) (v : State) (b : Block) (i : ℕ) (e : Event) (v' : State) (b' : Block) (j : ℕ) (old new : Option (List ℕ)) : Type 0 where
+pub record Follows (flow : Flow) (n : ℕ) (v : State) (b : Block) (i : ℕ) (e : Event) (v' : State) (b' : Block) (j : ℕ) (old new : Option (List ℕ)) : Type 0 where
   pub wrote : List ℕ
   pub appended : Appends old new wrote
-  pub follows : FollowsBy turn n v b i e v' b' j wrote
+  pub follows : FollowsBy flow n v b i e v' b' j wrote
 
 -- turns of a RUN
-pub record Circled (turn : Turn) (v : State) (i n q : ℕ) (v' : State) (j : ℕ) (old new : Option (List ℕ)) : Type 0 where
+pub record Circled (flow : Flow) (v : State) (i n q : ℕ) (v' : State) (j : ℕ) (old new : Option (List ℕ)) : Type 0 where
   pub wrote : List ℕ
   pub appended : Appends old new wrote
-  pub circled : CircledBy turn v i n q v' j wrote
+  pub circled : CircledBy flow v i n q v' j wrote
 
 -- k of n turns of q ticks were taken
 pub record CircleSo (v now : State) (i j n k q : ℕ) (old new : Option (List ℕ)) : Type 0 where

@@ -13,7 +13,7 @@ use Rattle.its_reader.specs.declared.items.Items.{Items}
 use Rattle.its_reader.specs.Limits.{WithinLimits}
 use Rattle.its_reader.specs.Items.{is_last, last_items, FoundSoFar, ReadOut}
 use Rattle.its_top.specs.declared.checking.Checked.{Checked}
-use Rattle.its_top.specs.declared.checking.Checked.TheVariants.{Ended, Open, Refused, Beyond}
+use Rattle.its_top.specs.declared.checking.Checked.TheVariants.{Ended, Open, Refused, TooLong}
 use Rattle.its_top.specs.declared.status.Status.{Status}
 use Rattle.its_top.specs.declared.status.Status.TheVariants as statuses
 use Rattle.its_top.specs.Counts.{count_line}
@@ -25,7 +25,7 @@ abbrev pub checked_from : ℕ → List Item → Checked
 checked_from n [] = Open (n - 1)
 checked_from n (Read e ∷ es) = if goes_on_after e then checked_from (n + 1) es else Ended n
 checked_from n (Unread r ∷ es) = Refused n r
-checked_from n (items.Beyond ∷ es) = Beyond
+checked_from n (items.Beyond ∷ es) = TooLong
 
 -- the items of a session
 unfoldable pub checked : List Item → Checked
@@ -36,28 +36,28 @@ abbrev pub checked_text : Checked → List ℕ
 checked_text (Ended n) = count_line (codes "OK") n
 checked_text (Open n) = count_line (codes "OK") n
 checked_text (Refused n r) = text_of_line (printed.Refused n r)
-checked_text Beyond = []
+checked_text TooLong = []
 
 -- no line is refused, and none past the most begins before END
 abbrev pub Passes : Checked → Type 0
 Passes (Ended n) = Unit {0}
 Passes (Open n) = Unit {0}
 Passes (Refused n r) = ⊥
-Passes Beyond = ⊥
+Passes TooLong = ⊥
 
 -- a line is refused
 abbrev pub Fails : Checked → Type 0
 Fails (Refused n r) = Unit {0}
 Fails (Ended n) = ⊥
 Fails (Open n) = ⊥
-Fails Beyond = ⊥
+Fails TooLong = ⊥
 
 -- no line is refused or is END
 abbrev pub GoesOn : Checked → Type 0
 GoesOn (Open n) = Unit {0}
 GoesOn (Ended n) = ⊥
 GoesOn (Refused n r) = ⊥
-GoesOn Beyond = ⊥
+GoesOn TooLong = ⊥
 
 -- the result of what was found: nothing yet, or the end of the check
 abbrev pub CheckedBy : Option Checked → ℕ → Found → Type 0
@@ -95,7 +95,7 @@ pub record WroteText (status good : Status) (bytes : List ℕ) (old new : Option
 abbrev pub CheckedAs : Status → Checked → List ℕ → Type 0
 CheckedAs statuses.Done c w = Passes c × (checked_text c ≡ w)
 CheckedAs statuses.Refused c w = Fails c × (checked_text c ≡ w)
-CheckedAs statuses.TooLong c w = (c ≡ Beyond) × (w ≡ [])
+CheckedAs statuses.TooLong c w = (c ≡ TooLong) × (w ≡ [])
 CheckedAs statuses.WriteFault c w = (more : List ℕ) × (checked_text c ≡ w ++ more)
 CheckedAs statuses.Usage c w = ⊥
 CheckedAs statuses.ReadFault c w = ⊥

@@ -9,26 +9,26 @@ use Rattle.its_reader.specs.declared.items.Items.{Items}
 use Rattle.its_reader.specs.Limits.{WithinLimits}
 use Rattle.its_reader.specs.Items.{is_last, is_end, last_items, FoundSoFar, ReadOut}
 use Rattle.its_plain.specs.Operator.{Block}
-use Rattle.its_plain.specs.Transcript.{Fate, Ended, Open, Lost, TooLong}
+use Rattle.its_plain.specs.Transcript.{Fate, Ended, Open, Refused, TooLong}
 use Rattle.its_stepped.specs.State.{State}
 use Rattle.its_stepped.specs.Lines.{stepped}
 use Rattle.its_top.specs.declared.status.Status.{Status}
 use Rattle.its_top.specs.declared.status.Status.TheVariants as statuses
-use Rattle.its_top.specs.declared.turn.Turn.{Turn}
-use Rattle.its_top.specs.declared.turn.Turn.TheVariants as turns
+use Rattle.its_top.specs.declared.flow.Flow.{Flow}
+use Rattle.its_top.specs.declared.flow.Flow.TheVariants as flows
 use Rattle.its_top.specs.Telling.{Says, said, after, saying, BeginsText, session_says}
 
 -- no line was refused, and none past the most began
 abbrev pub IsDone : Fate → Type 0
 IsDone Ended = Unit {0}
 IsDone Open = Unit {0}
-IsDone Lost = ⊥
+IsDone Refused = ⊥
 IsDone TooLong = ⊥
 
 -- a session that says this and wrote w has this status
 abbrev pub Finished : Status → Says → List ℕ → Type 0
 Finished statuses.Done s w = (s.text ≡ w) × IsDone s.fate
-Finished statuses.Refused s w = (s.text ≡ w) × (s.fate ≡ Lost)
+Finished statuses.Refused s w = (s.text ≡ w) × (s.fate ≡ Refused)
 Finished statuses.TooLong s w = (s.text ≡ w) × (s.fate ≡ TooLong)
 Finished statuses.WriteFault s w = BeginsText s w
 Finished statuses.Usage s w = ⊥
@@ -69,25 +69,25 @@ pub record SoFar (r : Items) (n : ℕ) (v : State) (b : Block) (i : ℕ) (left r
   pub appended : Appends old new wrote
   pub says : (behind : List Item) → said (stepped (items ++ behind)) ≡ after wrote (session_says n v b i behind)
 
-abbrev pub status_of : Turn → Status
-status_of turns.On = statuses.Done
-status_of turns.Ended = statuses.Done
-status_of turns.Refused = statuses.Refused
-status_of turns.Beyond = statuses.TooLong
-status_of turns.Fault = statuses.WriteFault
+abbrev pub status_of : Flow → Status
+status_of flows.On = statuses.Done
+status_of flows.Ended = statuses.Done
+status_of flows.Refused = statuses.Refused
+status_of flows.TooLong = statuses.TooLong
+status_of flows.Fault = statuses.WriteFault
 
 -- what was found ended the session, whatever follows
-abbrev pub Over : Turn → ℕ → State → Block → ℕ → Found → List ℕ → Type 0
-Over turn n v b i f w = (behind : List Item) → (is_last f ≡ true → behind ≡ []) → Finished (status_of turn) (session_says n v b i (last_items f ++ behind)) w
+abbrev pub Over : Flow → ℕ → State → Block → ℕ → Found → List ℕ → Type 0
+Over flow n v b i f w = (behind : List Item) → (is_last f ≡ true → behind ≡ []) → Finished (status_of flow) (session_says n v b i (last_items f ++ behind)) w
 
 -- what was found did this, and wrote w: the session goes on with another state and block, or it is over
-abbrev pub TakenBy : Turn → ℕ → State → Block → ℕ → Found → State → Block → ℕ → List ℕ → Type 0
-TakenBy turns.On n v b i f v' b' i' w = (is_last f ≡ false) × ((behind : List Item) → session_says n v b i (last_items f ++ behind) ≡ after w (session_says (n + 1) v' b' i' behind))
-TakenBy turns.Ended n v b i f v' b' i' w = (is_end f ≡ true) × Over turns.Ended n v b i f w
-TakenBy turn n v b i f v' b' i' w = Over turn n v b i f w
+abbrev pub TakenBy : Flow → ℕ → State → Block → ℕ → Found → State → Block → ℕ → List ℕ → Type 0
+TakenBy flows.On n v b i f v' b' i' w = (is_last f ≡ false) × ((behind : List Item) → session_says n v b i (last_items f ++ behind) ≡ after w (session_says (n + 1) v' b' i' behind))
+TakenBy flows.Ended n v b i f v' b' i' w = (is_end f ≡ true) × Over flows.Ended n v b i f w
+TakenBy flow n v b i f v' b' i' w = Over flow n v b i f w
 
 -- the same, with what the sink was given
-pub record Takes (turn : Turn) (n : ℕ) (v : State) (b : Block) (i : ℕ) (f : Found) (v' : State) (b' : Block) (i' : ℕ) (old new : Option (List ℕ)) : Type 0 where
+pub record Takes (flow : Flow) (n : ℕ) (v : State) (b : Block) (i : ℕ) (f : Found) (v' : State) (b' : Block) (i' : ℕ) (old new : Option (List ℕ)) : Type 0 where
   pub wrote : List ℕ
   pub appended : Appends old new wrote
-  pub taken : TakenBy turn n v b i f v' b' i' wrote
+  pub taken : TakenBy flow n v b i f v' b' i' wrote

@@ -7,9 +7,9 @@ use Rattle.its_print.specs.Printing.{text}
 use Rattle.its_session.specs.Events.{events_of, whole_events_of}
 use Rattle.its_reader.specs.Items.{ReadOut}
 use Rattle.its_reader.specs.Limits.{WithinLimits}
-use Rattle.its_plain.specs.Transcript.{Open, Lost, TooLong}
+use Rattle.its_plain.specs.Transcript.{Open, Refused, TooLong}
 use Rattle.its_stepped.specs.Lines.{stepped}
-use Rattle.its_verify.specs.Judge.{Yes}
+use Rattle.its_verify.specs.Rulings.{Yes}
 use Rattle.its_verify.specs.Undecided.{Undecided}
 use Rattle.its_verify.specs.Verified.{Answer, Judged, answer_text}
 use Rattle.its_verify.specs.Verified as verified
@@ -20,7 +20,7 @@ use Rattle.its_assembly.specs.Past.{runs_past}
 use Rattle.its_assembly.specs.Written.{assembly_text, fault_line}
 use Rattle.its_top.specs.declared.status.Status.{Status}
 use Rattle.its_top.specs.declared.status.Status.TheVariants as statuses
-use Rattle.its_top.specs.declared.checking.Checked.TheVariants.{Beyond}
+use Rattle.its_top.specs.declared.checking.Checked.TheVariants as checks
 use Rattle.its_top.specs.Conclusion.{IsDone}
 use Rattle.its_top.specs.Checking.{checked, checked_text, Passes, Fails, GoesOn}
 use Rattle.its_top.specs.Generating.{generated_text}
@@ -70,7 +70,7 @@ pub record Completes (bytes : List ℕ) (old new : Option (List ℕ)) : Type 0 w
 
 -- a line is refused; all lines up to and with its `?` line were written
 pub record Refuses (bytes : List ℕ) (old new : Option (List ℕ)) : Type 0 where
-  pub lost : (stepped (events_of bytes)).fate ≡ Lost
+  pub refused : (stepped (events_of bytes)).fate ≡ Refused
   pub wrote : Appends old new (text (stepped (events_of bytes)).lines)
 
 -- a line past the most begins before END and before a refused line; what the lines before it show was written
@@ -118,7 +118,7 @@ pub record CheckFails (bytes : List ℕ) (old new : Option (List ℕ)) : Type 0 
 
 -- a line past the most begins before END and before a refused line; nothing was written
 pub record CheckRunsOn (bytes : List ℕ) (old new : Option (List ℕ)) : Type 0 where
-  pub beyond : checked (events_of bytes) ≡ Beyond
+  pub too_long : checked (events_of bytes) ≡ checks.TooLong
   pub wrote : Appends old new []
 
 -- the source failed: no whole line that was read is END or refused, no line is too long or past the most, not even the

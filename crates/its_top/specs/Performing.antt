@@ -5,11 +5,11 @@ use Rattle.its_files.specs.Files.{entry_at, is_file, words_at}
 use Rattle.its_word.specs.declared.calls.Pace.{Pace}
 use Rattle.its_word.specs.declared.session.Event.{Event}
 use Rattle.its_word.specs.declared.session.Refusal.{Refusal}
-use Rattle.its_print.specs.Printing.{Line, Refused}
+use Rattle.its_print.specs.Printing.{Line}
 use Rattle.its_print.specs.Printing as printed
 use Rattle.its_plain.specs.Operator.{Block}
 use Rattle.its_plain.specs.OperatorFiles.{files_in, listing, shown_lines}
-use Rattle.its_plain.specs.Transcript.{Ended, Lost}
+use Rattle.its_plain.specs.Transcript.{Ended, Refused}
 use Rattle.its_stepped.specs.State.{State}
 use Rattle.its_stepped.specs.Lines.{Told, telling, line_told}
 use Rattle.its_world.specs.World.{state_of}
@@ -21,8 +21,8 @@ use Rattle.its_top.specs.declared.shown.Reply.{Reply}
 use Rattle.its_top.specs.declared.shown.Reply.TheVariants as replies
 use Rattle.its_top.specs.declared.shown.Shown.{Shown}
 use Rattle.its_top.specs.declared.shown.Shown.TheVariants as shows
-use Rattle.its_top.specs.declared.turn.Turn.{Turn}
-use Rattle.its_top.specs.declared.turn.Turn.TheVariants as turns
+use Rattle.its_top.specs.declared.flow.Flow.{Flow}
+use Rattle.its_top.specs.declared.flow.Flow.TheVariants as flows
 use Rattle.its_top.specs.Telling.{goes_on_after}
 
 -- a line, if these are the letters of the ticks
@@ -50,28 +50,28 @@ Ready (shows.Files d n) w = (w.files.mark ≡ None) × (n ≡ length (files_in d
 Ready (shows.File id d x y) w = (w.files.mark ≡ None) × (is_file (entry_at w.files id) ≡ true)
 Ready s w = Unit {0}
 
--- the lines of line n of a session that ends with it, and its turn
+-- the lines of line n of a session that ends with it, and its flow
 abbrev pub lines_over : ℕ → Over → List Line
 lines_over n overs.Ended = []
-lines_over n (overs.Refused e) = Refused n (reason_of e) ∷ []
+lines_over n (overs.Refused e) = printed.Refused n (reason_of e) ∷ []
 
-abbrev pub turn_over : Over → Turn
-turn_over overs.Ended = turns.Ended
-turn_over (overs.Refused e) = turns.Refused
+abbrev pub flow_over : Over → Flow
+flow_over overs.Ended = flows.Ended
+flow_over (overs.Refused e) = flows.Refused
 
--- the lines of line n of a session, its turn, and what the session shows from it on
+-- the lines of line n of a session, its flow, and what the session shows from it on
 abbrev pub lines_shown : ℕ → Result Shown Over → List Pace → World → List Line
 lines_shown n (Ok s) ps w = lines_of s ps w
 lines_shown n (Err over) ps w = lines_over n over
 
-abbrev pub turn_of : Result Shown Over → Turn
-turn_of (Ok s) = turns.On
-turn_of (Err over) = turn_over over
+abbrev pub flow_of : Result Shown Over → Flow
+flow_of (Ok s) = flows.On
+flow_of (Err over) = flow_over over
 
 abbrev pub told_behind : Result Shown Over → Told → Told
 told_behind (Ok s) t = t
 told_behind (Err overs.Ended) t = record { lines = []; fate = Ended }
-told_behind (Err (overs.Refused e)) t = record { lines = []; fate = Lost }
+told_behind (Err (overs.Refused e)) t = record { lines = []; fate = Refused }
 
 -- END alone ends a session
 abbrev pub GoesBy : Result Shown Over → Event → Type 0

@@ -9,7 +9,7 @@ use Rattle.its_word.specs.declared.session.Event.{Event}
 use Rattle.its_print.specs.Printing.{Line, text}
 use Rattle.its_session.specs.Events.{events_of, most_lines}
 use Rattle.its_reader.specs.TextLines.{lines_in}
-use Rattle.its_plain.specs.Transcript.{Fate, Open, Lost, TooLong, Transcript, Ended}
+use Rattle.its_plain.specs.Transcript.{Fate, Open, Refused, TooLong, Transcript, Ended}
 use Rattle.its_plain.specs.Ledger.{Ledger}
 use Rattle.its_plain.specs.LinkLedger.{LinkLedger}
 use Rattle.its_plain.specs.Stretch.{Stretches}
@@ -17,7 +17,7 @@ use Rattle.its_plain.specs.Fair.{FairTurns}
 use Rattle.its_plain.specs.FewDots.{FewDots}
 use Rattle.its_plain.specs.RunIntegrity.{Integrity}
 use Rattle.its_verify.specs.Accepted.{Accepted}
-use Rattle.its_verify.specs.Judge.{Yes}
+use Rattle.its_verify.specs.Rulings.{Yes}
 use Rattle.its_verify.specs.Verified.{Judged, Both, parts_from, verified}
 use Rattle.its_asm.specs.Assembly.{assembly}
 use Rattle.its_asm.specs.declared.assembly.Image.{Image}
@@ -31,7 +31,7 @@ use Rattle.its_top.specs.declared.status.Status.TheVariants as statuses
 abbrev pub answer_of : Fate → Status
 answer_of Ended = statuses.Done
 answer_of Open = statuses.Done
-answer_of Lost = statuses.Refused
+answer_of Refused = statuses.Refused
 answer_of TooLong = statuses.TooLong
 
 -- what `its run` wrote of the session that these bytes are, if its answer is Done, Refused or TooLong

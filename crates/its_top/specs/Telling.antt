@@ -6,11 +6,11 @@ use Rattle.its_word.specs.declared.session.Event.{Event}
 use Rattle.its_word.specs.declared.session.Event.TheVariants as events
 use Rattle.its_print.specs.Printing.{text}
 use Rattle.its_plain.specs.Operator.{Block}
-use Rattle.its_plain.specs.Transcript.{Fate, Ended, Lost}
+use Rattle.its_plain.specs.Transcript.{Fate, Ended, Refused}
 use Rattle.its_stepped.specs.State.{State}
 use Rattle.its_stepped.specs.Lines.{Told, line_told, turned, told}
-use Rattle.its_top.specs.declared.turn.Turn.{Turn}
-use Rattle.its_top.specs.declared.turn.Turn.TheVariants as turns
+use Rattle.its_top.specs.declared.flow.Flow.{Flow}
+use Rattle.its_top.specs.declared.flow.Flow.TheVariants as flows
 
 -- the text that a session writes, and how it ends
 pub record Says : Type 0 where
@@ -47,33 +47,33 @@ goes_on_after _ = true
 
 -- what an event did, and what it wrote: the session goes on with another state and block, it is over
 -- by END or by a refused line, or a write failed
-abbrev pub Answers : Turn → ℕ → State → Block → Event → State → Block → List ℕ → Type 0
-Answers turns.On n v b e v' b' w =
+abbrev pub Answers : Flow → ℕ → State → Block → Event → State → Block → List ℕ → Type 0
+Answers flows.On n v b e v' b' w =
     (goes_on_after e ≡ true) × ((next : State → Block → Told) → line_says n v b e next ≡ after w (said (next v' b')))
-Answers turns.Ended n v b e v' b' w = (goes_on_after e ≡ false) × ((next : State → Block → Told) → line_says n v b e next ≡ saying w Ended)
-Answers turns.Refused n v b e v' b' w = (next : State → Block → Told) → line_says n v b e next ≡ saying w Lost
-Answers turns.Beyond n v b e v' b' w = ⊥
-Answers turns.Fault n v b e v' b' w = (next : State → Block → Told) → BeginsText (line_says n v b e next) w
+Answers flows.Ended n v b e v' b' w = (goes_on_after e ≡ false) × ((next : State → Block → Told) → line_says n v b e next ≡ saying w Ended)
+Answers flows.Refused n v b e v' b' w = (next : State → Block → Told) → line_says n v b e next ≡ saying w Refused
+Answers flows.TooLong n v b e v' b' w = ⊥
+Answers flows.Fault n v b e v' b' w = (next : State → Block → Told) → BeginsText (line_says n v b e next) w
 
 -- the same of a line with the turns that it asks for, when slot i had the last turn before them, and slot j has it
 -- then
-abbrev pub FollowsBy : Turn → ℕ → State → Block → ℕ → Event → State → Block → ℕ → List ℕ → Type 0
-FollowsBy turns.On n v b i e v' b' j w =
+abbrev pub FollowsBy : Flow → ℕ → State → Block → ℕ → Event → State → Block → ℕ → List ℕ → Type 0
+FollowsBy flows.On n v b i e v' b' j w =
     (goes_on_after e ≡ true) × ((items : List Item) → session_says n v b i (Read e ∷ items) ≡ after w (session_says (n + 1) v' b' j items))
-FollowsBy turns.Ended n v b i e v' b' j w = (goes_on_after e ≡ false) × ((items : List Item) → session_says n v b i (Read e ∷ items) ≡ saying w Ended)
-FollowsBy turns.Refused n v b i e v' b' j w = (items : List Item) → session_says n v b i (Read e ∷ items) ≡ saying w Lost
-FollowsBy turns.Beyond n v b i e v' b' j w = ⊥
-FollowsBy turns.Fault n v b i e v' b' j w = (items : List Item) → BeginsText (session_says n v b i (Read e ∷ items)) w
+FollowsBy flows.Ended n v b i e v' b' j w = (goes_on_after e ≡ false) × ((items : List Item) → session_says n v b i (Read e ∷ items) ≡ saying w Ended)
+FollowsBy flows.Refused n v b i e v' b' j w = (items : List Item) → session_says n v b i (Read e ∷ items) ≡ saying w Refused
+FollowsBy flows.TooLong n v b i e v' b' j w = ⊥
+FollowsBy flows.Fault n v b i e v' b' j w = (items : List Item) → BeginsText (session_says n v b i (Read e ∷ items)) w
 
 -- up to n turns of q ticks were taken, whatever follows them: all of them, or a write failed
-abbrev pub CircledBy : Turn → State → ℕ → ℕ → ℕ → State → ℕ → List ℕ → Type 0
-CircledBy turns.On v i n q v' j w = (next : State → ℕ → Told) → said (turned n q v i next) ≡ after w (said (next v' j))
-CircledBy turns.Fault v i n q v' j w = (next : State → ℕ → Told) → BeginsText (said (turned n q v i next)) w
-CircledBy turn v i n q v' j w = ⊥
+abbrev pub CircledBy : Flow → State → ℕ → ℕ → ℕ → State → ℕ → List ℕ → Type 0
+CircledBy flows.On v i n q v' j w = (next : State → ℕ → Told) → said (turned n q v i next) ≡ after w (said (next v' j))
+CircledBy flows.Fault v i n q v' j w = (next : State → ℕ → Told) → BeginsText (said (turned n q v i next)) w
+CircledBy flow v i n q v' j w = ⊥
 
-abbrev pub goes_on : Turn → Bool
-goes_on turns.On = true
-goes_on turns.Ended = false
-goes_on turns.Refused = false
-goes_on turns.Beyond = false
-goes_on turns.Fault = false
+abbrev pub goes_on : Flow → Bool
+goes_on flows.On = true
+goes_on flows.Ended = false
+goes_on flows.Refused = false
+goes_on flows.TooLong = false
+goes_on flows.Fault = false

@@ -6,7 +6,7 @@ use Rattle.its_session.specs.Events.{events_of, most_lines}
 use Rattle.its_reader.specs.TextLines.{lines_in}
 use Rattle.its_verify.specs.Accepted.{Accepted, IsFirst}
 use Rattle.its_verify.specs.Finds.{Breaks}
-use Rattle.its_verify.specs.Judge.{Yes, No}
+use Rattle.its_verify.specs.Rulings.{Yes, No}
 use Rattle.its_verify.specs.Verified.{Answer, Judged, Long, Cut, TooLong, Both, LongLine, NoEnd, TooMany, parts_from, verified, answer_text}
 use Rattle.its_top.specs.Promise.{IsCut, Licensed}
 use Rattle.its_top.specs.declared.status.Status.{Status}

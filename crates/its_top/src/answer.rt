@@ -5,14 +5,14 @@ ghost use Rattle.its_stepped.specs.Lines.{paces_of, ticked};
 ghost use Rattle.its_world.specs.World.{state_of};
 ghost use Rattle.its_monitor.specs.Kept.{Kept};
 ghost use Rattle.its_print.specs.Printing.{Ticks, text_of_line};
-ghost use Rattle.its_top.specs.Causes.{TurnCause};
+ghost use Rattle.its_top.specs.Causes.{FlowCause};
 ghost use Rattle.its_top.specs.Answer.{Answered, FindsStart, Tells, block_of};
 
+use super::flow::Flow;
 use super::performing::{Runs, paces_of, perform};
 use super::printing::{print, print_reply};
 use super::progress::Progress;
 use super::shown::Reply;
-use super::turn::Turn;
 use its_io::Sink;
 use its_monitor::Monitor;
 use its_word::Event;
@@ -25,7 +25,7 @@ pub fn answer<K: Sink>(
     event: &Event,
     runs: &mut Runs,
     out: &mut K,
-) -> Turn
+) -> Flow
     requires sound { Kept m.old.world }
     requires slot { p.old.slot < slots }
     requires fits { EventFits 2 event.now }
@@ -34,7 +34,7 @@ pub fn answer<K: Sink>(
     ensures sound { Kept m.new.world }
     ensures slot { p.new.slot < slots }
     ensures kept { p.new.number ≡ p.old.number }
-    ensures cause { TurnCause result (K.faults out.old) (K.faults out.new) }
+    ensures cause { FlowCause result (K.faults out.old) (K.faults out.new) }
 {
     let number = p.number;
     let performed = perform(m, p, event, runs);
@@ -43,14 +43,14 @@ pub fn answer<K: Sink>(
 
 /// Ticks a slot n times, and writes the `T` line of the letters. The room for the letters loses what it had before.
 #[tactic(auto, using(crate::proofs::WritingLaws::told_as))]
-pub fn tick_line<K: Sink>(m: &mut Monitor, s: u8, n: u32, runs: &mut Runs, out: &mut K) -> Turn
+pub fn tick_line<K: Sink>(m: &mut Monitor, s: u8, n: u32, runs: &mut Runs, out: &mut K) -> Flow
     requires sound { Kept m.old.world }
     requires slot { s < slots }
     requires few { n ≤ 512 }
-    ensures told { Tells result Turn.On (text_of_line (Ticks s (paces_of (state_of m.old.world) s n))) (K.written out.old) (K.written out.new) }
+    ensures told { Tells result Flow.On (text_of_line (Ticks s (paces_of (state_of m.old.world) s n))) (K.written out.old) (K.written out.new) }
     ensures state { state_of m.new.world ≡ ticked (state_of m.old.world) s n }
     ensures sound { Kept m.new.world }
-    ensures cause { TurnCause result (K.faults out.old) (K.faults out.new) }
+    ensures cause { FlowCause result (K.faults out.old) (K.faults out.new) }
 {
     runs.clear();
     paces_of(m, s, n, runs);

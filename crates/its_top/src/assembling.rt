@@ -22,7 +22,7 @@ pub fn assemble<S: Source, K: Sink>(alloc: Global, src: &mut S, out: &mut K) -> 
         Ok(Made::Session(session)) => write_text(out, &session, Status::Done),
         Ok(Made::Refusal(line)) => write_text(out, &line, Status::Refused),
         Err(Unmade::Failed) => Status::ReadFault,
-        Err(Unmade::Beyond) => Status::TooLong,
+        Err(Unmade::TooLong) => Status::TooLong,
         Err(Unmade::NoMemory) => Status::NoMemory,
     }
 }

@@ -22,7 +22,7 @@ pub enum Checked {
     /// Line number n is refused for this reason.
     Refused(u32, Reason),
     /// A line past the most that a session may have begins.
-    Beyond,
+    TooLong,
 }
 
 /// The result of an item, by the number of its line: None if the check goes on.
@@ -39,7 +39,7 @@ fn look_at(number: u32, found: &Found) -> Option<Checked>
             Some(Checked::Ended(number))
         }
         Found::Bad(reason) => Some(Checked::Refused(number, *reason)),
-        Found::Beyond => Some(Checked::Beyond),
+        Found::Beyond => Some(Checked::TooLong),
         Found::End => Some(Checked::Open(number - 1)),
     }
 }
@@ -104,7 +104,7 @@ fn report<K: Sink>(found: Checked, out: &mut K) -> Status
             print_refusal(n, reason, &mut line);
             write_text(out, &line, Status::Refused)
         }
-        Checked::Beyond => Status::TooLong,
+        Checked::TooLong => Status::TooLong,
     }
 }
 

@@ -5,13 +5,13 @@ ghost use Rattle.its_session.specs.Fits.{EventFits};
 ghost use Rattle.its_plain.specs.Turns.{turn_after};
 ghost use Rattle.its_world.specs.World.{state_of};
 ghost use Rattle.its_monitor.specs.Kept.{Kept};
-ghost use Rattle.its_top.specs.Causes.{TurnCause};
+ghost use Rattle.its_top.specs.Causes.{FlowCause};
 ghost use Rattle.its_top.specs.Answer.{Circled, FindsStart, Follows, block_of};
 
 use super::answer::{answer, tick_line};
+use super::flow::Flow;
 use super::performing::Runs;
 use super::progress::Progress;
-use super::turn::Turn;
 use its_io::Sink;
 use its_monitor::Monitor;
 use its_robin::next;
@@ -30,7 +30,7 @@ pub fn follow<K: Sink>(
     event: &Event,
     runs: &mut Runs,
     out: &mut K,
-) -> Turn
+) -> Flow
     requires sound { Kept m.old.world }
     requires slot { p.old.slot < slots }
     requires last { last.old < slots }
@@ -41,7 +41,7 @@ pub fn follow<K: Sink>(
     ensures slot { p.new.slot < slots }
     ensures last { last.new < slots }
     ensures number { p.new.number ≡ p.old.number }
-    ensures cause { TurnCause result (K.faults out.old) (K.faults out.new) }
+    ensures cause { FlowCause result (K.faults out.old) (K.faults out.new) }
 {
     match event {
         Event::Run { n, q } => circle(m, last, *n, *q, runs, out),
@@ -58,26 +58,26 @@ fn circle<K: Sink>(
     q: u32,
     runs: &mut Runs,
     out: &mut K,
-) -> Turn
+) -> Flow
     requires sound { Kept m.old.world }
     requires last { last.old < slots }
     requires few { q ≤ 512 }
     ensures circled { Circled result (state_of m.old.world) last.old n q (state_of m.new.world) last.new (K.written out.old) (K.written out.new) }
     ensures sound { Kept m.new.world }
     ensures last { last.new < slots }
-    ensures cause { TurnCause result (K.faults out.old) (K.faults out.new) }
+    ensures cause { FlowCause result (K.faults out.old) (K.faults out.new) }
 {
     for _k in 0..n {
         let Some(slot) = turn_after(m, *last) else {
-            return Turn::On;
+            return Flow::On;
         };
         *last = slot;
-        let turn = tick_line(m, slot, q, runs, out);
-        if !turn.goes_on() {
-            return turn;
+        let flow = tick_line(m, slot, q, runs, out);
+        if !flow.goes_on() {
+            return flow;
         }
     }
-    Turn::On
+    Flow::On
 }
 
 /// The slot whose turn it is, after a turn of slot `last`; None if no job runs.

@@ -9,13 +9,13 @@ ghost use Rattle.its_world.specs.World.{state_of};
 ghost use Rattle.its_word.specs.Refusals.{reason_of};
 ghost use Rattle.its_monitor.specs.Kept.{Kept, Lands};
 ghost use Rattle.its_print.specs.Printing.{Filed, Row, text_of_line, text};
-ghost use Rattle.its_top.specs.Causes.{TurnCause};
+ghost use Rattle.its_top.specs.Causes.{FlowCause};
 ghost use Rattle.its_top.specs.Answer.{Tells, Stood, block_of};
 ghost use Rattle.its_top.specs.Performing.{Performed};
 
+use super::flow::Flow;
 use super::progress::Progress;
 use super::shown::{Over, Shown};
-use super::turn::Turn;
 use super::writing::tell;
 use arrayvec::ArrayVec;
 use its_io::Sink;
@@ -113,54 +113,54 @@ fn count_files(m: &mut Monitor, d: Word) -> u32
 
 /// The lines of a directory, when no part of a close is pending: how many files it has, and the files.
 #[tactic(auto, using(crate::proofs::FilingLaws::tells_then, crate::proofs::FilingLaws::tells_cut))]
-pub fn print_files<K: Sink>(m: &mut Monitor, d: Word, count: u32, out: &mut K) -> Turn
+pub fn print_files<K: Sink>(m: &mut Monitor, d: Word, count: u32, out: &mut K) -> Flow
     requires sound { Kept m.old.world }
     requires unmarked { m.old.world.files.mark ≡ None }
     requires count { count ≡ length (files_in d (state_of m.old.world).raw.files) }
-    ensures told { Tells result Turn.On (text (listing d (files_in d (state_of m.old.world).raw.files))) (K.written out.old) (K.written out.new) }
+    ensures told { Tells result Flow.On (text (listing d (files_in d (state_of m.old.world).raw.files))) (K.written out.old) (K.written out.new) }
     ensures state { state_of m.new.world ≡ state_of m.old.world }
     ensures sound { Kept m.new.world }
-    ensures cause { TurnCause result (K.faults out.old) (K.faults out.new) }
+    ensures cause { FlowCause result (K.faults out.old) (K.faults out.new) }
 {
     let mut line = ArrayVec::new();
     print_dir(d, count, &mut line);
-    let turn = tell(out, &line, Turn::On);
-    if !turn.goes_on() {
-        return turn;
+    let flow = tell(out, &line, Flow::On);
+    if !flow.goes_on() {
+        return flow;
     }
     print_each_file(m, d, count, out)
 }
 
 /// A line for each of the files of a directory, when no part of a close is pending.
 #[tactic(auto, using(crate::proofs::FilingLaws::listing_start, crate::proofs::FilingLaws::listing_end))]
-fn print_each_file<K: Sink>(m: &mut Monitor, d: Word, count: u32, out: &mut K) -> Turn
+fn print_each_file<K: Sink>(m: &mut Monitor, d: Word, count: u32, out: &mut K) -> Flow
     requires sound { Kept m.old.world }
     requires unmarked { m.old.world.files.mark ≡ None }
     requires count { count ≡ length (files_in d (state_of m.old.world).raw.files) }
-    ensures told { Tells result Turn.On (text (map filed_line (files_in d (state_of m.old.world).raw.files))) (K.written out.old) (K.written out.new) }
+    ensures told { Tells result Flow.On (text (map filed_line (files_in d (state_of m.old.world).raw.files))) (K.written out.old) (K.written out.new) }
     ensures state { state_of m.new.world ≡ state_of m.old.world }
     ensures sound { Kept m.new.world }
-    ensures cause { TurnCause result (K.faults out.old) (K.faults out.new) }
+    ensures cause { FlowCause result (K.faults out.old) (K.faults out.new) }
 {
     for k in 0..count {
         if let Some(show) = m.dir(d, k) {
-            let turn = print_filed(show, out);
-            if !turn.goes_on() {
-                return turn;
+            let flow = print_filed(show, out);
+            if !flow.goes_on() {
+                return flow;
             }
         }
     }
-    Turn::On
+    Flow::On
 }
 
 /// The line of a file.
-fn print_filed<K: Sink>(show: FileShow, out: &mut K) -> Turn
-    ensures told { Tells result Turn.On (text_of_line (Filed show)) (K.written out.old) (K.written out.new) }
-    ensures cause { TurnCause result (K.faults out.old) (K.faults out.new) }
+fn print_filed<K: Sink>(show: FileShow, out: &mut K) -> Flow
+    ensures told { Tells result Flow.On (text_of_line (Filed show)) (K.written out.old) (K.written out.new) }
+    ensures cause { FlowCause result (K.faults out.old) (K.faults out.new) }
 {
     let mut line = ArrayVec::new();
     print_file(&show, &mut line);
-    tell(out, &line, Turn::On)
+    tell(out, &line, Flow::On)
 }
 
 /// SHOW: shows the words of a file.
@@ -184,63 +184,63 @@ pub fn print_words_of<K: Sink>(
     x: Word,
     y: Word,
     out: &mut K,
-) -> Turn
+) -> Flow
     requires sound { Kept m.old.world }
     requires unmarked { m.old.world.files.mark ≡ None }
     requires file { is_file (entry_at m.old.world.files id) ≡ true }
-    ensures told { Tells result Turn.On (text (shown_lines d x y (words_at m.old.world.files id))) (K.written out.old) (K.written out.new) }
+    ensures told { Tells result Flow.On (text (shown_lines d x y (words_at m.old.world.files id))) (K.written out.old) (K.written out.new) }
     ensures state { state_of m.new.world ≡ state_of m.old.world }
     ensures sound { Kept m.new.world }
-    ensures cause { TurnCause result (K.faults out.old) (K.faults out.new) }
+    ensures cause { FlowCause result (K.faults out.old) (K.faults out.new) }
 {
     let count = m.file_length(id).unwrap_or(0);
     let mut line = ArrayVec::new();
     print_show(d, x, y, count, &mut line);
-    let turn = tell(out, &line, Turn::On);
-    if !turn.goes_on() {
-        return turn;
+    let flow = tell(out, &line, Flow::On);
+    if !flow.goes_on() {
+        return flow;
     }
     print_rows(m, id, count, out)
 }
 
 /// The lines of the words of a file, when no part of a close is pending.
 #[tactic(auto, using(crate::proofs::FilingLaws::standing_start, crate::proofs::FilingLaws::rows_start, crate::proofs::FilingLaws::rows_end))]
-fn print_rows<K: Sink>(m: &mut Monitor, id: u32, count: u32, out: &mut K) -> Turn
+fn print_rows<K: Sink>(m: &mut Monitor, id: u32, count: u32, out: &mut K) -> Flow
     requires sound { Kept m.old.world }
     requires unmarked { m.old.world.files.mark ≡ None }
     requires file { is_file (entry_at m.old.world.files id) ≡ true }
     requires count { count ≡ length (words_at m.old.world.files id) }
-    ensures told { Tells result Turn.On (text (rows ((count + 7) / 8) (words_at m.old.world.files id))) (K.written out.old) (K.written out.new) }
+    ensures told { Tells result Flow.On (text (rows ((count + 7) / 8) (words_at m.old.world.files id))) (K.written out.old) (K.written out.new) }
     ensures state { state_of m.new.world ≡ state_of m.old.world }
     ensures sound { Kept m.new.world }
-    ensures cause { TurnCause result (K.faults out.old) (K.faults out.new) }
+    ensures cause { FlowCause result (K.faults out.old) (K.faults out.new) }
 {
     for row in 0..count.div_ceil(ROW_WORDS) {
         let from = row * ROW_WORDS;
-        let turn = print_row_of(m, id, from, count, out);
-        if !turn.goes_on() {
-            return turn;
+        let flow = print_row_of(m, id, from, count, out);
+        if !flow.goes_on() {
+            return flow;
         }
     }
-    Turn::On
+    Flow::On
 }
 
 /// One of them: up to eight words of a file from one on.
-fn print_row_of<K: Sink>(m: &mut Monitor, id: u32, from: u32, count: u32, out: &mut K) -> Turn
+fn print_row_of<K: Sink>(m: &mut Monitor, id: u32, from: u32, count: u32, out: &mut K) -> Flow
     requires sound { Kept m.old.world }
     requires unmarked { m.old.world.files.mark ≡ None }
     requires file { is_file (entry_at m.old.world.files id) ≡ true }
     requires count { count ≡ length (words_at m.old.world.files id) }
     requires within { from ≤ count }
-    ensures told { Tells result Turn.On (text_of_line (Row (take 8 (drop from (words_at m.old.world.files id))))) (K.written out.old) (K.written out.new) }
+    ensures told { Tells result Flow.On (text_of_line (Row (take 8 (drop from (words_at m.old.world.files id))))) (K.written out.old) (K.written out.new) }
     ensures stood { Stood m.old.world m.new.world }
     ensures sound { Kept m.new.world }
-    ensures cause { TurnCause result (K.faults out.old) (K.faults out.new) }
+    ensures cause { FlowCause result (K.faults out.old) (K.faults out.new) }
 {
     let words = row_of(m, id, from, count);
     let mut line = ArrayVec::new();
     print_row(&words, &mut line);
-    tell(out, &line, Turn::On)
+    tell(out, &line, Flow::On)
 }
 
 /// Up to eight words of a file from one on.

@@ -12,6 +12,7 @@ mod commands;
 mod consoles;
 mod counts;
 mod filing;
+mod flow;
 mod generating;
 mod listing;
 mod performing;
@@ -23,7 +24,6 @@ mod status;
 #[cfg(test)]
 mod tests;
 mod top;
-mod turn;
 mod verifying;
 mod writing;
 

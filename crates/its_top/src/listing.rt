@@ -2,10 +2,10 @@
 
 ghost use Rattle.std.specs.Prelude.{◌≤◌, ◌<◌, ◌+◌, ◌^◌, length};
 ghost use Rattle.its_print.specs.Printing.{Listed, listed, text_of_line, text};
-ghost use Rattle.its_top.specs.Causes.{TurnCause};
+ghost use Rattle.its_top.specs.Causes.{FlowCause};
 ghost use Rattle.its_top.specs.Answer.{Tells};
 
-use super::turn::Turn;
+use super::flow::Flow;
 use super::writing::tell;
 use arrayvec::ArrayVec;
 use its_io::Sink;
@@ -14,29 +14,29 @@ use its_word::Word;
 
 /// A line for each of some words, which are in a slot from an address on.
 #[tactic(auto, using(crate::proofs::FilingLaws::writes_start))]
-pub fn list_words<K: Sink>(s: u8, a: u32, words: &[Word], out: &mut K) -> Turn
+pub fn list_words<K: Sink>(s: u8, a: u32, words: &[Word], out: &mut K) -> Flow
     requires start { a < 2 ^ 18 }
     requires few { length words.now ≤ 8 }
-    ensures told { Tells result Turn.On (text (listed s a words.now)) (K.written out.old) (K.written out.new) }
-    ensures cause { TurnCause result (K.faults out.old) (K.faults out.new) }
+    ensures told { Tells result Flow.On (text (listed s a words.now)) (K.written out.old) (K.written out.new) }
+    ensures cause { FlowCause result (K.faults out.old) (K.faults out.new) }
 {
     let mut place = a;
     for w in words {
-        let turn = list_word(s, place, *w, out);
-        if !turn.goes_on() {
-            return turn;
+        let flow = list_word(s, place, *w, out);
+        if !flow.goes_on() {
+            return flow;
         }
         place += 1;
     }
-    Turn::On
+    Flow::On
 }
 
 /// One of them.
-fn list_word<K: Sink>(s: u8, a: u32, word: Word, out: &mut K) -> Turn
-    ensures told { Tells result Turn.On (text_of_line (Listed s a word)) (K.written out.old) (K.written out.new) }
-    ensures cause { TurnCause result (K.faults out.old) (K.faults out.new) }
+fn list_word<K: Sink>(s: u8, a: u32, word: Word, out: &mut K) -> Flow
+    ensures told { Tells result Flow.On (text_of_line (Listed s a word)) (K.written out.old) (K.written out.new) }
+    ensures cause { FlowCause result (K.faults out.old) (K.faults out.new) }
 {
     let mut line = ArrayVec::new();
     print_listed(s, a, word, &mut line);
-    tell(out, &line, Turn::On)
+    tell(out, &line, Flow::On)
 }

@@ -4,15 +4,15 @@ ghost use Rattle.its_world.specs.World.{state_of};
 ghost use Rattle.its_monitor.specs.Kept.{Kept};
 ghost use Rattle.its_print.specs.Printing.{text_of_line, text};
 ghost use Rattle.its_print.specs.Runs.{paces_in};
-ghost use Rattle.its_top.specs.Causes.{TurnCause};
+ghost use Rattle.its_top.specs.Causes.{FlowCause};
 ghost use Rattle.its_top.specs.Answer.{Tells};
-ghost use Rattle.its_top.specs.Performing.{Ready, line_of, lines_of, lines_over, lines_shown, turn_of, turn_over};
+ghost use Rattle.its_top.specs.Performing.{Ready, line_of, lines_of, lines_over, lines_shown, flow_of, flow_over};
 
 use super::filing::{print_files, print_words_of};
+use super::flow::Flow;
 use super::listing::list_words;
 use super::performing::Runs;
 use super::shown::{Over, Reply, Shown};
-use super::turn::Turn;
 use super::writing::{refuse_by, tell};
 use arrayvec::ArrayVec;
 use its_io::Sink;
@@ -30,14 +30,14 @@ pub fn print<K: Sink>(
     performed: &Result<Shown, Over>,
     runs: &Runs,
     out: &mut K,
-) -> Turn
+) -> Flow
     requires sound { Kept m.old.world }
     requires letters { length (paces_in runs.now.items) ≤ 512 }
     requires ready { IfOk performed.now (λ s. Ready s m.old.world) }
-    ensures told { Tells result (turn_of performed.now) (text (lines_shown number performed.now (paces_in runs.now.items) m.old.world)) (K.written out.old) (K.written out.new) }
+    ensures told { Tells result (flow_of performed.now) (text (lines_shown number performed.now (paces_in runs.now.items) m.old.world)) (K.written out.old) (K.written out.new) }
     ensures state { state_of m.new.world ≡ state_of m.old.world }
     ensures sound { Kept m.new.world }
-    ensures cause { TurnCause result (K.faults out.old) (K.faults out.new) }
+    ensures cause { FlowCause result (K.faults out.old) (K.faults out.new) }
 {
     match performed {
         Ok(shown) => print_shown(m, shown, runs, out),
@@ -47,29 +47,29 @@ pub fn print<K: Sink>(
 
 /// Writes the line of a refusal, if a refusal ended the session.
 #[tactic(auto, using(crate::proofs::WritingLaws::tells_nothing, crate::proofs::WritingLaws::tells_one))]
-fn print_over<K: Sink>(over: Over, number: u32, out: &mut K) -> Turn
-    ensures told { Tells result (turn_over over) (text (lines_over number over)) (K.written out.old) (K.written out.new) }
-    ensures cause { TurnCause result (K.faults out.old) (K.faults out.new) }
+fn print_over<K: Sink>(over: Over, number: u32, out: &mut K) -> Flow
+    ensures told { Tells result (flow_over over) (text (lines_over number over)) (K.written out.old) (K.written out.new) }
+    ensures cause { FlowCause result (K.faults out.old) (K.faults out.new) }
 {
     match over {
-        Over::Ended => Turn::Ended,
+        Over::Ended => Flow::Ended,
         Over::Refused(e) => refuse_by(out, number, e),
     }
 }
 
 /// Writes the lines that an event shows.
 #[tactic(auto, using(crate::proofs::WritingLaws::tells_nothing, crate::proofs::WritingLaws::tells_one))]
-fn print_shown<K: Sink>(m: &mut Monitor, shown: &Shown, runs: &Runs, out: &mut K) -> Turn
+fn print_shown<K: Sink>(m: &mut Monitor, shown: &Shown, runs: &Runs, out: &mut K) -> Flow
     requires sound { Kept m.old.world }
     requires letters { length (paces_in runs.now.items) ≤ 512 }
     requires ready { Ready shown.now m.old.world }
-    ensures told { Tells result Turn.On (text (lines_of shown.now (paces_in runs.now.items) m.old.world)) (K.written out.old) (K.written out.new) }
+    ensures told { Tells result Flow.On (text (lines_of shown.now (paces_in runs.now.items) m.old.world)) (K.written out.old) (K.written out.new) }
     ensures state { state_of m.new.world ≡ state_of m.old.world }
     ensures sound { Kept m.new.world }
-    ensures cause { TurnCause result (K.faults out.old) (K.faults out.new) }
+    ensures cause { FlowCause result (K.faults out.old) (K.faults out.new) }
 {
     match shown {
-        Shown::Nothing => Turn::On,
+        Shown::Nothing => Flow::On,
         Shown::Line(reply) => print_reply(reply, runs, out),
         Shown::Listed { s, a, words } => list_words(*s, *a, words, out),
         Shown::Files { d, count } => print_files(m, *d, *count, out),
@@ -79,14 +79,14 @@ fn print_shown<K: Sink>(m: &mut Monitor, shown: &Shown, runs: &Runs, out: &mut K
 
 /// Writes a line.
 #[tactic(auto, using(crate::proofs::WritingLaws::told_as))]
-pub fn print_reply<K: Sink>(reply: &Reply, runs: &Runs, out: &mut K) -> Turn
+pub fn print_reply<K: Sink>(reply: &Reply, runs: &Runs, out: &mut K) -> Flow
     requires letters { length (paces_in runs.now.items) ≤ 512 }
-    ensures told { Tells result Turn.On (text_of_line (line_of reply.now (paces_in runs.now.items))) (K.written out.old) (K.written out.new) }
-    ensures cause { TurnCause result (K.faults out.old) (K.faults out.new) }
+    ensures told { Tells result Flow.On (text_of_line (line_of reply.now (paces_in runs.now.items))) (K.written out.old) (K.written out.new) }
+    ensures cause { FlowCause result (K.faults out.old) (K.faults out.new) }
 {
     let mut line = ArrayVec::new();
     put_reply(reply, runs, &mut line);
-    tell(out, &line, Turn::On)
+    tell(out, &line, Flow::On)
 }
 
 /// Puts the bytes of a line into an empty array.

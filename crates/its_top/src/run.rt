@@ -6,16 +6,16 @@ ghost use Rattle.its_stepped.specs.State.{no_state};
 ghost use Rattle.its_world.specs.World.{state_of};
 ghost use Rattle.its_monitor.specs.Kept.{Kept};
 ghost use Rattle.its_reader.specs.Items.{found_fits};
-ghost use Rattle.its_top.specs.Causes.{TurnCause};
+ghost use Rattle.its_top.specs.Causes.{FlowCause};
 ghost use Rattle.its_top.specs.Answer.{FoundStart, block_of};
 ghost use Rattle.its_top.specs.Conclusion.{Session, Takes};
 ghost use Rattle.its_top.specs.Outcomes.{RunSays};
 
 use super::circle::{HIGHEST, follow};
+use super::flow::Flow;
 use super::performing::Runs;
 use super::progress::Progress;
 use super::status::Status;
-use super::turn::Turn;
 use super::writing::refuse;
 use arrayvec::ArrayVec;
 use its_io::{Sink, Source};
@@ -72,9 +72,9 @@ fn run_items<S: Source, K: Sink>(m: &mut Monitor, src: &mut S, out: &mut K) -> S
             return Status::ReadFault;
         };
         p.number = items.lines.number;
-        let turn = take(m, &mut p, &mut last, &found, &mut runs, out);
-        if !turn.goes_on() {
-            return turn.status();
+        let flow = take(m, &mut p, &mut last, &found, &mut runs, out);
+        if !flow.goes_on() {
+            return flow.status();
         }
     }
 }
@@ -88,7 +88,7 @@ fn take<K: Sink>(
     found: &Found,
     runs: &mut Runs,
     out: &mut K,
-) -> Turn
+) -> Flow
     requires sound { Kept m.old.world }
     requires slot { p.old.slot < slots }
     requires last { last.old < slots }
@@ -99,12 +99,12 @@ fn take<K: Sink>(
     ensures slot { p.new.slot < slots }
     ensures last { last.new < slots }
     ensures number { p.new.number ≡ p.old.number }
-    ensures cause { TurnCause result (K.faults out.old) (K.faults out.new) }
+    ensures cause { FlowCause result (K.faults out.old) (K.faults out.new) }
 {
     match found {
         Found::Line(event) => follow(m, p, last, event, runs, out),
         Found::Bad(reason) => refuse(out, p.number, *reason),
-        Found::Beyond => Turn::Beyond,
-        Found::End => Turn::Ended,
+        Found::Beyond => Flow::TooLong,
+        Found::End => Flow::Ended,
     }
 }

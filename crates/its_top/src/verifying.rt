@@ -47,7 +47,7 @@ fn tell<K: Sink>(outcome: Outcome, out: &mut K) -> Status
         Outcome::No(n) => write_text(out, &count_line(b"NO", u64::from(n)), Status::Refused),
         Outcome::Long(n) => refuse(n, Reason::Long, out),
         Outcome::Cut(n) => refuse(n, Reason::Cut, out),
-        Outcome::Beyond => Status::TooLong,
+        Outcome::TooLong => Status::TooLong,
     }
 }
 

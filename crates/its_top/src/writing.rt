@@ -2,43 +2,43 @@ ghost use Rattle.std.specs.Prelude.{◌≡◌, ◌≢◌, ◌≤◌, ◌-◌};
 ghost use Rattle.its_io.specs.Bytes.{next_fault};
 ghost use Rattle.its_print.specs.Printing.{Refused, text_of_line};
 ghost use Rattle.its_word.specs.Refusals.{reason_of};
-ghost use Rattle.its_top.specs.Causes.{TurnCause};
+ghost use Rattle.its_top.specs.Causes.{FlowCause};
 ghost use Rattle.its_top.specs.Answer.{Tells};
 
-use super::turn::Turn;
+use super::flow::Flow;
 use arrayvec::ArrayVec;
 use its_io::{Sink, write_all};
 use its_print::print_refusal;
 use its_word::{Reason, Refusal};
 
-/// Writes the bytes of a line, after which the turn is `good`.
+/// Writes the bytes of a line, after which the flow is `good`.
 #[tactic(auto, using(crate::proofs::WritingLaws::told_all, crate::proofs::WritingLaws::told_begun))]
-pub fn tell<K: Sink>(out: &mut K, line: &ArrayVec<u8, 2048>, good: Turn) -> Turn
+pub fn tell<K: Sink>(out: &mut K, line: &ArrayVec<u8, 2048>, good: Flow) -> Flow
     ensures told { Tells result good line.now.items (K.written out.old) (K.written out.new) }
     ensures later { K.faults out.old ≤ K.faults out.new }
-    ensures unfailed { result ≢ Turn.Fault → K.faults out.new ≡ K.faults out.old }
-    ensures fault { good ≢ Turn.Fault → result ≡ Turn.Fault → K.faults out.new ≡ next_fault (K.faults out.old) }
+    ensures unfailed { result ≢ Flow.Fault → K.faults out.new ≡ K.faults out.old }
+    ensures fault { good ≢ Flow.Fault → result ≡ Flow.Fault → K.faults out.new ≡ next_fault (K.faults out.old) }
 {
     match write_all(out, line) {
         Ok(()) => good,
-        Err(_) => Turn::Fault,
+        Err(_) => Flow::Fault,
     }
 }
 
 /// Writes the `?` line of a refusal.
-pub fn refuse<K: Sink>(out: &mut K, number: u32, reason: Reason) -> Turn
-    ensures told { Tells result Turn.Refused (text_of_line (Refused number reason)) (K.written out.old) (K.written out.new) }
-    ensures cause { TurnCause result (K.faults out.old) (K.faults out.new) }
+pub fn refuse<K: Sink>(out: &mut K, number: u32, reason: Reason) -> Flow
+    ensures told { Tells result Flow.Refused (text_of_line (Refused number reason)) (K.written out.old) (K.written out.new) }
+    ensures cause { FlowCause result (K.faults out.old) (K.faults out.new) }
 {
     let mut line = ArrayVec::new();
     print_refusal(number, reason, &mut line);
-    tell(out, &line, Turn::Refused)
+    tell(out, &line, Flow::Refused)
 }
 
 /// Writes the `?` line of a refusal of the monitor.
-pub fn refuse_by<K: Sink>(out: &mut K, number: u32, e: Refusal) -> Turn
-    ensures told { Tells result Turn.Refused (text_of_line (Refused number (reason_of e))) (K.written out.old) (K.written out.new) }
-    ensures cause { TurnCause result (K.faults out.old) (K.faults out.new) }
+pub fn refuse_by<K: Sink>(out: &mut K, number: u32, e: Refusal) -> Flow
+    ensures told { Tells result Flow.Refused (text_of_line (Refused number (reason_of e))) (K.written out.old) (K.written out.new) }
+    ensures cause { FlowCause result (K.faults out.old) (K.faults out.new) }
 {
     refuse(out, number, e.reason())
 }

@@ -6,7 +6,7 @@ use Rattle.its_word.specs.Item.{Item}
 use Rattle.its_plain.specs.Transcript.{at_start}
 use Rattle.its_plain.specs.Turns.{highest}
 use Rattle.its_verify.specs.Accepted.{AcceptedLines, BeginsTranscript, IsFirst}
-use Rattle.its_verify.specs.Judge.{Verdict, Yes, No, judged}
+use Rattle.its_verify.specs.Rulings.{Verdict, Yes, No, judged}
 use Rattle.its_verify.specs.Verified.{Answer, Judged, TooLong, bounded, within}
 use Rattle.its_verify.proofs.VerdictLaws.{first_lines_no, lines_yes, no_lines, yes_lines}
 

@@ -6,19 +6,19 @@ use Rattle.its_io.specs.declared.stream.Failed.{Failed}
 use Rattle.its_reader.specs.declared.items.Found.{Found}
 use Rattle.its_verify.specs.Going.{ItemSays}
 use Rattle.its_verify.specs.TranscriptReader.{Concludes, Says}
-use Rattle.its_verify.specs.Judge.{Judge}
+use Rattle.its_verify.specs.Rulings.{Ruling}
 use Rattle.its_verify.specs.Verifier.{TicksSay, TurnsSay}
 use Rattle.its_verify.specs.declared.outcome.Outcome.{Outcome}
 use Rattle.its_verify.specs.declared.transcript_reader.TranscriptReader.{TranscriptReader}
 use Rattle.its_verify.specs.declared.verifier.Verifier.{Verifier}
 
-pub err_says : (o : Result (Option Outcome) Failed) (e : Failed) (old new : TranscriptReader) (left rest : Option (List ℕ)) (judge next : Judge) → IsErr o → Says (Err e) old new left rest judge next → Says o old new left rest judge next
-err_says (Ok x) e old new left rest judge next is says = absurd (false≢true is)
-err_says (Err y) e old new left rest judge next is says = says
+pub err_says : (o : Result (Option Outcome) Failed) (e : Failed) (old new : TranscriptReader) (left rest : Option (List ℕ)) (ruling next : Ruling) → IsErr o → Says (Err e) old new left rest ruling next → Says o old new left rest ruling next
+err_says (Ok x) e old new left rest ruling next is says = absurd (false≢true is)
+err_says (Err y) e old new left rest ruling next is says = says
 
-pub err_concludes : (o : Result Outcome Failed) (e : Failed) (old : TranscriptReader) (left rest : Option (List ℕ)) (judge : Judge) → IsErr o → Concludes (Err e) old left rest judge → Concludes o old left rest judge
-err_concludes (Ok x) e old left rest judge is ends = absurd (false≢true is)
-err_concludes (Err y) e old left rest judge is ends = ends
+pub err_concludes : (o : Result Outcome Failed) (e : Failed) (old : TranscriptReader) (left rest : Option (List ℕ)) (ruling : Ruling) → IsErr o → Concludes (Err e) old left rest ruling → Concludes o old left rest ruling
+err_concludes (Ok x) e old left rest ruling is ends = absurd (false≢true is)
+err_concludes (Err y) e old left rest ruling is ends = ends
 
 pub err_ticks : (o : Result (Option Outcome) Failed) (e : Failed) (old new : Verifier) (left rest : Option (List ℕ)) (i k : ℕ) → IsErr o → TicksSay (Err e) old new left rest i k → TicksSay o old new left rest i k
 err_ticks (Ok x) e old new left rest i k is says = absurd (false≢true is)

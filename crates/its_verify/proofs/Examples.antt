@@ -14,7 +14,7 @@ use Rattle.its_plain.specs.Transcript.{Walk, at_start}
 use Rattle.its_plain.specs.Turns.{highest}
 use Rattle.its_reader.specs.TextLines.{lines_in}
 use Rattle.its_verify.specs.Lines.{is_peek}
-use Rattle.its_verify.specs.Judge.{Verdict, Yes, No, judged}
+use Rattle.its_verify.specs.Rulings.{Verdict, Yes, No, judged}
 use Rattle.its_verify.specs.Letters.{ticks_in}
 use Rattle.its_verify.specs.Verified.{verified, bounded, is_end_line, Judged, Cut, Long}
 

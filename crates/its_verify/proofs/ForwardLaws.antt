@@ -7,13 +7,13 @@ use Rattle.its_plain.specs.OperatorLines.{Done, Lined, Peeks, lined}
 use Rattle.its_plain.specs.Transcript.{Walk, next_line, walk_after}
 use Rattle.its_plain.specs.Turns.{ticks_asked, turns_asked}
 use Rattle.its_verify.specs.TranscriptReader.{Forward}
-use Rattle.its_verify.specs.Judge.{Judge, at_end, gone, judged, peeking, turned}
+use Rattle.its_verify.specs.Rulings.{Ruling, at_end, gone, judged, peeking, turned}
 use Rattle.its_verify.specs.Letters.{ticked}
 use Rattle.its_verify.proofs.TranscriptReaderLaws.{end_forward, led_forward}
 use Rattle.its_verify.proofs.ShowingLaws.{lines_forward}
 use Rattle.its_verify.proofs.VerifierLaws.{turned_forward}
 
-gone_forward : (v : Walk) (o : Lined) (next : Walk → Judge) → ((w : Walk) → Forward (next w)) → Forward (gone v o next)
+gone_forward : (v : Walk) (o : Lined) (next : Walk → Ruling) → ((w : Walk) → Forward (next w)) → Forward (gone v o next)
 gone_forward v (Done (Refuses r)) next h = lines_forward (Refused v.line r ∷ []) at_end end_forward
 gone_forward v (Done (Does n out touched b)) next h = lines_forward out (next (next_line (walk_after v n touched b))) (h (next_line (walk_after v n touched b)))
 gone_forward v (Done (Ticks i k)) next h = led_forward (ticked v i k) (λ w. next (next_line w)) (λ w. h (next_line w))

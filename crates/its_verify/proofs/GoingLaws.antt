@@ -22,12 +22,12 @@ use Rattle.its_direct.specs.declared.events.Answer.{Answer}
 use Rattle.its_direct.specs.declared.events.Answer.TheVariants.{Nothing, Slot, Dropped, Drained}
 use Rattle.its_direct.specs.declared.plain.Spot.{Spot}
 use Rattle.its_direct.specs.declared.plain.Spot.TheVariants as spots
-use Rattle.its_verify.specs.Going.{LineSays, SaysEnd, line_judge}
+use Rattle.its_verify.specs.Going.{LineSays, SaysEnd, line_ruling}
 use Rattle.its_verify.specs.TranscriptReader.{Concludes, PassesOn, Says, Stays}
 use Rattle.its_verify.proofs.TranscriptReaderLaws.{nothing_on}
-use Rattle.its_verify.specs.Judge.{Judge as AnyJudge, at_end, gone, led, peeking, expects}
+use Rattle.its_verify.specs.Rulings.{Ruling, at_end, gone, led, peeking, expects}
 use Rattle.its_verify.specs.Letters.{ticked}
-use Rattle.its_verify.specs.Showing.{IsThere, shown_judge, is_peek_event, lines_of, shown_if}
+use Rattle.its_verify.specs.Showing.{IsThere, shown_ruling, is_peek_event, lines_of, shown_if}
 use Rattle.its_verify.specs.JudgeState.{Forgets, Sure, walk_of}
 use Rattle.its_verify.specs.Verifier.{StaysAtItem, TicksSay}
 use Rattle.its_verify.specs.declared.outcome.Outcome.{Outcome}
@@ -61,9 +61,9 @@ peek_does s (Some q) n out d c is = cc
 
 -- what is expected for a line is what it shows
 abbrev Shown : Event → Answer → Machine → List Line → Type 0
-Shown e a n out = ((next : AnyJudge) → shown_judge e a n next ≡ expects out next) × IsThere e n
+Shown e a n out = ((next : Ruling) → shown_ruling e a n next ≡ expects out next) × IsThere e n
 
-by_lines : (e : Event) (a : Answer) (n : Machine) (out : List Line) → out ≡ lines_of e a n → (next : AnyJudge) → expects (lines_of e a n) next ≡ expects out next
+by_lines : (e : Event) (a : Answer) (n : Machine) (out : List Line) → out ≡ lines_of e a n → (next : Ruling) → expects (lines_of e a n) next ≡ expects out next
 by_lines e a n out is next = ap (λ (ls : List Line). expects ls next) (sym is)
 
 pub line_shown : (m n : Machine) (b c : Block) (e : Event) (a : Answer) (out : List Line) (d : ℕ → Bool) → lined m b e ≡ Done (Does n out d c) → AnswerSays e a out → Shown e a n out
@@ -98,7 +98,7 @@ pub record ObeyedSo (e : Event) (a : Answer) (old new : Judge) (b : Block) (n : 
   pub after : Block
   pub speaks : Speaks new.plain.place after
   pub there : IsThere e (machine_of new.plain)
-  pub goes : (next : Walk → AnyJudge) → gone (walk_of old b n) (lined (machine_of old.plain) b e) next ≡ shown_judge e a (machine_of new.plain) (next (walk_of new after (n + 1)))
+  pub goes : (next : Walk → Ruling) → gone (walk_of old b n) (lined (machine_of old.plain) b e) next ≡ shown_ruling e a (machine_of new.plain) (next (walk_of new after (n + 1)))
 
 speaks_same : (p q : Spot) (b : Block) → q ≡ p → Speaks p b → Speaks q b
 speaks_same p q b is h = subst (λ (s : Spot). Speaks s b) (sym is) h
@@ -121,7 +121,7 @@ peek_so e a old new b n s event forgets is same none place speaks = record {
   goes = λ next.
       ap (λ (o : Lined). gone (walk_of old b n) o next) is
       ∙ ap (λ (w : Walk). led peeking (λ text. next w)) (line_walk old new b b n (machine_of old.plain) (λ k. false) same none forgets)
-      ∙ sym (ap (λ (x : Event). shown_judge x a (machine_of new.plain) (next (walk_of new b (n + 1)))) event);
+      ∙ sym (ap (λ (x : Event). shown_ruling x a (machine_of new.plain) (next (walk_of new b (n + 1)))) event);
 }
 
 does_so : (e : Event) (a : Answer) (old new : Judge) (b : Block) (n : ℕ) (m : Machine) (out : List Line) (d : ℕ → Bool) (after : Block) → Forgets new.plain old.dots new.dots
@@ -166,17 +166,17 @@ told_there e a old new h forgets = (obeyed_so e a old new (block_at old.plain.pl
 
 -- the result of a line, if it was obeyed and its lines are read
 says_told : (e : Event) (a : Answer) (r : Result (Option Outcome) Failed) (old mid new : Verifier) (left rest : Option (List ℕ)) (b : Block) (n : ℕ) (so : ObeyedSo e a old.judge mid.judge b n) → mid.reader ≡ old.reader
-    → new.judge ≡ mid.judge → ((next : AnyJudge) → Says r mid.reader new.reader left rest (shown_judge e a (machine_of mid.judge.plain) next) next)
-    → (next : Walk → AnyJudge) → Says r old.reader new.reader left rest (line_judge old b n e next) (next (walk_of new.judge so.after (n + 1)))
+    → new.judge ≡ mid.judge → ((next : Ruling) → Says r mid.reader new.reader left rest (shown_ruling e a (machine_of mid.judge.plain) next) next)
+    → (next : Walk → Ruling) → Says r old.reader new.reader left rest (line_ruling old b n e next) (next (walk_of new.judge so.after (n + 1)))
 says_told e a r old mid new left rest b n so reader judge says next =
-    let on : AnyJudge = next (walk_of mid.judge so.after (n + 1)) in
-    subst (λ (j : Judge). Says r old.reader new.reader left rest (line_judge old b n e next) (next (walk_of j so.after (n + 1)))) (sym judge)
-    (subst (λ (h : TranscriptReader). Says r h new.reader left rest (line_judge old b n e next) on) reader
-    (subst (λ (j : AnyJudge). Says r mid.reader new.reader left rest j on) (sym (so.goes next)) (says on)))
+    let on : Ruling = next (walk_of mid.judge so.after (n + 1)) in
+    subst (λ (j : Judge). Says r old.reader new.reader left rest (line_ruling old b n e next) (next (walk_of j so.after (n + 1)))) (sym judge)
+    (subst (λ (h : TranscriptReader). Says r h new.reader left rest (line_ruling old b n e next) on) reader
+    (subst (λ (j : Ruling). Says r mid.reader new.reader left rest j on) (sym (so.goes next)) (says on)))
 
 pub told_says : (e : Event) (a : Answer) (r : Result (Option Outcome) Failed) (old mid new : Verifier) (left rest : Option (List ℕ)) (n : ℕ) → Told e old.judge.plain mid.judge.plain (Ok a)
     → Forgets mid.judge.plain old.judge.dots mid.judge.dots → mid.reader ≡ old.reader → new.judge ≡ mid.judge
-    → ((next : AnyJudge) → Says r mid.reader new.reader left rest (shown_judge e a (machine_of mid.judge.plain) next) next) → LineSays r old new left rest n e
+    → ((next : Ruling) → Says r mid.reader new.reader left rest (shown_ruling e a (machine_of mid.judge.plain) next) next) → LineSays r old new left rest n e
 told_says e a (Ok None) old mid new left rest n h forgets reader judge says = λ b speaks.
     (let so = obeyed_so e a old.judge mid.judge b n h forgets speaks in
     record {
@@ -191,11 +191,11 @@ told_says e a (Err x) old mid new left rest n h forgets reader judge says = λ b
     says_told e a (Err x) old mid new left rest b n so reader judge says next (forward (walk_of new.judge so.after (n + 1))))
 
 -- if all is said with a line
-ends_says : (r : Result (Option Outcome) Failed) (e : Event) (old new : Verifier) (left rest : Option (List ℕ)) (n : ℕ) (judge : AnyJudge)
-    → ((b : Block) → Speaks old.judge.plain.place b → (next : Walk → AnyJudge) → line_judge old b n e next ≡ judge) → SaysEnd r old.reader left rest judge → LineSays r old new left rest n e
+ends_says : (r : Result (Option Outcome) Failed) (e : Event) (old new : Verifier) (left rest : Option (List ℕ)) (n : ℕ) (judge : Ruling)
+    → ((b : Block) → Speaks old.judge.plain.place b → (next : Walk → Ruling) → line_ruling old b n e next ≡ judge) → SaysEnd r old.reader left rest judge → LineSays r old new left rest n e
 ends_says (Ok None) e old new left rest n judge is ends = absurd ends
-ends_says (Ok (Some f)) e old new left rest n judge is ends = λ b speaks next. subst (λ (j : AnyJudge). Concludes (Ok f) old.reader left rest j) (sym (is b speaks next)) ends
-ends_says (Err x) e old new left rest n judge is ends = λ b speaks next forward. subst (λ (j : AnyJudge). Concludes (Err x) old.reader left rest j) (sym (is b speaks next)) ends
+ends_says (Ok (Some f)) e old new left rest n judge is ends = λ b speaks next. subst (λ (j : Ruling). Concludes (Ok f) old.reader left rest j) (sym (is b speaks next)) ends
+ends_says (Err x) e old new left rest n judge is ends = λ b speaks next forward. subst (λ (j : Ruling). Concludes (Err x) old.reader left rest j) (sym (is b speaks next)) ends
 
 -- if it was refused
 pub told_refused : (e : Event) (x : Refusal) (r : Result (Option Outcome) Failed) (old new : Verifier) (mid : Judge) (h : TranscriptReader) (left rest : Option (List ℕ)) (n : ℕ) → Told e old.judge.plain mid.plain (Err x)
@@ -214,9 +214,9 @@ end_lined : (m : Machine) (b : Block) → lined m b events.End ≡ Done Quits
 unfolding lined operate
 end_lined m b = refl
 
-says_tick : (i k : ℕ) (r : Result (Option Outcome) Failed) (old new : Verifier) (left rest : Option (List ℕ)) (b : Block) (n : ℕ) (next : Walk → AnyJudge)
+says_tick : (i k : ℕ) (r : Result (Option Outcome) Failed) (old new : Verifier) (left rest : Option (List ℕ)) (b : Block) (n : ℕ) (next : Walk → Ruling)
     → Says r old.reader new.reader left rest (led (ticked (walk_of old.judge b n) i k) (λ w. next (next_line w))) (next (walk_of new.judge b (n + 1)))
-    → Says r old.reader new.reader left rest (line_judge old b n (events.Tick i k) next) (next (walk_of new.judge b (n + 1)))
+    → Says r old.reader new.reader left rest (line_ruling old b n (events.Tick i k) next) (next (walk_of new.judge b (n + 1)))
 says_tick i k r old new left rest b n next =
     subst (λ (o : Lined). Says r old.reader new.reader left rest (gone (walk_of old.judge b n) o next) (next (walk_of new.judge b (n + 1)))) (sym (tick_lined (machine_of old.judge.plain) b i k))
 
@@ -241,7 +241,7 @@ run_says k q e old left n is = λ b speaks. record {
   after = b;
   speaks = speaks;
   goes = λ next.
-      (let on : AnyJudge = next (walk_of old.judge b (n + 1)) in
+      (let on : Ruling = next (walk_of old.judge b (n + 1)) in
       subst (λ (o : Lined). PassesOn old.reader old.reader left left (gone (walk_of old.judge b n) o next) on) (sym (ap (lined (machine_of old.judge.plain) b) is ∙ run_lined (machine_of old.judge.plain) b k q))
       (nothing_on old.reader left on));
 }
@@ -251,24 +251,24 @@ end_says r e old new left rest n is ends =
     ends_says r e old new left rest n at_end
     (λ b speaks next. ap (λ (o : Lined). gone (walk_of old.judge b n) o next) (ap (lined (machine_of old.judge.plain) b) is ∙ end_lined (machine_of old.judge.plain) b)) ends
 
-pub end_stays : (r : Result (Option Outcome) Failed) (old : TranscriptReader) (left rest : Option (List ℕ)) (judge : AnyJudge) (new : Verifier) → SaysEnd r old left rest judge → StaysAtItem r new rest
+pub end_stays : (r : Result (Option Outcome) Failed) (old : TranscriptReader) (left rest : Option (List ℕ)) (judge : Ruling) (new : Verifier) → SaysEnd r old left rest judge → StaysAtItem r new rest
 end_stays (Ok None) old left rest judge new ends = absurd ends
 end_stays (Ok (Some f)) old left rest judge new ends = tt
 end_stays (Err x) old left rest judge new ends = tt
 
-pub never_on : {X : Type 0} (r : Result (Option Outcome) Failed) (old : TranscriptReader) (left rest : Option (List ℕ)) (judge : AnyJudge) → SaysEnd r old left rest judge → r ≡ Ok None → X
+pub never_on : {X : Type 0} (r : Result (Option Outcome) Failed) (old : TranscriptReader) (left rest : Option (List ℕ)) (judge : Ruling) → SaysEnd r old left rest judge → r ≡ Ok None → X
 never_on (Ok None) old left rest judge ends is = absurd ends
 never_on (Ok (Some f)) old left rest judge ends is = cc
 never_on (Err x) old left rest judge ends is = cc
 
 -- PEEK, and any other line
 pub peek_shown : (e : Event) (a : Answer) (m : Machine) (r : Result (Option Outcome) Failed) (old new : TranscriptReader) (left rest : Option (List ℕ)) (b : Bool) → b ≡ is_peek_event e → b ≡ true
-    → ((next : AnyJudge) → Says r old new left rest (led peeking (λ t. next)) next) → (next : AnyJudge) → Says r old new left rest (shown_judge e a m next) next
+    → ((next : Ruling) → Says r old new left rest (led peeking (λ t. next)) next) → (next : Ruling) → Says r old new left rest (shown_ruling e a m next) next
 peek_shown (events.Peek s) a m r old new left rest b test is says = says
 peek_shown e a m r old new left rest b test is says = absurd (false≢true (sym test ∙ is))
 
 pub lines_shown : (e : Event) (a : Answer) (m : Machine) (r : Result (Option Outcome) Failed) (old new : TranscriptReader) (left rest : Option (List ℕ)) (b : Bool) → b ≡ is_peek_event e → b ≡ false
-    → ((next : AnyJudge) → Says r old new left rest (expects (lines_of e a m) next) next) → (next : AnyJudge) → Says r old new left rest (shown_judge e a m next) next
+    → ((next : Ruling) → Says r old new left rest (expects (lines_of e a m) next) next) → (next : Ruling) → Says r old new left rest (shown_ruling e a m next) next
 lines_shown (events.Peek s) a m r old new left rest b test is says = absurd (false≢true (sym is ∙ test))
 lines_shown e a m r old new left rest b test is says = says
 

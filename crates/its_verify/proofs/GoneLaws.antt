@@ -30,7 +30,7 @@ use Rattle.its_verify.specs.TranscriptReader.{Concludes, PassesOn, Says}
 use Rattle.its_verify.proofs.ForwardLaws.{judged_forward}
 use Rattle.its_verify.proofs.TranscriptReaderLaws.{concludes_then, end_forward, nothing_on, says_then}
 use Rattle.its_verify.proofs.VerifierLaws.{turned_forward}
-use Rattle.its_verify.specs.Judge.{Judge as AnyJudge, at_end, judged, expects, turned}
+use Rattle.its_verify.specs.Rulings.{Ruling, at_end, judged, expects, turned}
 use Rattle.its_verify.specs.Sources.{IsTold, items_of}
 use Rattle.its_verify.specs.JudgeState.{walk_of}
 use Rattle.its_verify.specs.Verifier.{StaysAtItem, AtItem, TurnsSay}
@@ -60,11 +60,11 @@ not_last events.End h = absurd (false≢true (sym h))
 not_last e h = refl
 
 -- a line, and its turns
-obeyed_then : (r : Result (Option Outcome) Failed) (e : Event) (old mid new : Verifier) (left between rest : Option (List ℕ)) (b : Block) (n : ℕ) (es : List Item) (last : AnyJudge) (line : LedOn old mid left between b n e) → mid.last ≡ old.last
+obeyed_then : (r : Result (Option Outcome) Failed) (e : Event) (old mid new : Verifier) (left between rest : Option (List ℕ)) (b : Block) (n : ℕ) (es : List Item) (last : Ruling) (line : LedOn old mid left between b n e) → mid.last ≡ old.last
     → Says r mid.reader new.reader between rest (turned (turns_asked e) (ticks_asked e) (walk_of mid.judge line.after (n + 1)) mid.last (λ x s. judged x s es)) last
     → Says r old.reader new.reader left rest (judge_from old b n (items_by (Line e) es)) last
 obeyed_then r e old mid new left between rest b n es last line same says =
-    let on : ℕ → AnyJudge = λ i. turned (turns_asked e) (ticks_asked e) (walk_of mid.judge line.after (n + 1)) i (λ x s. judged x s es) in
+    let on : ℕ → Ruling = λ i. turned (turns_asked e) (ticks_asked e) (walk_of mid.judge line.after (n + 1)) i (λ x s. judged x s es) in
     says_then r old.reader mid.reader new.reader left between rest (judge_from old b n (items_by (Line e) es)) (on old.last) last
     (line.goes (λ w. turned (turns_asked e) (ticks_asked e) w old.last (λ x s. judged x s es)))
     (subst (λ (i : ℕ). Says r mid.reader new.reader between rest (on i) last) same says)
@@ -160,12 +160,12 @@ items_start r bytes number empty place version = rw (number, empty, place, versi
 pub gone_start : (t : Verifier) (r : Items) (session : List ℕ) (left : Option (List ℕ)) → t.judge.plain.place ≡ spots.Plain → r.lines.number ≡ 0 → pending r.lines.buffer ≡ [] → r.place ≡ places.First → r.version ≡ 1
     → GoneSo t t (judge_from t no_block 1 (events_of session)) r (Some session) left left
 gone_start t r session left spot number empty place version =
-    let first : AnyJudge = judge_from t no_block 1 (events_of session) in
+    let first : Ruling = judge_from t no_block 1 (events_of session) in
     record {
       block = no_block;
       speaks = subst (λ (s : Spot). Speaks s no_block) (sym spot) tt;
       goes =
-          subst (λ (j : AnyJudge). PassesOn t.reader t.reader left left first j)
+          subst (λ (j : Ruling). PassesOn t.reader t.reader left left first j)
           (ap (judge_from t no_block 1) (items_start r session number empty place version) ∙ ap (λ (n : ℕ). judge_from t no_block (n + 1) (items_of r (Some session))) (sym number))
           (nothing_on t.reader left first);
     }
@@ -174,13 +174,13 @@ gone_start t r session left spot number empty place version =
 found_next : (now : Verifier) (b : Block) (n k : ℕ) (es fs : List Item) → es ≡ fs → k ≡ n + 1 → judge_from now b (n + 1) es ≡ judge_from now b k fs
 found_next now b n k es fs is number = rw (is, number) refl
 
-gone_then : (f : Found) (old now : Verifier) (judge : AnyJudge) (r q : Items) (session after : List ℕ) (left mid : Option (List ℕ)) (so : GoneSo old now judge r (Some session) left mid)
+gone_then : (f : Found) (old now : Verifier) (judge : Ruling) (r q : Items) (session after : List ℕ) (left mid : Option (List ℕ)) (so : GoneSo old now judge r (Some session) left mid)
     (split : Split f (items_of r (Some session)) (items_of q (Some after))) → q.lines.number ≡ r.lines.number + 1
     → PassesOn old.reader now.reader left mid judge (judge_from now so.block q.lines.number (items_by f split.behind))
 gone_then f old now judge r q session after left mid so split number =
-    subst (λ (j : AnyJudge). PassesOn old.reader now.reader left mid judge j) (found_next now so.block r.lines.number q.lines.number _ _ split.is number) so.goes
+    subst (λ (j : Ruling). PassesOn old.reader now.reader left mid judge j) (found_next now so.block r.lines.number q.lines.number _ _ split.is number) so.goes
 
-pub gone_next : (o : Result (Option Outcome) Failed) (f : Found) (old now new : Verifier) (judge : AnyJudge) (r q : Items) (session after : List ℕ) (left mid rest : Option (List ℕ)) → o ≡ Ok None
+pub gone_next : (o : Result (Option Outcome) Failed) (f : Found) (old now new : Verifier) (judge : Ruling) (r q : Items) (session after : List ℕ) (left mid rest : Option (List ℕ)) → o ≡ Ok None
     → GoneSo old now judge r (Some session) left mid → Finds (Ok f) r q (Some session) (Some after) → Ready q.lines (Some after) → q.lines.number ≡ r.lines.number + 1 → is_last f ≡ false
     → ItemSays o now new mid rest q.lines.number f → GoneSo old new judge q (Some after) left rest
 gone_next o f old now new judge r q session after left mid rest is so finds ready number going says =
@@ -196,7 +196,7 @@ gone_next o f old now new judge r q session after left mid rest is so finds read
           (gone_then f old now judge r q session after left mid so split number) (item.goes split.behind));
     }
 
-pub gone_over : (o : Result (Option Outcome) Failed) (x : Outcome) (f : Found) (old now new : Verifier) (judge : AnyJudge) (r q : Items) (session after : List ℕ) (left mid rest : Option (List ℕ)) → o ≡ Ok (Some x)
+pub gone_over : (o : Result (Option Outcome) Failed) (x : Outcome) (f : Found) (old now new : Verifier) (judge : Ruling) (r q : Items) (session after : List ℕ) (left mid rest : Option (List ℕ)) → o ≡ Ok (Some x)
     → GoneSo old now judge r (Some session) left mid → Finds (Ok f) r q (Some session) (Some after) → Ready q.lines (Some after) → q.lines.number ≡ r.lines.number + 1
     → ItemSays o now new mid rest q.lines.number f → Concludes (Ok x) old.reader left rest judge
 gone_over o x f old now new judge r q session after left mid rest is so finds ready number says =
@@ -204,7 +204,7 @@ gone_over o x f old now new judge r q session after left mid rest is so finds re
     concludes_then (Ok x) old.reader now.reader left mid rest judge (judge_from now so.block q.lines.number (items_by f split.behind)) (gone_then f old now judge r q session after left mid so split number)
     (subst (λ y. ItemSays y now new mid rest q.lines.number f) is says so.block so.speaks split.behind)
 
-pub gone_fails : (o : Result (Option Outcome) Failed) (x : Failed) (f : Found) (old now new : Verifier) (judge : AnyJudge) (r q : Items) (session after : List ℕ) (left mid rest : Option (List ℕ)) → o ≡ Err x
+pub gone_fails : (o : Result (Option Outcome) Failed) (x : Failed) (f : Found) (old now new : Verifier) (judge : Ruling) (r q : Items) (session after : List ℕ) (left mid rest : Option (List ℕ)) → o ≡ Err x
     → GoneSo old now judge r (Some session) left mid → Finds (Ok f) r q (Some session) (Some after) → Ready q.lines (Some after) → q.lines.number ≡ r.lines.number + 1
     → ItemSays o now new mid rest q.lines.number f → Concludes (Err x) old.reader left rest judge
 gone_fails o x f old now new judge r q session after left mid rest is so finds ready number says =

@@ -6,18 +6,19 @@ use Rattle.its_word.specs.declared.calls.Pace.{Pace}
 use Rattle.its_word.specs.declared.show.Peek.{Peek}
 use Rattle.its_word.specs.declared.show.PeekState.TheVariants.{User}
 use Rattle.std.specs.Prelude.{bytes_eq, codes}
-use Rattle.its_print.specs.Printing.{Line, Ticks, Peeked, Refused, text_of_line}
+use Rattle.its_print.specs.Printing.{Line, Ticks, Peeked, text_of_line}
+use Rattle.its_print.specs.Printing as printed
 use Rattle.its_word.specs.Text.{words_of}
 use Rattle.its_plain.specs.OperatorLines.{Lined, Done, Peeks, lined}
 use Rattle.its_plain.specs.Machine.{Machine}
 use Rattle.its_plain.specs.Operator.{Block, Refuses, Does, Quits}
 use Rattle.its_plain.specs.Operator as operator
-use Rattle.its_plain.specs.Transcript.{Fate, Ended, Open, Lost, TooLong, Walk, walk_after, next_line}
+use Rattle.its_plain.specs.Transcript.{Fate, Ended, Open, Refused, TooLong, Walk, walk_after, next_line}
 use Rattle.its_plain.specs.Turns.{turn_after, turns_asked, ticks_asked}
 use Rattle.its_plain.proofs.RunLaws.{PacedOn, TurnBy, TurnsOn, LinedOn, Run}
 use Rattle.its_verify.specs.Lines.{Said, is_peek, says}
 use Rattle.its_verify.specs.Letters.{paced, ticked, ticks_in}
-use Rattle.its_verify.specs.Judge.{Judge, at_end, gone, judged, led, peeking, saying, expects, turned, turned_by}
+use Rattle.its_verify.specs.Rulings.{Ruling, at_end, gone, judged, led, peeking, saying, expects, turned, turned_by}
 use Rattle.its_verify.proofs.LicenceLaws.{any_letters, if_so_is, on_paced, paced_on, said_ticks, then_of, ticked_some}
 use Rattle.its_verify.proofs.RightLaws.{Finished, Led, LedBy, Right, led_on, right_as, right_at_end, right_led}
 
@@ -51,11 +52,11 @@ said_led l text h = rw h refl
 led_said : (l : Line) (text x : List ℕ) → saying l text ≡ Some x → says l text ≡ true
 led_said l text x h = (if_so_is (says l text) text x h).0
 
-right_told : (ls : List Line) (R : List (List ℕ) → Type 0) (judge : Judge) → Right R judge → Right (Told ls R) (expects ls judge)
-right_told [] R judge h = h
-right_told (l ∷ ls) R judge h =
+right_told : (ls : List Line) (R : List (List ℕ) → Type 0) (ruling : Ruling) → Right R ruling → Right (Told ls R) (expects ls ruling)
+right_told [] R ruling h = h
+right_told (l ∷ ls) R ruling h =
     let t = any_text l in
-    right_led (saying l) (λ text. Told ls R) (λ text. expects ls judge) t.text t.text (said_led l t.text t.says_it) (λ text. right_told ls R judge h)
+    right_led (saying l) (λ text. Told ls R) (λ text. expects ls ruling) t.text t.text (said_led l t.text t.says_it) (λ text. right_told ls R ruling h)
 
 -- lines out and then lines of which S holds are said by the texts
 pub record Along (out : List Line) (S : List Line → Fate → Type 0) (texts : List (List ℕ)) : Type 0 where
@@ -112,16 +113,16 @@ right_known known S fate there only =
     (λ ts a. said_told known ts (subst (λ (ls : List Line). Said ls ts) (only a.rest a.fate a.holds) a.said)) (right_told known Finished at_end right_at_end)
 
 -- a line that does something shows its lines first
-right_does : (v : Walk) (n : Machine) (out : List Line) (touched : ℕ → Bool) (b : Block) (S : Next) (judge : Judge)
-    → Right (Along [] (S (next_line (walk_after v n touched b)))) judge → Right (Along [] (OnLined v (Done (Does n out touched b)) S)) (expects out judge)
-right_does v n out touched b S judge next =
+right_does : (v : Walk) (n : Machine) (out : List Line) (touched : ℕ → Bool) (b : Block) (S : Next) (ruling : Ruling)
+    → Right (Along [] (S (next_line (walk_after v n touched b)))) ruling → Right (Along [] (OnLined v (Done (Does n out touched b)) S)) (expects out ruling)
+right_does v n out touched b S ruling next =
     let w = next_line (walk_after v n touched b) in
-    right_as (Told out (Along [] (S w))) (Along [] (OnLined v (Done (Does n out touched b)) S)) (expects out judge)
+    right_as (Told out (Along [] (S w))) (Along [] (OnLined v (Done (Does n out touched b)) S)) (expects out ruling)
     (λ ts h. (let a = told_along out (S w) ts h in record { rest = out ++ a.rest; fate = a.fate; holds = (a.rest, refl, a.holds); said = a.said }))
     (λ ts a.
     along_told out (S w) ts
     (record { rest = a.holds.0; fate = a.fate; holds = a.holds.2; said = subst (λ (ls : List Line). Said ls ts) a.holds.1 a.said }))
-    (right_told out (Along [] (S w)) judge next)
+    (right_told out (Along [] (S w)) ruling next)
 
 -- ticks of a line, or of a turn: the state of the session after its letters
 abbrev TicksOn : Walk → ℕ → ℕ → Next → List Line → Fate → Type 0
@@ -152,15 +153,15 @@ ticks_led : (v : Walk) (i k : ℕ) (S : Next) (texts : List (List ℕ)) → Led 
 ticks_led v i k S [] h = absurd h
 ticks_led v i k S (t ∷ ts) h = ticks_to v i k S t ts (ticked v i k t) refl h
 
-right_ticks : (v : Walk) (i k : ℕ) (S : Next) (judge : Walk → Judge) → ((w : Walk) → Right (Along [] (S w)) (judge w))
-    → Right (Along [] (TicksOn v i k S)) (led (ticked v i k) judge)
-right_ticks v i k S judge next =
+right_ticks : (v : Walk) (i k : ℕ) (S : Next) (ruling : Walk → Ruling) → ((w : Walk) → Right (Along [] (S w)) (ruling w))
+    → Right (Along [] (TicksOn v i k S)) (led (ticked v i k) ruling)
+right_ticks v i k S ruling next =
     let any = any_letters v i k in
     let text = text_of_line (Ticks i any.paces) in
-    right_as (Led (ticked v i k) (λ w. Along [] (S w))) (Along [] (TicksOn v i k S)) (led (ticked v i k) judge)
+    right_as (Led (ticked v i k) (λ w. Along [] (S w))) (Along [] (TicksOn v i k S)) (led (ticked v i k) ruling)
     (ticks_led v i k S)
     (λ ts a. to_ticks v i k S ts a.holds.0 a.holds.1 a.fate a.holds.3 a.holds.4 (subst (λ (ls : List Line). Said ls ts) a.holds.2 a.said))
-    (right_led (ticked v i k) (λ w. Along [] (S w)) judge text any.to
+    (right_led (ticked v i k) (λ w. Along [] (S w)) ruling text any.to
     (ticked_some v i k text any.paces any.to any.many (same_text text) any.leads) next)
 
 -- a peek
@@ -188,22 +189,22 @@ peek_led : (v : Walk) (i : ℕ) (S : Next) (texts : List (List ℕ)) → Led pee
 peek_led v i S [] h = absurd h
 peek_led v i S (t ∷ ts) h = peek_to v i S t ts (peeking t) refl h
 
-right_peek : (v : Walk) (i : ℕ) (S : Next) (judge : Judge) → Right (Along [] (S (next_line v))) judge → Right (Along [] (OnLined v (Peeks i) S)) (led peeking (λ text. judge))
-right_peek v i S judge next =
-    right_as (Led peeking (λ text. Along [] (S (next_line v)))) (Along [] (OnLined v (Peeks i) S)) (led peeking (λ text. judge))
+right_peek : (v : Walk) (i : ℕ) (S : Next) (ruling : Ruling) → Right (Along [] (S (next_line v))) ruling → Right (Along [] (OnLined v (Peeks i) S)) (led peeking (λ text. ruling))
+right_peek v i S ruling next =
+    right_as (Led peeking (λ text. Along [] (S (next_line v)))) (Along [] (OnLined v (Peeks i) S)) (led peeking (λ text. ruling))
     (peek_led v i S)
     (λ ts a. to_peek v i S ts a.holds.0 a.holds.1 a.fate a.holds.3 (subst (λ (ls : List Line). Said ls ts) a.holds.2 a.said))
-    (right_led peeking (λ text. Along [] (S (next_line v))) (λ text. judge) p_line p_line (rw short_peek refl) (λ text. next))
+    (right_led peeking (λ text. Along [] (S (next_line v))) (λ text. ruling) p_line p_line (rw short_peek refl) (λ text. next))
 
 -- a line of the session with result l
-right_gone : (v : Walk) (l : Lined) (S : Next) (judge : Walk → Judge) → ((w : Walk) → Right (Along [] (S w)) (judge w)) → Right (Along [] (OnLined v l S)) (gone v l judge)
-right_gone v (Done (Refuses r)) S judge next = right_known (Refused v.line r ∷ []) (OnLined v (Done (Refuses r)) S) Lost (refl, refl) (λ lines f h. h.0)
-right_gone v (Done (Does n out touched b)) S judge next =
-    right_does v n out touched b S (judge (next_line (walk_after v n touched b))) (next (next_line (walk_after v n touched b)))
-right_gone v (Done (operator.Ticks i k)) S judge next =
-    right_ticks v i k (λ w. S (next_line w)) (λ w. judge (next_line w)) (λ w. next (next_line w))
-right_gone v (Done Quits) S judge next = right_known [] (OnLined v (Done Quits) S) Ended (refl, refl) (λ lines f h. h.0)
-right_gone v (Peeks i) S judge next = right_peek v i S (judge (next_line v)) (next (next_line v))
+right_gone : (v : Walk) (l : Lined) (S : Next) (ruling : Walk → Ruling) → ((w : Walk) → Right (Along [] (S w)) (ruling w)) → Right (Along [] (OnLined v l S)) (gone v l ruling)
+right_gone v (Done (Refuses r)) S ruling next = right_known (printed.Refused v.line r ∷ []) (OnLined v (Done (Refuses r)) S) Refused (refl, refl) (λ lines f h. h.0)
+right_gone v (Done (Does n out touched b)) S ruling next =
+    right_does v n out touched b S (ruling (next_line (walk_after v n touched b))) (next (next_line (walk_after v n touched b)))
+right_gone v (Done (operator.Ticks i k)) S ruling next =
+    right_ticks v i k (λ w. S (next_line w)) (λ w. ruling (next_line w)) (λ w. next (next_line w))
+right_gone v (Done Quits) S ruling next = right_known [] (OnLined v (Done Quits) S) Ended (refl, refl) (λ lines f h. h.0)
+right_gone v (Peeks i) S ruling next = right_peek v i S (ruling (next_line v)) (next (next_line v))
 
 -- turns, and what follows them
 abbrev Turns : ℕ → ℕ → Walk → ℕ → (Walk → ℕ → List Line → Fate → Type 0) → List Line → Fate → Type 0
@@ -212,16 +213,16 @@ Turns n q v last S lines fate = TurnsOn n q v last (λ w s rest. S w s rest fate
 abbrev Turned : ℕ → ℕ → Walk → ℕ → Option ℕ → (Walk → ℕ → List Line → Fate → Type 0) → List Line → Fate → Type 0
 Turned n q v last o S lines fate = TurnBy q v o (λ w s rest. Turns n q w s S rest fate) (S v last lines fate) lines
 
-right_turn : (n q : ℕ) (v : Walk) (last : ℕ) (o : Option ℕ) (S : Walk → ℕ → List Line → Fate → Type 0) (more : Walk → ℕ → Judge) (done : Judge)
+right_turn : (n q : ℕ) (v : Walk) (last : ℕ) (o : Option ℕ) (S : Walk → ℕ → List Line → Fate → Type 0) (more : Walk → ℕ → Ruling) (done : Ruling)
     → ((w : Walk) (s : ℕ) → Right (Along [] (Turns n q w s S)) (more w s)) → Right (Along [] (S v last)) done → Right (Along [] (Turned n q v last o S)) (turned_by q v o more done)
 right_turn n q v last None S more done each end = end
 right_turn n q v last (Some s) S more done each end = right_ticks v s q (λ w. Turns n q w s S) (λ w. more w s) (λ w. each w s)
 
-right_turns : (n q : ℕ) (v : Walk) (last : ℕ) (S : Walk → ℕ → List Line → Fate → Type 0) (judge : Walk → ℕ → Judge)
-    → ((w : Walk) (s : ℕ) → Right (Along [] (S w s)) (judge w s)) → Right (Along [] (Turns n q v last S)) (turned n q v last judge)
-right_turns zero q v last S judge each = each v last
-right_turns (suc n) q v last S judge each =
-    right_turn n q v last (turn_after v.machine last) S (λ w s. turned n q w s judge) (judge v last) (λ w s. right_turns n q w s S judge each) (each v last)
+right_turns : (n q : ℕ) (v : Walk) (last : ℕ) (S : Walk → ℕ → List Line → Fate → Type 0) (ruling : Walk → ℕ → Ruling)
+    → ((w : Walk) (s : ℕ) → Right (Along [] (S w s)) (ruling w s)) → Right (Along [] (Turns n q v last S)) (turned n q v last ruling)
+right_turns zero q v last S ruling each = each v last
+right_turns (suc n) q v last S ruling each =
+    right_turn n q v last (turn_after v.machine last) S (λ w s. turned n q w s ruling) (ruling v last) (λ w s. right_turns n q w s S ruling each) (each v last)
 
 -- lines that are shown by a session from the walk on, after a turn of the last slot, and their texts
 abbrev pub From : Walk → ℕ → List Item → List (List ℕ) → Type 0
@@ -232,5 +233,5 @@ right_judged [] v last = right_known [] (Run v last []) Open (refl, refl) (λ li
 right_judged (Read e ∷ es) v last =
     right_gone v (lined v.machine v.block e) (λ w. Turns (turns_asked e) (ticks_asked e) w last (λ x s. Run x s es)) (λ w. turned (turns_asked e) (ticks_asked e) w last (λ x s. judged x s es))
     (λ w. right_turns (turns_asked e) (ticks_asked e) w last (λ x s. Run x s es) (λ x s. judged x s es) (λ x s. right_judged es x s))
-right_judged (Unread r ∷ es) v last = right_known (Refused v.line r ∷ []) (Run v last (Unread r ∷ es)) Lost (refl, refl) (λ lines f h. h.0)
+right_judged (Unread r ∷ es) v last = right_known (printed.Refused v.line r ∷ []) (Run v last (Unread r ∷ es)) Refused (refl, refl) (λ lines f h. h.0)
 right_judged (Beyond ∷ es) v last = right_known [] (Run v last (Beyond ∷ es)) TooLong (refl, refl) (λ lines f h. h.0)

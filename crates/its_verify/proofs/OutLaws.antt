@@ -18,10 +18,10 @@ use Rattle.its_direct.specs.declared.events.Answer.{Answer}
 use Rattle.its_verify.specs.Finds.{ReadsOut, ReadsOutIf}
 use Rattle.its_verify.specs.Going.{GoneSo, LineSays}
 use Rattle.its_verify.specs.TranscriptReader.{Says, cut, same_as}
-use Rattle.its_verify.specs.Judge.{Judge, Verdict, Yes, No, at_end, led, led_by, saying, peeking, expects, turned, turned_by}
+use Rattle.its_verify.specs.Rulings.{Ruling, Verdict, Yes, No, at_end, led, led_by, saying, peeking, expects, turned, turned_by}
 use Rattle.its_verify.specs.Keeping.{Keeps}
 use Rattle.its_verify.specs.Letters.{ticked}
-use Rattle.its_verify.specs.Showing.{shown_judge, lines_of}
+use Rattle.its_verify.specs.Showing.{shown_ruling, lines_of}
 use Rattle.its_verify.specs.Sources.{IsTold, texts_of}
 use Rattle.its_verify.specs.JudgeState.{walk_of}
 use Rattle.its_verify.specs.Verifier.{TicksSay, TurnsSay}
@@ -47,41 +47,41 @@ abbrev IsNo : Verdict → Type 0
 IsNo (Yes n) = ⊥
 IsNo (No n) = Unit {0}
 
-abbrev Refuses : Judge → Type 0
-Refuses judge = (n : ℕ) (texts : List (List ℕ)) → IsNo (judge n texts)
+abbrev Refuses : Ruling → Type 0
+Refuses ruling = (n : ℕ) (texts : List (List ℕ)) → IsNo (ruling n texts)
 
 abbrev IsOther : Said → Type 0
 IsOther (Judged v) = IsNo v
 IsOther _ = Unit {0}
 
-abbrev never : Judge
+abbrev never : Ruling
 never n texts = No n
 
 never_refuses : Refuses never
 never_refuses n texts = tt
 
-by_refuses : {X : Type 0} (o : Option X) (next : X → Judge) → ((x : X) → Refuses (next x)) → (n : ℕ) (texts : List (List ℕ)) → IsNo (led_by o next n texts)
+by_refuses : {X : Type 0} (o : Option X) (next : X → Ruling) → ((x : X) → Refuses (next x)) → (n : ℕ) (texts : List (List ℕ)) → IsNo (led_by o next n texts)
 by_refuses None next h n texts = tt
 by_refuses (Some x) next h n texts = h x (n + 1) texts
 
-led_refuses : {X : Type 0} (reads : List ℕ → Option X) (next : X → Judge) → ((x : X) → Refuses (next x)) → Refuses (led reads next)
+led_refuses : {X : Type 0} (reads : List ℕ → Option X) (next : X → Ruling) → ((x : X) → Refuses (next x)) → Refuses (led reads next)
 led_refuses reads next h n [] = tt
 led_refuses reads next h n (text ∷ texts) = by_refuses (reads text) next h n texts
 
-told_refuses : (lines : List Line) (next : Judge) → Refuses next → Refuses (expects lines next)
+told_refuses : (lines : List Line) (next : Ruling) → Refuses next → Refuses (expects lines next)
 told_refuses [] next h = h
 told_refuses (line ∷ lines) next h = led_refuses (saying line) (λ text. expects lines next) (λ text. told_refuses lines next h)
 
-turn_refuses : (q : ℕ) (v : Walk) (o : Option ℕ) (more : Walk → ℕ → Judge) (done : Judge) → ((w : Walk) (s : ℕ) → Refuses (more w s)) → Refuses done → Refuses (turned_by q v o more done)
+turn_refuses : (q : ℕ) (v : Walk) (o : Option ℕ) (more : Walk → ℕ → Ruling) (done : Ruling) → ((w : Walk) (s : ℕ) → Refuses (more w s)) → Refuses done → Refuses (turned_by q v o more done)
 turn_refuses q v None more done h d = d
 turn_refuses q v (Some s) more done h d = led_refuses (ticked v s q) (λ w. more w s) (λ w. h w s)
 
-turned_refuses : (n q : ℕ) (v : Walk) (last : ℕ) (next : Walk → ℕ → Judge) → ((w : Walk) (s : ℕ) → Refuses (next w s)) → Refuses (turned n q v last next)
+turned_refuses : (n q : ℕ) (v : Walk) (last : ℕ) (next : Walk → ℕ → Ruling) → ((w : Walk) (s : ℕ) → Refuses (next w s)) → Refuses (turned n q v last next)
 turned_refuses zero q v last next h = h v last
 turned_refuses (suc n) q v last next h =
     turn_refuses q v (turn_after v.machine last) (λ w s. turned n q w s next) (next v last) (λ w s. turned_refuses n q w s next h) (h v last)
 
-shown_refuses : (e : Event) (a : Answer) (m : Machine) (next : Judge) → Refuses next → Refuses (shown_judge e a m next)
+shown_refuses : (e : Event) (a : Answer) (m : Machine) (next : Ruling) → Refuses next → Refuses (shown_ruling e a m next)
 shown_refuses (events.Peek s) a m next h = led_refuses peeking (λ text. next) (λ text. h)
 shown_refuses e a m next h = told_refuses (lines_of e a m) next h
 
@@ -89,31 +89,31 @@ within_other : (room : ℕ) (v : Verdict) → IsOther (within room v)
 within_other room (Yes n) = tt
 within_other room (No n) = elim (cases_Bool (leb n room)) [ inl e ↦ rw e tt | inr e ↦ rw e tt ]
 
-cut_other : (room n : ℕ) (judge : Judge) (texts : List (List ℕ)) → Refuses judge → IsOther (cut room n judge texts)
-cut_other room n judge texts h =
+cut_other : (room n : ℕ) (ruling : Ruling) (texts : List (List ℕ)) → Refuses ruling → IsOther (cut room n ruling texts)
+cut_other room n ruling texts h =
     elim (cases_Bool (leb (n + length texts) room)) [
       | inl fit ↦ rw fit (h n texts)
-      | inr past ↦ rw past (within_other room (judge n (take (room - n) texts)))
+      | inr past ↦ rw past (within_other room (ruling n (take (room - n) texts)))
     ]
 
 -- what it says is no reason to have read on
-said_out : (r : Result (Option Outcome) Failed) (old new : TranscriptReader) (left rest : Option (List ℕ)) (judge next : Judge) → Refuses judge → Says r old new left rest judge next → ReadsOutIf r left rest
-said_out (Ok None) old new left rest judge next refuses says = tt
-said_out (Ok (Some (outcomes.Yes n))) old new None rest judge next refuses says = tt
-said_out (Ok (Some (outcomes.Yes n))) old new (Some bytes) rest judge next refuses says =
-    absurd (subst IsOther (says tt) (cut_other old.room old.passed judge (texts_of old.texts (Some bytes)) refuses))
-said_out (Ok (Some f)) old new left rest judge next refuses says = tt
-said_out (Err e) old new left rest judge next refuses says = tt
+said_out : (r : Result (Option Outcome) Failed) (old new : TranscriptReader) (left rest : Option (List ℕ)) (ruling next : Ruling) → Refuses ruling → Says r old new left rest ruling next → ReadsOutIf r left rest
+said_out (Ok None) old new left rest ruling next refuses says = tt
+said_out (Ok (Some (outcomes.Yes n))) old new None rest ruling next refuses says = tt
+said_out (Ok (Some (outcomes.Yes n))) old new (Some bytes) rest ruling next refuses says =
+    absurd (subst IsOther (says tt) (cut_other old.room old.passed ruling (texts_of old.texts (Some bytes)) refuses))
+said_out (Ok (Some f)) old new left rest ruling next refuses says = tt
+said_out (Err e) old new left rest ruling next refuses says = tt
 
 -- if lines are still to come, nothing is accepted
 pub line_out : (line : List ℕ) (r : Result (Option Outcome) Failed) (old new : TranscriptReader) (left rest : Option (List ℕ))
-    → ((next : Judge) → Says r old new left rest (led (same_as line) (λ t. next)) next) → ReadsOutIf r left rest
+    → ((next : Ruling) → Says r old new left rest (led (same_as line) (λ t. next)) next) → ReadsOutIf r left rest
 line_out line r old new left rest says =
     said_out r old new left rest (led (same_as line) (λ t. never)) never (led_refuses (same_as line) (λ t. never) (λ t. never_refuses)) (says never)
 
 pub shown_out : (e : Event) (a : Answer) (m : Machine) (r : Result (Option Outcome) Failed) (old new : TranscriptReader) (left rest : Option (List ℕ))
-    → ((next : Judge) → Says r old new left rest (shown_judge e a m next) next) → ReadsOutIf r left rest
-shown_out e a m r old new left rest says = said_out r old new left rest (shown_judge e a m never) never (shown_refuses e a m never never_refuses) (says never)
+    → ((next : Ruling) → Says r old new left rest (shown_ruling e a m next) next) → ReadsOutIf r left rest
+shown_out e a m r old new left rest says = said_out r old new left rest (shown_ruling e a m never) never (shown_refuses e a m never never_refuses) (says never)
 
 pub tick_out : (i k : ℕ) (r : Result (Option Outcome) Failed) (old new : Verifier) (left rest : Option (List ℕ)) → TicksSay r old new left rest i k → ReadsOutIf r left rest
 tick_out i k (Ok o) old new left rest says =
@@ -151,9 +151,9 @@ told_by r e old mid left between n is line t =
     let led = subst (λ q. LineSays q old mid left between n e) is line (block_at old.judge.plain.place) (speaks_at old.judge.plain.place) in
     (led.goes (λ w. at_end) t).0
 
-pub gone_out : (r : Result (Option Outcome) Failed) (f : Outcome) (old now : Verifier) (judge : Judge) (items : Items) (session left mid rest : Option (List ℕ)) → r ≡ Ok (Some f)
-    → GoneSo old now judge items session left mid → ReadsOutIf r mid rest → ReadsOut f left rest
-gone_out r f old now judge items session left mid rest is so out = out_behind f left mid rest (λ t. (so.goes t).0) (subst (λ x. ReadsOutIf x mid rest) is out)
+pub gone_out : (r : Result (Option Outcome) Failed) (f : Outcome) (old now : Verifier) (ruling : Ruling) (items : Items) (session left mid rest : Option (List ℕ)) → r ≡ Ok (Some f)
+    → GoneSo old now ruling items session left mid → ReadsOutIf r mid rest → ReadsOut f left rest
+gone_out r f old now ruling items session left mid rest is so out = out_behind f left mid rest (λ t. (so.goes t).0) (subst (λ x. ReadsOutIf x mid rest) is out)
 
 -- a session was read before
 pub kept_out : {E : Type 0} (r : Result Outcome E) (old new : Texts) (session : List ℕ) (left mid rest : Option (List ℕ)) → Keeps (Ok Session) old new session left mid

@@ -9,7 +9,7 @@ use Rattle.its_session.specs.Events.{events_of, most_lines}
 use Rattle.its_plain.specs.Transcript.{Fate, Transcript}
 use Rattle.its_reader.specs.TextLines.{before_lf, lines_in}
 use Rattle.its_verify.specs.Verified.{IsYes, Judged, Parts, Both, LongLine, TooMany, by_parts, is_end_line, most_session_bytes, parts_from, verified}
-use Rattle.its_verify.specs.Judge.{Yes}
+use Rattle.its_verify.specs.Rulings.{Yes}
 use Rattle.its_verify.proofs.BoundedLaws.{has_yes}
 use Rattle.its_verify.proofs.LinesLaws.{AllWhole, concat_lines, first_line, none_left}
 use Rattle.its_verify.proofs.PrintedLaws.{text_lines}

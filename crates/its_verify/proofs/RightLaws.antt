@@ -1,7 +1,7 @@
 -- A judge that is right about which lines are accepted: it says Yes of those that are, and of others the first that begins no
 -- accepted ones, or that is missing.
 use Rattle.std.proofs.Common.{◌≡◌, ◌≤◌, ◌+◌, ℕ, suc, Option, Some, None, List, [], ◌∷◌, ◌++◌, ◌⊎◌, length, take, refl, ap, inl, inr, arith}
-use Rattle.its_verify.specs.Judge.{Verdict, Yes, No, Judge, at_end, led_by, led}
+use Rattle.its_verify.specs.Rulings.{Verdict, Yes, No, Ruling, at_end, led_by, led}
 
 -- which lines are accepted
 abbrev pub Taken : Type 1
@@ -24,9 +24,9 @@ abbrev pub Decided : (R : List (List ℕ) → Type 0) → ℕ → List (List ℕ
 Decided R n texts (Yes k) = (k ≡ n + length texts) × R texts
 Decided R n texts (No k) = First R texts n k × (R texts → ⊥)
 
-pub record Right (R : List (List ℕ) → Type 0) (judge : Judge) : Type 0 where
+pub record Right (R : List (List ℕ) → Type 0) (ruling : Ruling) : Type 0 where
   pub going : Begun R []
-  pub decides : (n : ℕ) (texts : List (List ℕ)) → Decided R n texts (judge n texts)
+  pub decides : (n : ℕ) (texts : List (List ℕ)) → Decided R n texts (ruling n texts)
 
 -- the same, said otherwise
 decided_as : (R S : List (List ℕ) → Type 0) (n : ℕ) (texts : List (List ℕ)) (v : Verdict) → ((ts : List (List ℕ)) → R ts → S ts) → ((ts : List (List ℕ)) → S ts → R ts)
@@ -47,10 +47,10 @@ decided_as R S n texts (No k) to from h = (
   λ s. h.1 (from texts s),
 )
 
-pub right_as : (R S : List (List ℕ) → Type 0) (judge : Judge) → ((ts : List (List ℕ)) → R ts → S ts) → ((ts : List (List ℕ)) → S ts → R ts) → Right R judge → Right S judge
-right_as R S judge to from h = record {
+pub right_as : (R S : List (List ℕ) → Type 0) (ruling : Ruling) → ((ts : List (List ℕ)) → R ts → S ts) → ((ts : List (List ℕ)) → S ts → R ts) → Right R ruling → Right S ruling
+right_as R S ruling to from h = record {
   going = record { more = h.going.more; whole = to h.going.more h.going.whole };
-  decides = λ n texts. decided_as R S n texts (judge n texts) to from (h.decides n texts);
+  decides = λ n texts. decided_as R S n texts (ruling n texts) to from (h.decides n texts);
 }
 
 -- no more lines
@@ -104,22 +104,22 @@ led_decided reads R text x n texts (No k) is h = (
 )
 
 -- the first line, whatever it says
-first_decided : {X : Type 0} (reads : List ℕ → Option X) (R : X → List (List ℕ) → Type 0) (judge : X → Judge) → Begun (Led reads R) [] → ((y : X) → Right (R y) (judge y))
-    → (n : ℕ) (t : List ℕ) (ts : List (List ℕ)) (o : Option X) → reads t ≡ o → Decided (Led reads R) n (t ∷ ts) (led_by o judge n ts)
-first_decided reads R judge going each n t ts None none =
+first_decided : {X : Type 0} (reads : List ℕ → Option X) (R : X → List (List ℕ) → Type 0) (ruling : X → Ruling) → Begun (Led reads R) [] → ((y : X) → Right (R y) (ruling y))
+    → (n : ℕ) (t : List ℕ) (ts : List (List ℕ)) (o : Option X) → reads t ≡ o → Decided (Led reads R) n (t ∷ ts) (led_by o ruling n ts)
+first_decided reads R ruling going each n t ts None none =
     (record { before = 0; at = omega arith; few = omega arith; begun = going; stops = inr (λ b. none_led reads R t b.more none b.whole) }, λ h. none_led reads R t ts none h)
-first_decided reads R judge going each n t ts (Some y) some = led_decided reads R t y n ts (judge y (n + 1) ts) some ((each y).decides (n + 1) ts)
+first_decided reads R ruling going each n t ts (Some y) some = led_decided reads R t y n ts (ruling y (n + 1) ts) some ((each y).decides (n + 1) ts)
 
-all_decided : {X : Type 0} (reads : List ℕ → Option X) (R : X → List (List ℕ) → Type 0) (judge : X → Judge) → Begun (Led reads R) [] → ((y : X) → Right (R y) (judge y))
-    → (n : ℕ) (texts : List (List ℕ)) → Decided (Led reads R) n texts (led reads judge n texts)
-all_decided reads R judge going each n [] =
+all_decided : {X : Type 0} (reads : List ℕ → Option X) (R : X → List (List ℕ) → Type 0) (ruling : X → Ruling) → Begun (Led reads R) [] → ((y : X) → Right (R y) (ruling y))
+    → (n : ℕ) (texts : List (List ℕ)) → Decided (Led reads R) n texts (led reads ruling n texts)
+all_decided reads R ruling going each n [] =
     (record { before = 0; at = omega arith; few = omega arith; begun = going; stops = inl (refl, λ h. h) }, λ h. h)
-all_decided reads R judge going each n (t ∷ ts) = first_decided reads R judge going each n t ts (reads t) refl
+all_decided reads R ruling going each n (t ∷ ts) = first_decided reads R ruling going each n t ts (reads t) refl
 
 -- some text is licensed, so a line that is missing is one that could come
-pub right_led : {X : Type 0} (reads : List ℕ → Option X) (R : X → List (List ℕ) → Type 0) (judge : X → Judge) (text : List ℕ) (x : X) → reads text ≡ Some x
-    → ((y : X) → Right (R y) (judge y)) → Right (Led reads R) (led reads judge)
-right_led reads R judge text x is each =
+pub right_led : {X : Type 0} (reads : List ℕ → Option X) (R : X → List (List ℕ) → Type 0) (ruling : X → Ruling) (text : List ℕ) (x : X) → reads text ≡ Some x
+    → ((y : X) → Right (R y) (ruling y)) → Right (Led reads R) (led reads ruling)
+right_led reads R ruling text x is each =
     let more = (each x).going.more in
     let going : Begun (Led reads R) [] = record { more = text ∷ more; whole = led_on reads R text x more is (each x).going.whole } in
-    record { going = going; decides = all_decided reads R judge going each }
+    record { going = going; decides = all_decided reads R ruling going each }

@@ -25,7 +25,7 @@ use Rattle.its_direct.specs.Plain.{machine_of}
 use Rattle.its_direct.specs.declared.plain.Plain.{Plain}
 use Rattle.its_verify.specs.TranscriptReader.{Forward, AtLine, Says, Stays, same_as}
 use Rattle.its_verify.proofs.TranscriptReaderLaws.{led_forward, nothing_on, says_then}
-use Rattle.its_verify.specs.Judge.{Judge, led, saying, expects}
+use Rattle.its_verify.specs.Rulings.{Ruling, led, saying, expects}
 use Rattle.its_verify.specs.Showing.{BitsSo, LinesSo, names_line, shown_if, text_lines}
 use Rattle.its_verify.specs.declared.outcome.Outcome.{Outcome}
 use Rattle.its_verify.specs.declared.transcript_reader.TranscriptReader.{TranscriptReader}
@@ -65,28 +65,28 @@ pub row_short : (ws xs : List ℕ) → xs ≡ text_of_line (Row ws) → length w
 row_short ws xs is few = printed_short (Row ws) xs is few
 
 pub printed_says : (l : Line) (xs : List ℕ) (o : Result (Option Outcome) Failed) (old new : TranscriptReader) (left rest : Option (List ℕ)) → xs ≡ text_of_line l → saying l ≡ same_as (text_of_line l)
-    → ((next : Judge) → Says o old new left rest (led (same_as xs) (λ t. next)) next) → (next : Judge) → Says o old new left rest (expects (l ∷ []) next) next
+    → ((next : Ruling) → Says o old new left rest (led (same_as xs) (λ t. next)) next) → (next : Ruling) → Says o old new left rest (expects (l ∷ []) next) next
 printed_says l xs o old new left rest is same says next =
     subst (λ (f : List ℕ → Option (List ℕ)). Says o old new left rest (led f (λ t. next)) next) (ap same_as is ∙ sym same) (says next)
 
 -- lines that show a value that is there
 pub shown_says : {X E : Type 0} (show : X → List Line) (r : Result X E) (x : X) (o : Result (Option Outcome) Failed) (old new : TranscriptReader) (left rest : Option (List ℕ)) → IsOk r → IfOk r (λ y. x ≡ y)
-    → ((next : Judge) → Says o old new left rest (expects (show x) next) next) → (next : Judge) → Says o old new left rest (expects (shown_if show r) next) next
+    → ((next : Ruling) → Says o old new left rest (expects (show x) next) next) → (next : Ruling) → Says o old new left rest (expects (shown_if show r) next) next
 shown_says show (Ok y) x o old new left rest there is says next = subst (λ z. Says o old new left rest (expects (show z) next) next) is (says next)
 shown_says show (Err e) x o old new left rest there is says next = absurd (false≢true there)
 
 pub words_say : (s a : ℕ) (r : Result (List ℕ) Reason) (ws : List ℕ) (o : Result (Option Outcome) Failed) (old new : TranscriptReader) (left rest : Option (List ℕ)) → IsOk r → IfOk r (λ y. ws ≡ y)
-    → ((next : Judge) → Says o old new left rest (expects (in_a_line s a ws) next) next)
-    → (next : Judge) → Says o old new left rest (expects (shown_if (in_a_line s a) r) next) next
+    → ((next : Ruling) → Says o old new left rest (expects (in_a_line s a ws) next) next)
+    → (next : Ruling) → Says o old new left rest (expects (shown_if (in_a_line s a) r) next) next
 words_say s a r ws o old new left rest there is says = shown_says (in_a_line s a) r ws o old new left rest there is says
 
 pub list_says : (s a : ℕ) (r : Result (List ℕ) Reason) (ws : List ℕ) (o : Result (Option Outcome) Failed) (old new : TranscriptReader) (left rest : Option (List ℕ)) → IsOk r → IfOk r (λ y. ws ≡ y)
-    → ((next : Judge) → Says o old new left rest (expects (listed s a ws) next) next)
-    → (next : Judge) → Says o old new left rest (expects (shown_if (listed s a) r) next) next
+    → ((next : Ruling) → Says o old new left rest (expects (listed s a ws) next) next)
+    → (next : Ruling) → Says o old new left rest (expects (shown_if (listed s a) r) next) next
 list_says s a r ws o old new left rest there is says = shown_says (listed s a) r ws o old new left rest there is says
 
 -- several lines
-pub lines_forward : (lines : List Line) (next : Judge) → Forward next → Forward (expects lines next)
+pub lines_forward : (lines : List Line) (next : Ruling) → Forward next → Forward (expects lines next)
 lines_forward [] next h = h
 lines_forward (line ∷ lines) next h = led_forward (saying line) (λ text. expects lines next) (λ text. lines_forward lines next h)
 
@@ -94,25 +94,25 @@ pub lines_start : (h : TranscriptReader) (left : Option (List ℕ)) (lines : Lis
 lines_start h left lines next = nothing_on h left (expects lines next)
 
 lines_then : (r o : Result (Option Outcome) Failed) (old now new : TranscriptReader) (left mid rest : Option (List ℕ)) (lines rests more : List Line) (l : Line) → r ≡ o → rests ≡ l ∷ more → LinesSo old now left mid lines rests
-    → ((next : Judge) → Says r now new mid rest (expects (l ∷ []) next) next) → (next : Judge) → Says o old new left rest (expects lines next) (expects more next)
+    → ((next : Ruling) → Says r now new mid rest (expects (l ∷ []) next) next) → (next : Ruling) → Says o old new left rest (expects lines next) (expects more next)
 lines_then r o old now new left mid rest lines rests more l is split so says next =
     says_then o old now new left mid rest (expects lines next) (expects (l ∷ more) next) (expects more next) (subst (LinesSo old now left mid lines) split so next)
     (subst (λ q. Says q now new mid rest (expects (l ∷ []) (expects more next)) (expects more next)) is (says (expects more next)))
 
 pub lines_next : (r : Result (Option Outcome) Failed) (old now new : TranscriptReader) (left mid rest : Option (List ℕ)) (lines rests more : List Line) (l : Line) → r ≡ Ok None → rests ≡ l ∷ more → LinesSo old now left mid lines rests
-    → ((next : Judge) → Says r now new mid rest (expects (l ∷ []) next) next) → LinesSo old new left rest lines more
+    → ((next : Ruling) → Says r now new mid rest (expects (l ∷ []) next) next) → LinesSo old new left rest lines more
 lines_next r old now new left mid rest lines rests more l is split so says next = lines_then r (Ok None) old now new left mid rest lines rests more l is split so says next
 
 pub lines_stop : (r : Result (Option Outcome) Failed) (f : Outcome) (old now new : TranscriptReader) (left mid rest : Option (List ℕ)) (lines rests more : List Line) (l : Line) → r ≡ Ok (Some f) → rests ≡ l ∷ more → LinesSo old now left mid lines rests
-    → ((next : Judge) → Says r now new mid rest (expects (l ∷ []) next) next) → (next : Judge) → Says (Ok (Some f)) old new left rest (expects lines next) next
+    → ((next : Ruling) → Says r now new mid rest (expects (l ∷ []) next) next) → (next : Ruling) → Says (Ok (Some f)) old new left rest (expects lines next) next
 lines_stop r f old now new left mid rest lines rests more l is split so says next = lines_then r (Ok (Some f)) old now new left mid rest lines rests more l is split so says next
 
 pub lines_fail : (r : Result (Option Outcome) Failed) (e : Failed) (old now new : TranscriptReader) (left mid rest : Option (List ℕ)) (lines rests more : List Line) (l : Line) → r ≡ Err e → rests ≡ l ∷ more → LinesSo old now left mid lines rests
-    → ((next : Judge) → Says r now new mid rest (expects (l ∷ []) next) next) → (next : Judge) → Says (Err e) old new left rest (expects lines next) next
+    → ((next : Ruling) → Says r now new mid rest (expects (l ∷ []) next) next) → (next : Ruling) → Says (Err e) old new left rest (expects lines next) next
 lines_fail r e old now new left mid rest lines rests more l is split so says next forward =
     lines_then r (Err e) old now new left mid rest lines rests more l is split so says next (lines_forward more next forward)
 
-pub lines_end : (old now : TranscriptReader) (left rest : Option (List ℕ)) (lines more : List Line) → more ≡ [] → LinesSo old now left rest lines more → (next : Judge) → Says (Ok None) old now left rest (expects lines next) next
+pub lines_end : (old now : TranscriptReader) (left rest : Option (List ℕ)) (lines more : List Line) → more ≡ [] → LinesSo old now left rest lines more → (next : Ruling) → Says (Ok None) old now left rest (expects lines next) next
 lines_end old now left rest lines more none so next = subst (LinesSo old now left rest lines) none so next
 
 pub at_line_by : (r : Result (Option Outcome) Failed) (new : TranscriptReader) (rest : Option (List ℕ)) → r ≡ Ok None → Stays r new rest → AtLine new rest
@@ -124,8 +124,8 @@ listed_more s p k ws w below at = rw (drop-cons ws k w below, add-one k, sym at)
 
 -- a job
 pub state_says : (v w s : ℕ) (r : Result JobShow Reason) (x : JobShow) (o : Result (Option Outcome) Failed) (old new : TranscriptReader) (left rest : Option (List ℕ)) → IsOk r → IfOk r (λ y. Some x ≡ Some y) → w ≡ v
-    → ((next : Judge) → Says o old new left rest (expects (State w s x ∷ []) next) next)
-    → (next : Judge) → Says o old new left rest (expects (shown_if (λ show. State v s show ∷ []) r) next) next
+    → ((next : Ruling) → Says o old new left rest (expects (State w s x ∷ []) next) next)
+    → (next : Ruling) → Says o old new left rest (expects (shown_if (λ show. State v s show ∷ []) r) next) next
 state_says v w s (Ok y) x o old new left rest there is same says next =
     let here : x ≡ y = cc in
     subst (λ z. Says o old new left rest (expects (State v s z ∷ []) next) next) here (subst (λ n. Says o old new left rest (expects (State n s x ∷ []) next) next) same (says next))
@@ -137,32 +137,32 @@ version_is p = refl
 
 -- files
 pub filed_says : (f : File) (show : FileShow) (o : Result (Option Outcome) Failed) (old new : TranscriptReader) (left rest : Option (List ℕ)) → show ≡ show_of f
-    → ((next : Judge) → Says o old new left rest (expects (Filed show ∷ []) next) next) → (next : Judge) → Says o old new left rest (expects (filed_line f ∷ []) next) next
+    → ((next : Ruling) → Says o old new left rest (expects (Filed show ∷ []) next) next) → (next : Ruling) → Says o old new left rest (expects (filed_line f ∷ []) next) next
 filed_says f show o old new left rest is says next = subst (λ (x : FileShow). Says o old new left rest (expects (Filed x ∷ []) next) next) is (says next)
 
 pub row_says : (ws row : List ℕ) (o : Result (Option Outcome) Failed) (old new : TranscriptReader) (left rest : Option (List ℕ)) → row ≡ ws
-    → ((next : Judge) → Says o old new left rest (expects (Row row ∷ []) next) next) → (next : Judge) → Says o old new left rest (expects (Row ws ∷ []) next) next
+    → ((next : Ruling) → Says o old new left rest (expects (Row row ∷ []) next) next) → (next : Ruling) → Says o old new left rest (expects (Row ws ∷ []) next) next
 row_says ws row o old new left rest is says next = subst (λ (x : List ℕ). Says o old new left rest (expects (Row x ∷ []) next) next) is (says next)
 
 -- two parts of what is shown
 pub then_says : (r o : Result (Option Outcome) Failed) (old mid new : TranscriptReader) (left between rest : Option (List ℕ)) (l : Line) (lines : List Line) → r ≡ Ok None
-    → ((next : Judge) → Says r old mid left between (expects (l ∷ []) next) next) → ((next : Judge) → Says o mid new between rest (expects lines next) next)
-    → (next : Judge) → Says o old new left rest (expects (l ∷ lines) next) next
+    → ((next : Ruling) → Says r old mid left between (expects (l ∷ []) next) next) → ((next : Ruling) → Says o mid new between rest (expects lines next) next)
+    → (next : Ruling) → Says o old new left rest (expects (l ∷ lines) next) next
 then_says r o old mid new left between rest l lines is first more next =
     says_then o old mid new left between rest (expects (l ∷ lines) next) (expects lines next) next
     (subst (λ q. Says q old mid left between (expects (l ∷ []) (expects lines next)) (expects lines next)) is (first (expects lines next))) (more next)
 
 pub stop_says : (r : Result (Option Outcome) Failed) (f : Outcome) (old new : TranscriptReader) (left rest : Option (List ℕ)) (l : Line) (lines : List Line) → r ≡ Ok (Some f)
-    → ((next : Judge) → Says r old new left rest (expects (l ∷ []) next) next) → (next : Judge) → Says (Ok (Some f)) old new left rest (expects (l ∷ lines) next) next
+    → ((next : Ruling) → Says r old new left rest (expects (l ∷ []) next) next) → (next : Ruling) → Says (Ok (Some f)) old new left rest (expects (l ∷ lines) next) next
 stop_says r f old new left rest l lines is first next = subst (λ q. Says q old new left rest (expects (l ∷ []) (expects lines next)) (expects lines next)) is (first (expects lines next))
 
 pub fail_says : (r : Result (Option Outcome) Failed) (e : Failed) (old new : TranscriptReader) (left rest : Option (List ℕ)) (l : Line) (lines : List Line) → r ≡ Err e
-    → ((next : Judge) → Says r old new left rest (expects (l ∷ []) next) next) → (next : Judge) → Says (Err e) old new left rest (expects (l ∷ lines) next) next
+    → ((next : Ruling) → Says r old new left rest (expects (l ∷ []) next) next) → (next : Ruling) → Says (Err e) old new left rest (expects (l ∷ lines) next) next
 fail_says r e old new left rest l lines is first next forward =
     subst (λ q. Says q old new left rest (expects (l ∷ []) (expects lines next)) (expects lines next)) is (first (expects lines next)) (lines_forward lines next forward)
 
 pub same_says : (o : Result (Option Outcome) Failed) (old new : TranscriptReader) (left rest : Option (List ℕ)) (lines more : List Line) → lines ≡ more
-    → ((next : Judge) → Says o old new left rest (expects lines next) next) → (next : Judge) → Says o old new left rest (expects more next) next
+    → ((next : Ruling) → Says o old new left rest (expects lines next) next) → (next : Ruling) → Says o old new left rest (expects more next) next
 same_says o old new left rest lines more is says next = subst (λ (ls : List Line). Says o old new left rest (expects ls next) next) is (says next)
 
 -- bytes
@@ -228,7 +228,7 @@ pub no_file_is : (m : Machine) (d x y : ℕ) → None ≡ file_named (names_of d
 unfolding file_shown
 no_file_is m d x y is = ap (λ (o : Option File). shown_if (λ out. out) (shown_by d x y o)) is
 
-pub nothing_says : (h : TranscriptReader) (left : Option (List ℕ)) (lines : List Line) → [] ≡ lines → (next : Judge) → Says (Ok None) h h left left (expects lines next) next
+pub nothing_says : (h : TranscriptReader) (left : Option (List ℕ)) (lines : List Line) → [] ≡ lines → (next : Ruling) → Says (Ok None) h h left left (expects lines next) next
 nothing_says h left lines is next = subst (λ (ls : List Line). Says (Ok None) h h left left (expects ls next) next) is (nothing_on h left next)
 
 -- slots

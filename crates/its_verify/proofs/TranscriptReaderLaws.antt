@@ -18,7 +18,7 @@ use Rattle.its_verify.specs.Went.{Fell, Went}
 use Rattle.its_verify.proofs.SourceLaws.{end_told, fell_by, line_told, told_on, went_line, went_none, went_then, over}
 use Rattle.its_verify.specs.Lines.{is_last, is_peek, is_whole, most_bytes}
 use Rattle.its_verify.proofs.LinesLaws.{none_left}
-use Rattle.its_verify.specs.Judge.{Judge, Verdict, Yes, No, at_end, led, led_by, peeking, expects}
+use Rattle.its_verify.specs.Rulings.{Ruling, Verdict, Yes, No, at_end, led, led_by, peeking, expects}
 use Rattle.its_verify.specs.Verified.{IsYes, Judged, TooLong, within}
 use Rattle.its_verify.specs.TranscriptReader.{Failing, Forward, Later, Passed, SaidLater, AtLine, Reads, ReadsOn, Lacks, cut, answer_of, Beside, Concludes, PassesOn, PassedIf, Says, Stays, Strict, same_as}
 use Rattle.its_print.specs.Printing.{Refused, Ticks, text_of_line}
@@ -81,7 +81,7 @@ read_end old new left rest k r ready is = λ t.
     (is, inl (ap (texts_ahead old.texts) (told.bytes ∙ ap (λ (xs : List ℕ). r.read ++ xs) (over new.texts rest ready r.next.0) ∙ append-nil r.read) ∙ r.next.1)))
 
 pub read_beyond : (old new : TranscriptReader) (left rest : Option (List ℕ)) → ReadsText (Ok nexts.Beyond) old.texts new.texts left rest
-    → new.texts.number ≡ old.texts.number + 1 → AtLine old left → ReadsOn (Ok (Some outcomes.Beyond)) old new left rest
+    → new.texts.number ≡ old.texts.number + 1 → AtLine old left → ReadsOn (Ok (Some outcomes.TooLong)) old new left rest
 read_beyond old new left rest r number at_line = λ t.
     (let told = told_on left rest r.read t r.consumed in
     let some = r.next.1 (bytes_of rest) in
@@ -90,32 +90,32 @@ read_beyond old new left rest r number at_line = λ t.
     (omega (arith, past, c, number), record { first = some.first; behind = some.behind; is = ap (texts_ahead old.texts) told.bytes ∙ some.is; holds = tt }))
 
 -- lines that were passed
-passed_none : (h : TranscriptReader) (left : Option (List ℕ)) (judge : Judge) → Passed h h left left judge judge
-passed_none h left judge = record { lines = []; went = went_none h.texts left; passed = omega arith; texts = refl; leads = λ more. refl }
+passed_none : (h : TranscriptReader) (left : Option (List ℕ)) (ruling : Ruling) → Passed h h left left ruling ruling
+passed_none h left ruling = record { lines = []; went = went_none h.texts left; passed = omega arith; texts = refl; leads = λ more. refl }
 
-passed_then : (old mid new : TranscriptReader) (left between rest : Option (List ℕ)) (judge next last : Judge) → Passed old mid left between judge next → Passed mid new between rest next last → Passed old new left rest judge last
-passed_then old mid new left between rest judge next last p q = record {
+passed_then : (old mid new : TranscriptReader) (left between rest : Option (List ℕ)) (ruling next last : Ruling) → Passed old mid left between ruling next → Passed mid new between rest next last → Passed old new left rest ruling last
+passed_then old mid new left between rest ruling next last p q = record {
   lines = p.lines ++ q.lines;
   went = went_then p.lines q.lines old.texts mid.texts new.texts left between rest p.went q.went;
   passed = omega (arith, q.passed, p.passed, length-append p.lines q.lines);
   texts = p.texts ∙ ap (λ (ls : List (List ℕ)). p.lines ++ ls) q.texts ∙ sym (append_assoc p.lines q.lines (texts_of new.texts rest));
-  leads = λ more. ap (cut old.room old.passed judge) (append_assoc p.lines q.lines more) ∙ p.leads (q.lines ++ more) ∙ q.leads more;
+  leads = λ more. ap (cut old.room old.passed ruling) (append_assoc p.lines q.lines more) ∙ p.leads (q.lines ++ more) ∙ q.leads more;
 }
 
-pub passed_says : (old new : TranscriptReader) (left rest : Option (List ℕ)) (judge next : Judge) → Passed old new left rest judge next
-    → cut old.room old.passed judge (texts_of old.texts left) ≡ cut new.room new.passed next (texts_of new.texts rest)
-passed_says old new left rest judge next p = ap (cut old.room old.passed judge) p.texts ∙ p.leads (texts_of new.texts rest)
+pub passed_says : (old new : TranscriptReader) (left rest : Option (List ℕ)) (ruling next : Ruling) → Passed old new left rest ruling next
+    → cut old.room old.passed ruling (texts_of old.texts left) ≡ cut new.room new.passed next (texts_of new.texts rest)
+passed_says old new left rest ruling next p = ap (cut old.room old.passed ruling) p.texts ∙ p.leads (texts_of new.texts rest)
 
 -- nothing is said, and no line is asked for
-pub nothing_on : (h : TranscriptReader) (left : Option (List ℕ)) (judge : Judge) → PassesOn h h left left judge judge
-nothing_on h left judge = λ t. (t, passed_none h left judge)
+pub nothing_on : (h : TranscriptReader) (left : Option (List ℕ)) (ruling : Ruling) → PassesOn h h left left ruling ruling
+nothing_on h left ruling = λ t. (t, passed_none h left ruling)
 
 -- verdicts on lines that are still to come
 sooner : (n : ℕ) (v : Verdict) → Later (n + 1) v → Later n v
 sooner n (Yes k) h = omega (arith, h)
 sooner n (No k) h = omega (arith, h)
 
-pub led_forward : {X : Type 0} (reads : List ℕ → Option X) (next : X → Judge) → ((x : X) → Forward (next x)) → Forward (led reads next)
+pub led_forward : {X : Type 0} (reads : List ℕ → Option X) (next : X → Ruling) → ((x : X) → Forward (next x)) → Forward (led reads next)
 led_forward {X} reads next h = record { later = λ n texts. by_texts n texts }
   where
     by_reads : (o : Option X) (n : ℕ) (texts : List (List ℕ)) → Later n (led_by o next n texts)
@@ -137,11 +137,11 @@ within_later : (room n : ℕ) (v : Verdict) → Later n v → SaidLater n (withi
 within_later room n (Yes k) h = tt
 within_later room n (No k) h = elim (cases_Bool (leb k room)) [ inl e ↦ rw e h | inr e ↦ rw e tt ]
 
-pub cut_later : (room n : ℕ) (judge : Judge) (texts : List (List ℕ)) → Forward judge → SaidLater n (cut room n judge texts)
-cut_later room n judge texts f =
+pub cut_later : (room n : ℕ) (ruling : Ruling) (texts : List (List ℕ)) → Forward ruling → SaidLater n (cut room n ruling texts)
+cut_later room n ruling texts f =
     elim (cases_Bool (leb (n + length texts) room)) [
       | inl fit ↦ rw fit (f.later n texts)
-      | inr past ↦ rw past (within_later room n (judge n (take (room - n) texts)) (f.later n (take (room - n) texts)))
+      | inr past ↦ rw past (within_later room n (ruling n (take (room - n) texts)) (f.later n (take (room - n) texts)))
     ]
 
 -- where a line is asked for, nothing is accepted that has none
@@ -149,7 +149,7 @@ within_no : (room : ℕ) (v : Verdict) → IsYes (within room v) → ⊥
 within_no room (Yes k) said = said
 within_no room (No k) said = elim (cases_Bool (leb k room)) [ inl e ↦ (let bad : ⊥ = rw e at said in bad) | inr e ↦ (let bad : ⊥ = rw e at said in bad) ]
 
-led_more : {X : Type 0} (room n : ℕ) (reads : List ℕ → Option X) (next : X → Judge) → IsYes (cut room n (led reads next) []) → ⊥
+led_more : {X : Type 0} (room n : ℕ) (reads : List ℕ → Option X) (next : X → Ruling) → IsYes (cut room n (led reads next) []) → ⊥
 led_more room n reads next said =
     elim (cases_Bool (leb (n + length {A = List ℕ} []) room)) [
       | inl fit ↦ (let bad : ⊥ = rw fit at said in bad)
@@ -157,7 +157,7 @@ led_more room n reads next said =
     ]
 
 -- the source failed when a line was asked for
-pub fails_here : {X : Type 0} (old : TranscriptReader) (left rest : Option (List ℕ)) (reads : List ℕ → Option X) (next : X → Judge) → (IsTold left → Fell most_bytes old.texts left rest)
+pub fails_here : {X : Type 0} (old : TranscriptReader) (left rest : Option (List ℕ)) (reads : List ℕ → Option X) (next : X → Ruling) → (IsTold left → Fell most_bytes old.texts left rest)
     → ((x : X) → Forward (next x)) → IsTold left → Failing old left rest (led reads next)
 fails_here old left rest reads next h f t = record {
   at = old;
@@ -170,55 +170,55 @@ fails_here old left rest reads next h f t = record {
 }
 
 -- or after lines that were passed
-fails_then : (old mid : TranscriptReader) (left between rest : Option (List ℕ)) (judge next : Judge) → Passed old mid left between judge next → Failing mid between rest next → Failing old left rest judge
-fails_then old mid left between rest judge next p f = record {
+fails_then : (old mid : TranscriptReader) (left between rest : Option (List ℕ)) (ruling next : Ruling) → Passed old mid left between ruling next → Failing mid between rest next → Failing old left rest ruling
+fails_then old mid left between rest ruling next p f = record {
   at = f.at;
   mid = f.mid;
   next = f.next;
-  passed = passed_then old mid f.at left between f.mid judge next f.next p f.passed;
+  passed = passed_then old mid f.at left between f.mid ruling next f.next p f.passed;
   fell = f.fell;
   later = f.later;
   ended = f.ended;
 }
 
 -- what is said after lines that were passed is said of them all
-pub says_then : (r : Result (Option Outcome) Failed) (old mid new : TranscriptReader) (left between rest : Option (List ℕ)) (judge next last : Judge) → PassesOn old mid left between judge next
-    → Says r mid new between rest next last → Says r old new left rest judge last
-says_then (Ok None) old mid new left between rest judge next last on says = λ t.
+pub says_then : (r : Result (Option Outcome) Failed) (old mid new : TranscriptReader) (left between rest : Option (List ℕ)) (ruling next last : Ruling) → PassesOn old mid left between ruling next
+    → Says r mid new between rest next last → Says r old new left rest ruling last
+says_then (Ok None) old mid new left between rest ruling next last on says = λ t.
     (let here = on t in
     let more = says here.0 in
-    (more.0, passed_then old mid new left between rest judge next last here.1 more.1))
-says_then (Ok (Some f)) old mid new left between rest judge next last on says = λ t.
+    (more.0, passed_then old mid new left between rest ruling next last here.1 more.1))
+says_then (Ok (Some f)) old mid new left between rest ruling next last on says = λ t.
     (let here = on t in
-    passed_says old mid left between judge next here.1 ∙ says here.0)
-says_then (Err e) old mid new left between rest judge next last on says = λ forward t.
+    passed_says old mid left between ruling next here.1 ∙ says here.0)
+says_then (Err e) old mid new left between rest ruling next last on says = λ forward t.
     (let here = on t in
-    fails_then old mid left between rest judge next here.1 (says forward here.0))
+    fails_then old mid left between rest ruling next here.1 (says forward here.0))
 
-pub concludes_then : (r : Result Outcome Failed) (old mid : TranscriptReader) (left between rest : Option (List ℕ)) (judge next : Judge) → PassesOn old mid left between judge next
-    → Concludes r mid between rest next → Concludes r old left rest judge
-concludes_then (Ok f) old mid left between rest judge next on ends = λ t.
+pub concludes_then : (r : Result Outcome Failed) (old mid : TranscriptReader) (left between rest : Option (List ℕ)) (ruling next : Ruling) → PassesOn old mid left between ruling next
+    → Concludes r mid between rest next → Concludes r old left rest ruling
+concludes_then (Ok f) old mid left between rest ruling next on ends = λ t.
     (let here = on t in
-    passed_says old mid left between judge next here.1 ∙ ends here.0)
-concludes_then (Err e) old mid left between rest judge next on ends = λ t.
+    passed_says old mid left between ruling next here.1 ∙ ends here.0)
+concludes_then (Err e) old mid left between rest ruling next on ends = λ t.
     (let here = on t in
-    fails_then old mid left between rest judge next here.1 (ends here.0))
+    fails_then old mid left between rest ruling next here.1 (ends here.0))
 
 pub same_fails : (line : List ℕ) (e : Failed) (old new : TranscriptReader) (left rest : Option (List ℕ)) → ReadsOn (Err e) old new left rest
-    → (next : Judge) → Says (Err e) old new left rest (led (same_as line) (λ t. next)) next
+    → (next : Ruling) → Says (Err e) old new left rest (led (same_as line) (λ t. next)) next
 same_fails line e old new left rest h next f = fails_here old left rest (same_as line) (λ t. next) h (λ x. f)
 
 pub peek_fails : (e : Failed) (old new : TranscriptReader) (left rest : Option (List ℕ)) → ReadsOn (Err e) old new left rest
-    → (next : Judge) → Says (Err e) old new left rest (led peeking (λ t. next)) next
+    → (next : Ruling) → Says (Err e) old new left rest (led peeking (λ t. next)) next
 peek_fails e old new left rest h next f = fails_here old left rest peeking (λ t. next) h (λ x. f)
 
 -- if there is room for a line more
 take_one : (k : ℕ) (t : List ℕ) (ts : List (List ℕ)) → take (suc k) (t ∷ ts) ≡ t ∷ take k ts
 take_one k t ts = refl
 
-cut_on : (room n : ℕ) (judge next : Judge) (t : List ℕ) (ts : List (List ℕ)) → n < room → ((us : List (List ℕ)) → judge n (t ∷ us) ≡ next (n + 1) us)
-    → cut room n judge (t ∷ ts) ≡ cut room (n + 1) next ts
-cut_on room n judge next t ts few h =
+cut_on : (room n : ℕ) (ruling next : Ruling) (t : List ℕ) (ts : List (List ℕ)) → n < room → ((us : List (List ℕ)) → ruling n (t ∷ us) ≡ next (n + 1) us)
+    → cut room n ruling (t ∷ ts) ≡ cut room (n + 1) next ts
+cut_on room n ruling next t ts few h =
     let less : room - n ≡ suc (room - (n + 1)) = omega arith in
     elim (cases_Bool (leb (n + 1 + length ts) room)) [
       | inl fit ↦
@@ -232,8 +232,8 @@ cut_on room n judge next t ts few h =
     leb_past : (a b : ℕ) → leb a b ≡ false → b < a
     leb_past a b e = elim (cases_lt b a) [ inl less ↦ less | inr most ↦ absurd (false≢true (sym e ∙ le-leb a b most)) ]
 
-cut_no : (room n : ℕ) (judge : Judge) (t : List ℕ) (ts : List (List ℕ)) → n < room → ((us : List (List ℕ)) → judge n (t ∷ us) ≡ No (n + 1)) → cut room n judge (t ∷ ts) ≡ Judged (No (n + 1))
-cut_no room n judge t ts few h =
+cut_no : (room n : ℕ) (ruling : Ruling) (t : List ℕ) (ts : List (List ℕ)) → n < room → ((us : List (List ℕ)) → ruling n (t ∷ us) ≡ No (n + 1)) → cut room n ruling (t ∷ ts) ≡ Judged (No (n + 1))
+cut_no room n ruling t ts few h =
     let less : room - n ≡ suc (room - (n + 1)) = omega arith in
     let there : leb (n + 1) room ≡ true = le-leb (n + 1) room (omega arith) in
     elim (cases_Bool (leb (n + length (t ∷ ts)) room)) [
@@ -241,14 +241,14 @@ cut_no room n judge t ts few h =
       | inr past ↦ rw (past, less) (ap (within room) (h (take (room - (n + 1)) ts)) ∙ rw there refl)
     ]
 
-cut_end : (room n : ℕ) (judge : Judge) → n ≤ room → cut room n judge [] ≡ Judged (judge n [])
-cut_end room n judge few =
+cut_end : (room n : ℕ) (ruling : Ruling) → n ≤ room → cut room n ruling [] ≡ Judged (ruling n [])
+cut_end room n ruling few =
     let fit : leb (n + length {A = List ℕ} []) room ≡ true = le-leb (n + 0) room (omega arith) in
     rw fit refl
 
 -- no room is left
-cut_full : (room n : ℕ) (judge : Judge) (t : List ℕ) (ts : List (List ℕ)) → n ≤ room → room ≤ n → within room (judge n []) ≡ TooLong → cut room n judge (t ∷ ts) ≡ TooLong
-cut_full room n judge t ts few full h =
+cut_full : (room n : ℕ) (ruling : Ruling) (t : List ℕ) (ts : List (List ℕ)) → n ≤ room → room ≤ n → within room (ruling n []) ≡ TooLong → cut room n ruling (t ∷ ts) ≡ TooLong
+cut_full room n ruling t ts few full h =
     let past : leb (n + length (t ∷ ts)) room ≡ false = lt-leb (n + length (t ∷ ts)) room (omega arith) in
     let none : room - n ≡ 0 = omega arith in
     rw (past, none) h
@@ -259,7 +259,7 @@ no_past room n full =
     rw far refl
 
 -- if a line is missing
-pub led_lacks : {X : Type 0} (reads : List ℕ → Option X) (next : X → Judge) (f : Outcome) (room n : ℕ) (texts : List (List ℕ)) → Strict reads → n ≤ room
+pub led_lacks : {X : Type 0} (reads : List ℕ → Option X) (next : X → Ruling) (f : Outcome) (room n : ℕ) (texts : List (List ℕ)) → Strict reads → n ≤ room
     → Lacks f room n texts → cut room n (led reads next) texts ≡ answer_of f
 led_lacks reads next (outcomes.No k) room n texts strict few h =
     elim h.1 [
@@ -268,15 +268,15 @@ led_lacks reads next (outcomes.No k) room n texts strict few h =
           (let first = strict long.1.first long.1.holds in
           rw long.1.is (cut_no room n (led reads next) long.1.first long.1.behind long.0 (λ us. rw first refl) ∙ ap (λ (m : ℕ). Judged (No m)) (sym h.0)))
     ]
-led_lacks reads next outcomes.Beyond room n texts strict few h = rw h.1.is (cut_full room n (led reads next) h.1.first h.1.behind few h.0 (no_past room n h.0))
+led_lacks reads next outcomes.TooLong room n texts strict few h = rw h.1.is (cut_full room n (led reads next) h.1.first h.1.behind few h.0 (no_past room n h.0))
 led_lacks reads next _ room n texts strict few h = absurd h
 
-pub lacks_says : {X : Type 0} (reads : List ℕ → Option X) (next : X → Judge) (last : Judge) (f : Outcome) (old new : TranscriptReader) (left rest : Option (List ℕ)) → Strict reads → AtLine old left
+pub lacks_says : {X : Type 0} (reads : List ℕ → Option X) (next : X → Ruling) (last : Ruling) (f : Outcome) (old new : TranscriptReader) (left rest : Option (List ℕ)) → Strict reads → AtLine old left
     → ReadsOn (Ok (Some f)) old new left rest → Says (Ok (Some f)) old new left rest (led reads next) last
 lacks_says reads next last f old new left rest strict at_line h = λ t. led_lacks reads next f old.room old.passed (texts_of old.texts left) strict at_line.few (h t)
 
 -- if one was read
-pub read_says : {X : Type 0} (reads : List ℕ → Option X) (next : X → Judge) (x : X) (old mid new : TranscriptReader) (left rest : Option (List ℕ)) → ReadsOn (Ok None) old mid left rest → Beside old mid
+pub read_says : {X : Type 0} (reads : List ℕ → Option X) (next : X → Ruling) (x : X) (old mid new : TranscriptReader) (left rest : Option (List ℕ)) → ReadsOn (Ok None) old mid left rest → Beside old mid
     → reads mid.texts.text.items ≡ Some x → new.texts ≡ mid.texts → new.room ≡ mid.room → new.passed ≡ mid.passed + 1 → PassesOn old new left rest (led reads next) (next x)
 read_says reads next x old mid new left rest h beside is texts room passed = λ t.
     (let few : old.passed < old.room = (let f = h.0.few in omega (arith, f, beside.passed, beside.room)) in
@@ -294,7 +294,7 @@ read_says reads next x old mid new left rest h beside is texts room passed = λ 
       },
     ))
 
-pub read_no : {X : Type 0} (reads : List ℕ → Option X) (next : X → Judge) (last : Judge) (f : Outcome) (old mid new : TranscriptReader) (left rest : Option (List ℕ)) → ReadsOn (Ok None) old mid left rest → Beside old mid
+pub read_no : {X : Type 0} (reads : List ℕ → Option X) (next : X → Ruling) (last : Ruling) (f : Outcome) (old mid new : TranscriptReader) (left rest : Option (List ℕ)) → ReadsOn (Ok None) old mid left rest → Beside old mid
     → reads mid.texts.text.items ≡ None → f ≡ outcomes.No (mid.passed + 1) → Says (Ok (Some f)) old new left rest (led reads next) last
 read_no reads next last f old mid new left rest h beside is no_line = λ t.
     (let few : old.passed < old.room = (let g = h.0.few in omega (arith, g, beside.passed, beside.room)) in
@@ -333,11 +333,11 @@ strict_same line short text long =
     ]
 
 pub same_lacks : (line : List ℕ) (f : Outcome) (old new : TranscriptReader) (left rest : Option (List ℕ)) → length line ≤ most_bytes → AtLine old left → ReadsOn (Ok (Some f)) old new left rest
-    → (next : Judge) → Says (Ok (Some f)) old new left rest (led (same_as line) (λ t. next)) next
+    → (next : Ruling) → Says (Ok (Some f)) old new left rest (led (same_as line) (λ t. next)) next
 same_lacks line f old new left rest short at_line h next = lacks_says (same_as line) (λ t. next) next f old new left rest (strict_same line short) at_line h
 
 pub same_passed : (line : List ℕ) (o : Option Outcome) (b : Bool) (old mid new : TranscriptReader) (left rest : Option (List ℕ)) → ReadsOn (Ok None) old mid left rest → Beside old mid
-    → b ≡ bytes_eq mid.texts.text.items line → PassedIf o b mid new → (next : Judge) → Says (Ok o) old new left rest (led (same_as line) (λ t. next)) next
+    → b ≡ bytes_eq mid.texts.text.items line → PassedIf o b mid new → (next : Ruling) → Says (Ok o) old new left rest (led (same_as line) (λ t. next)) next
 same_passed line None b old mid new left rest h beside test r next =
     read_says (same_as line) (λ t. next) mid.texts.text.items old mid new left rest h beside (rw (sym test ∙ r.0) refl)
     (ap (λ (x : TranscriptReader). x.texts) r.1) (ap (λ (x : TranscriptReader). x.room) r.1) (ap (λ (x : TranscriptReader). x.passed) r.1)
@@ -374,11 +374,11 @@ strict_peek text long =
     ]
 
 pub peek_lacks : (f : Outcome) (old new : TranscriptReader) (left rest : Option (List ℕ)) → AtLine old left → ReadsOn (Ok (Some f)) old new left rest
-    → (next : Judge) → Says (Ok (Some f)) old new left rest (led peeking (λ t. next)) next
+    → (next : Ruling) → Says (Ok (Some f)) old new left rest (led peeking (λ t. next)) next
 peek_lacks f old new left rest at_line h next = lacks_says peeking (λ t. next) next f old new left rest strict_peek at_line h
 
 pub peek_passed : (o : Option Outcome) (b : Bool) (old mid new : TranscriptReader) (left rest : Option (List ℕ)) → ReadsOn (Ok None) old mid left rest → Beside old mid
-    → b ≡ is_peek mid.texts.text.items → PassedIf o b mid new → (next : Judge) → Says (Ok o) old new left rest (led peeking (λ t. next)) next
+    → b ≡ is_peek mid.texts.text.items → PassedIf o b mid new → (next : Ruling) → Says (Ok o) old new left rest (led peeking (λ t. next)) next
 peek_passed None b old mid new left rest h beside test r next =
     read_says peeking (λ t. next) mid.texts.text.items old mid new left rest h beside (rw (sym test ∙ r.0) refl)
     (ap (λ (x : TranscriptReader). x.texts) r.1) (ap (λ (x : TranscriptReader). x.room) r.1) (ap (λ (x : TranscriptReader). x.passed) r.1)
@@ -431,7 +431,7 @@ finish_long h was new left rest k same r number is at_line = λ t.
     more_lines h left k is (omega (arith, c, number, few)) (record { first = some.first; behind = some.behind; is = at; holds = tt }))
 
 pub finish_beyond : (h : TranscriptReader) (was new : Texts) (left rest : Option (List ℕ)) → was.buffer ≡ h.texts.buffer → ReadsText (Ok nexts.Beyond) was new left rest
-    → new.number ≡ h.texts.number + 1 → AtLine h left → Concludes (Ok outcomes.Beyond) h left rest at_end
+    → new.number ≡ h.texts.number + 1 → AtLine h left → Concludes (Ok outcomes.TooLong) h left rest at_end
 finish_beyond h was new left rest same r number at_line = λ t.
     (let told = told_on left rest r.read t r.consumed in
     let some = r.next.1 (bytes_of rest) in
@@ -474,14 +474,14 @@ printed_led : (n : ℕ) (r : Reason) (line : List ℕ) → line ≡ text_of_line
 printed_led n r line is = ap (λ (xs : List ℕ). led (same_as xs) (λ t. at_end)) is
 
 pub refused_ends : (n : ℕ) (r : Reason) (line : List ℕ) (result : Result Outcome Failed) (old mid : TranscriptReader) (left between rest : Option (List ℕ)) → line ≡ text_of_line (Refused n r)
-    → ((next : Judge) → Says (Ok None) old mid left between (led (same_as line) (λ t. next)) next) → Concludes result mid between rest at_end → Concludes result old left rest (expects (Refused n r ∷ []) at_end)
+    → ((next : Ruling) → Says (Ok None) old mid left between (led (same_as line) (λ t. next)) next) → Concludes result mid between rest at_end → Concludes result old left rest (expects (Refused n r ∷ []) at_end)
 refused_ends n r line result old mid left between rest is says ends =
-    subst (λ (j : Judge). Concludes result old left rest j) (printed_led n r line is) (concludes_then result old mid left between rest (led (same_as line) (λ t. at_end)) at_end (says at_end) ends)
+    subst (λ (j : Ruling). Concludes result old left rest j) (printed_led n r line is) (concludes_then result old mid left between rest (led (same_as line) (λ t. at_end)) at_end (says at_end) ends)
 
 pub refused_fails : (n : ℕ) (r : Reason) (line : List ℕ) (e : Failed) (old mid : TranscriptReader) (left rest : Option (List ℕ)) → line ≡ text_of_line (Refused n r)
-    → ((next : Judge) → Says (Err e) old mid left rest (led (same_as line) (λ t. next)) next) → Concludes (Err e) old left rest (expects (Refused n r ∷ []) at_end)
-refused_fails n r line e old mid left rest is says = subst (λ (j : Judge). Concludes (Err e) old left rest j) (printed_led n r line is) (says at_end end_forward)
+    → ((next : Ruling) → Says (Err e) old mid left rest (led (same_as line) (λ t. next)) next) → Concludes (Err e) old left rest (expects (Refused n r ∷ []) at_end)
+refused_fails n r line e old mid left rest is says = subst (λ (j : Ruling). Concludes (Err e) old left rest j) (printed_led n r line is) (says at_end end_forward)
 
 pub refused_lacks : (n : ℕ) (r : Reason) (line : List ℕ) (f : Outcome) (old mid : TranscriptReader) (left rest : Option (List ℕ)) → line ≡ text_of_line (Refused n r)
-    → ((next : Judge) → Says (Ok (Some f)) old mid left rest (led (same_as line) (λ t. next)) next) → Concludes (Ok f) old left rest (expects (Refused n r ∷ []) at_end)
-refused_lacks n r line f old mid left rest is says = subst (λ (j : Judge). Concludes (Ok f) old left rest j) (printed_led n r line is) (says at_end)
+    → ((next : Ruling) → Says (Ok (Some f)) old mid left rest (led (same_as line) (λ t. next)) next) → Concludes (Ok f) old left rest (expects (Refused n r ∷ []) at_end)
+refused_lacks n r line f old mid left rest is says = subst (λ (j : Ruling). Concludes (Ok f) old left rest j) (printed_led n r line is) (says at_end)

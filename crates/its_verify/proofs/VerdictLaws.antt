@@ -10,7 +10,7 @@ use Rattle.its_plain.specs.Turns.{highest}
 use Rattle.its_plain.proofs.RunLaws.{run_shows, shows_run}
 use Rattle.its_reader.specs.TextLines.{lines_in}
 use Rattle.its_verify.specs.Accepted.{Accepted, AcceptedLines, BeginsTranscript, IsFirst}
-use Rattle.its_verify.specs.Judge.{Verdict, Yes, No, verdict, judged}
+use Rattle.its_verify.specs.Rulings.{Verdict, Yes, No, verdict, judged}
 use Rattle.its_verify.proofs.LinesLaws.{concat_lines, lines_concat}
 use Rattle.its_verify.proofs.PrintedLaws.{said_whole, tells_text}
 use Rattle.its_verify.proofs.JudgeLaws.{From, right_judged}

@@ -17,7 +17,7 @@ use Rattle.its_direct.specs.Plain.{machine_of}
 use Rattle.its_direct.specs.declared.plain.Spot.{Spot}
 use Rattle.its_direct.specs.declared.plain.Spot.TheVariants as spots
 use Rattle.its_verify.specs.Letters.{ticked}
-use Rattle.its_verify.specs.Judge.{Judge as AnyJudge, led, turned, turned_by}
+use Rattle.its_verify.specs.Rulings.{Ruling, led, turned, turned_by}
 use Rattle.its_verify.specs.JudgeState.{AllLed, walk_of}
 use Rattle.its_verify.specs.TranscriptReader.{Beside, Forward, AtLine, PassesOn, Reads, ReadsOn, PassedIf, Says}
 use Rattle.its_verify.specs.Verifier.{RunsOutside, StaysAtItem, TicksSay, AtItem, TurnsSay, TurnsSo}
@@ -42,14 +42,14 @@ runs_outside p x _ at leads = tt
 
 -- a `T` line that is not there
 pub ticks_lack : (i k : ℕ) (f : Outcome) (was now : Judge) (old new : TranscriptReader) (left rest : Option (List ℕ)) → i < 96 → k ≤ 512 → AtLine old left → ReadsOn (Ok (Some f)) old new left rest
-    → (b : Block) (n : ℕ) (next : Walk → AnyJudge) → Says (Ok (Some f)) old new left rest (led (ticked (walk_of was b n) i k) next) (next (walk_of now b n))
+    → (b : Block) (n : ℕ) (next : Walk → Ruling) → Says (Ok (Some f)) old new left rest (led (ticked (walk_of was b n) i k) next) (next (walk_of now b n))
 ticks_lack i k f was now old new left rest slot few at_line h b n next =
     lacks_says (ticked (walk_of was b n) i k) next (next (walk_of now b n)) f old new left rest (strict_ticks (walk_of was b n) i k (omega (arith, slot)) few) at_line h
 
 -- one that was read
 pub ticks_passed : (i k : ℕ) (o : Option Outcome) (licensed : Bool) (was now : Judge) (old mid new : TranscriptReader) (left rest : Option (List ℕ)) → ReadsOn (Ok None) old mid left rest → Beside old mid
     → AllLed licensed was now mid.texts.text.items i k → PassedIf o licensed mid new
-    → (b : Block) (n : ℕ) (next : Walk → AnyJudge) → Says (Ok o) old new left rest (led (ticked (walk_of was b n) i k) next) (next (walk_of now b n))
+    → (b : Block) (n : ℕ) (next : Walk → Ruling) → Says (Ok o) old new left rest (led (ticked (walk_of was b n) i k) next) (next (walk_of now b n))
 ticks_passed i k None false was now old mid new left rest h beside all r b n next = absurd (false≢true r.0)
 ticks_passed i k None true was now old mid new left rest h beside all r b n next =
     read_says (ticked (walk_of was b n) i k) next (walk_of now b n) old mid new left rest h beside (all.2 b n)
@@ -81,17 +81,17 @@ no_turns t left n q none b l next =
     (nothing_on t.reader left (next (walk_of t.judge b l) t.last))
 
 -- turns
-turn_first : (k q : ℕ) (v : Walk) (last s : ℕ) (next : Walk → ℕ → AnyJudge) → turn_after v.machine last ≡ Some s → turned (suc k) q v last next ≡ led (ticked v s q) (λ w. turned k q w s next)
+turn_first : (k q : ℕ) (v : Walk) (last s : ℕ) (next : Walk → ℕ → Ruling) → turn_after v.machine last ≡ Some s → turned (suc k) q v last next ≡ led (ticked v s q) (λ w. turned k q w s next)
 turn_first k q v last s next is = ap (λ o. turned_by q v o (λ w s. turned k q w s next) (next v last)) is
 
-no_turn : (k q : ℕ) (v : Walk) (last : ℕ) (next : Walk → ℕ → AnyJudge) → turn_after v.machine last ≡ None → turned (suc k) q v last next ≡ next v last
+no_turn : (k q : ℕ) (v : Walk) (last : ℕ) (next : Walk → ℕ → Ruling) → turn_after v.machine last ≡ None → turned (suc k) q v last next ≡ next v last
 no_turn k q v last next is = ap (λ o. turned_by q v o (λ w s. turned k q w s next) (next v last)) is
 
-turn_forward : (q : ℕ) (v : Walk) (o : Option ℕ) (more : Walk → ℕ → AnyJudge) (done : AnyJudge) → ((w : Walk) (s : ℕ) → Forward (more w s)) → Forward done → Forward (turned_by q v o more done)
+turn_forward : (q : ℕ) (v : Walk) (o : Option ℕ) (more : Walk → ℕ → Ruling) (done : Ruling) → ((w : Walk) (s : ℕ) → Forward (more w s)) → Forward done → Forward (turned_by q v o more done)
 turn_forward q v None more done h d = d
 turn_forward q v (Some s) more done h d = led_forward (ticked v s q) (λ w. more w s) (λ w. h w s)
 
-pub turned_forward : (n q : ℕ) (v : Walk) (last : ℕ) (next : Walk → ℕ → AnyJudge) → ((w : Walk) (s : ℕ) → Forward (next w s)) → Forward (turned n q v last next)
+pub turned_forward : (n q : ℕ) (v : Walk) (last : ℕ) (next : Walk → ℕ → Ruling) → ((w : Walk) (s : ℕ) → Forward (next w s)) → Forward (turned n q v last next)
 turned_forward zero q v last next h = h v last
 turned_forward (suc n) q v last next h =
     turn_forward q v (turn_after v.machine last) (λ w s. turned n q w s next) (next v last) (λ w s. turned_forward n q w s next h) (h v last)
@@ -99,7 +99,7 @@ turned_forward (suc n) q v last next h =
 one_more : (n k : ℕ) → k < n → n - k ≡ suc (n - (k + 1))
 one_more n k less = omega arith
 
-turn_on : (n k q : ℕ) (v : Walk) (last s : ℕ) (next : Walk → ℕ → AnyJudge) → k < n → turn_after v.machine last ≡ Some s
+turn_on : (n k q : ℕ) (v : Walk) (last s : ℕ) (next : Walk → ℕ → Ruling) → k < n → turn_after v.machine last ≡ Some s
     → turned (n - k) q v last next ≡ led (ticked v s q) (λ w. turned (n - (k + 1)) q w s next)
 turn_on n k q v last s next less turn = ap (λ (m : ℕ). turned m q v last next) (one_more n k less) ∙ turn_first (n - (k + 1)) q v last s next turn
 
@@ -110,24 +110,24 @@ turns_start t n k q left none b l next =
     subst (λ (m : ℕ). PassesOn t.reader t.reader left left (turned n q v t.last next) (turned m q v t.last next)) all (nothing_on t.reader left (turned n q v t.last next))
 
 -- one more turn
-turns_then : (r : Result (Option Outcome) Failed) (old now new : Verifier) (n k q s : ℕ) (left mid rest : Option (List ℕ)) (b : Block) (l : ℕ) (next : Walk → ℕ → AnyJudge) (last : AnyJudge) → k < n → TurnsSo old now n k q left mid
+turns_then : (r : Result (Option Outcome) Failed) (old now new : Verifier) (n k q s : ℕ) (left mid rest : Option (List ℕ)) (b : Block) (l : ℕ) (next : Walk → ℕ → Ruling) (last : Ruling) → k < n → TurnsSo old now n k q left mid
     → turn_after (machine_of now.judge.plain) now.last ≡ Some s → Says r now.reader new.reader mid rest (led (ticked (walk_of now.judge b l) s q) (λ w. turned (n - (k + 1)) q w s next)) last
     → Says r old.reader new.reader left rest (turned n q (walk_of old.judge b l) old.last next) last
 turns_then r old now new n k q s left mid rest b l next last less so turn says =
     let v = walk_of now.judge b l in
     says_then r old.reader now.reader new.reader left mid rest (turned n q (walk_of old.judge b l) old.last next) (turned (n - k) q v now.last next) last (so b l next)
-    (subst (λ (j : AnyJudge). Says r now.reader new.reader mid rest j last) (sym (turn_on n k q v now.last s next less turn)) says)
+    (subst (λ (j : Ruling). Says r now.reader new.reader mid rest j last) (sym (turn_on n k q v now.last s next less turn)) says)
 
 -- nobody runs, or all turns were made
 pub turns_none : (old now : Verifier) (n k q : ℕ) (left rest : Option (List ℕ)) → k < n → TurnsSo old now n k q left rest → turn_after (machine_of now.judge.plain) now.last ≡ None
-    → (b : Block) (l : ℕ) (next : Walk → ℕ → AnyJudge) → Says (Ok None) old.reader now.reader left rest (turned n q (walk_of old.judge b l) old.last next) (next (walk_of now.judge b l) now.last)
+    → (b : Block) (l : ℕ) (next : Walk → ℕ → Ruling) → Says (Ok None) old.reader now.reader left rest (turned n q (walk_of old.judge b l) old.last next) (next (walk_of now.judge b l) now.last)
 turns_none old now n k q left rest less so none b l next =
     let v = walk_of now.judge b l in
-    subst (λ (j : AnyJudge). PassesOn old.reader now.reader left rest (turned n q (walk_of old.judge b l) old.last next) j)
+    subst (λ (j : Ruling). PassesOn old.reader now.reader left rest (turned n q (walk_of old.judge b l) old.last next) j)
     (ap (λ (m : ℕ). turned m q v now.last next) (one_more n k less) ∙ no_turn (n - (k + 1)) q v now.last next none) (so b l next)
 
 pub turns_end : (old now : Verifier) (n k q : ℕ) (left rest : Option (List ℕ)) → n ≤ k → TurnsSo old now n k q left rest
-    → (b : Block) (l : ℕ) (next : Walk → ℕ → AnyJudge) → Says (Ok None) old.reader now.reader left rest (turned n q (walk_of old.judge b l) old.last next) (next (walk_of now.judge b l) now.last)
+    → (b : Block) (l : ℕ) (next : Walk → ℕ → Ruling) → Says (Ok None) old.reader now.reader left rest (turned n q (walk_of old.judge b l) old.last next) (next (walk_of now.judge b l) now.last)
 turns_end old now n k q left rest past so b l next =
     let none : n - k ≡ 0 = omega arith in
     let v = walk_of now.judge b l in
@@ -138,7 +138,7 @@ pub turns_next_by : (r : Result (Option Outcome) Failed) (old now t : Verifier) 
     → turn_after (machine_of now.judge.plain) now.last ≡ Some s
     → TicksSay r now t mid rest s q → TurnsSo old (record t { last = s }) n (k + 1) q left rest
 turns_next_by r old now t n k q s left mid rest is less so turn says b l next =
-    let on : Walk → AnyJudge = λ w. turned (n - (k + 1)) q w s next in
+    let on : Walk → Ruling = λ w. turned (n - (k + 1)) q w s next in
     turns_then (Ok None) old now t n k q s left mid rest b l next (on (walk_of t.judge b l)) less so turn (subst (λ x. TicksSay x now t mid rest s q) is says b l on)
 
 pub turns_said_by : (r : Result (Option Outcome) Failed) (f : Outcome) (old now new : Verifier) (n k q s : ℕ) (left mid rest : Option (List ℕ)) → r ≡ Ok (Some f) → k < n → TurnsSo old now n k q left mid

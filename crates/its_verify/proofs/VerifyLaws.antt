@@ -21,7 +21,7 @@ use Rattle.its_direct.specs.Plain.{machine_of}
 use Rattle.its_verify.specs.Finds.{Breaks, Found, Judges, said_of}
 use Rattle.its_verify.specs.Going.{judge_from}
 use Rattle.its_verify.specs.TranscriptReader.{Concludes, SaidLater, cut}
-use Rattle.its_verify.specs.Judge.{Judge, Verdict, Yes, No, judged}
+use Rattle.its_verify.specs.Rulings.{Ruling, Verdict, Yes, No, judged}
 use Rattle.its_verify.specs.Keeping.{Keeps, parts_by}
 use Rattle.its_verify.specs.Lines.{most_bytes}
 use Rattle.its_verify.specs.Sources.{IsTold, bytes_of, texts_of}
@@ -68,16 +68,16 @@ pub judges_fail : (e : Failed) (t : Verifier) (texts : Texts) (session : List �
     → t.reader.texts.buffer ≡ texts.buffer → t.reader.texts.number ≡ texts.number → t.reader.texts.ended ≡ texts.ended
     → Concludes (Err e) t.reader left rest (judge_from t no_block 1 (events_of session)) → Judges (Err Source) texts session left rest
 judges_fail e t texts session left rest machine dots last room passed same buffer number ended ends told =
-    let judge : Judge = judge_from t no_block 1 (events_of session) in
+    let ruling : Ruling = judge_from t no_block 1 (events_of session) in
     let f = ends told in
     let w = f.passed.went in
     let lines = f.passed.lines in
     let count : f.at.passed ≡ length lines = (let p = f.passed.passed in omega (arith, p, passed)) in
     let all : said_of texts session (texts_of texts left) ≡ cut f.at.room f.at.passed f.next (texts_of f.at.texts f.mid) =
     ap (said_of texts session) (sym same) ∙ said_same t texts session (texts_of t.reader.texts left) machine dots last room passed
-    ∙ passed_says t.reader f.at left f.mid judge f.next f.passed in
+    ∙ passed_says t.reader f.at left f.mid ruling f.next f.passed in
     let alone : said_of texts session lines ≡ cut f.at.room f.at.passed f.next [] =
-    said_same t texts session lines machine dots last room passed ∙ ap (cut t.reader.room t.reader.passed judge) (sym (append-nil lines)) ∙ f.passed.leads [] in
+    said_same t texts session lines machine dots last room passed ∙ ap (cut t.reader.room t.reader.passed ruling) (sym (append-nil lines)) ∙ f.passed.leads [] in
     record {
       at = f.at.texts;
       mid = f.mid;
@@ -228,6 +228,6 @@ pub finds_cut : (n : ℕ) (old new : Texts) (session : List ℕ) (left mid rest 
 finds_cut n old new session (Some bytes) mid rest empty keeps = whole_cut bytes n (first_parts old new (Cut n) session bytes mid empty keeps)
 finds_cut n old new session None mid rest empty keeps = tt
 
-pub finds_beyond : (old new : Texts) (session : List ℕ) (left mid rest : Option (List ℕ)) → pending old.buffer ≡ [] → Keeps (Ok Beyond) old new session left mid → Found (Ok outcomes.Beyond) left rest
+pub finds_beyond : (old new : Texts) (session : List ℕ) (left mid rest : Option (List ℕ)) → pending old.buffer ≡ [] → Keeps (Ok Beyond) old new session left mid → Found (Ok outcomes.TooLong) left rest
 finds_beyond old new session (Some bytes) mid rest empty keeps = whole_beyond bytes (first_parts old new Beyond session bytes mid empty keeps)
 finds_beyond old new session None mid rest empty keeps = tt

@@ -8,7 +8,7 @@ use Rattle.its_reader.specs.declared.texts.Texts.{Texts}
 use Rattle.its_plain.specs.Transcript.{at_start}
 use Rattle.its_plain.specs.Turns.{highest}
 use Rattle.its_verify.specs.TranscriptReader.{SaidLater, answer_of, cut}
-use Rattle.its_verify.specs.Judge.{judged}
+use Rattle.its_verify.specs.Rulings.{judged}
 use Rattle.its_verify.specs.Sources.{IsTold, texts_of}
 use Rattle.its_verify.specs.Lines.{most_bytes}
 use Rattle.its_verify.specs.Undecided.{Undecided}

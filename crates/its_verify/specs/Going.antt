@@ -18,7 +18,7 @@ use Rattle.its_plain.specs.Transcript.{Walk}
 use Rattle.its_direct.specs.Plain.{machine_of}
 use Rattle.its_direct.specs.Events.{MayStand, Speaks}
 use Rattle.its_verify.specs.TranscriptReader.{Concludes, Failing, Forward, PassesOn}
-use Rattle.its_verify.specs.Judge.{Judge, gone, judged}
+use Rattle.its_verify.specs.Rulings.{Ruling, gone, judged}
 use Rattle.its_verify.specs.Sources.{IsTold, items_of}
 use Rattle.its_verify.specs.JudgeState.{walk_of}
 use Rattle.its_verify.specs.declared.outcome.Outcome.{Outcome}
@@ -26,31 +26,31 @@ use Rattle.its_verify.specs.declared.transcript_reader.TranscriptReader.{Transcr
 use Rattle.its_verify.specs.declared.verifier.Verifier.{Verifier}
 
 -- what the judge says of line n, event e, in block b, and how it goes on
-abbrev pub line_judge : Verifier → Block → ℕ → Event → (Walk → Judge) → Judge
-line_judge t b n e next = gone (walk_of t.judge b n) (lined (machine_of t.judge.plain) b e) next
+abbrev pub line_ruling : Verifier → Block → ℕ → Event → (Walk → Ruling) → Ruling
+line_ruling t b n e next = gone (walk_of t.judge b n) (lined (machine_of t.judge.plain) b e) next
 
 -- the line led on, to the next block
 pub record LedOn (old new : Verifier) (left rest : Option (List ℕ)) (b : Block) (n : ℕ) (e : Event) : Type 0 where
   pub after : Block
   pub speaks : Speaks new.judge.plain.place after
-  pub goes : (next : Walk → Judge)
-      → PassesOn old.reader new.reader left rest (line_judge old b n e next) (next (walk_of new.judge after (n + 1)))
+  pub goes : (next : Walk → Ruling)
+      → PassesOn old.reader new.reader left rest (line_ruling old b n e next) (next (walk_of new.judge after (n + 1)))
 
 -- line n led on, or all is said
 abbrev pub LineSays : Result (Option Outcome) Failed → Verifier → Verifier → Option (List ℕ) → Option (List ℕ) → ℕ → Event → Type 0
 LineSays (Ok None) old new left rest n e = (b : Block) → Speaks old.judge.plain.place b → LedOn old new left rest b n e
 LineSays (Ok (Some f)) old new left rest n e =
     (b : Block) → Speaks old.judge.plain.place b
-    → (next : Walk → Judge) → Concludes (Ok f) old.reader left rest (line_judge old b n e next)
+    → (next : Walk → Ruling) → Concludes (Ok f) old.reader left rest (line_ruling old b n e next)
 LineSays (Err x) old new left rest n e =
     (b : Block) → Speaks old.judge.plain.place b
-    → (next : Walk → Judge) → ((w : Walk) → Forward (next w)) → IsTold left → Failing old.reader left rest (line_judge old b n e next)
+    → (next : Walk → Ruling) → ((w : Walk) → Forward (next w)) → IsTold left → Failing old.reader left rest (line_ruling old b n e next)
 
 -- all is said by a judge
-abbrev pub SaysEnd : Result (Option Outcome) Failed → TranscriptReader → Option (List ℕ) → Option (List ℕ) → Judge → Type 0
-SaysEnd (Ok None) old left rest judge = ⊥
-SaysEnd (Ok (Some f)) old left rest judge = Concludes (Ok f) old left rest judge
-SaysEnd (Err x) old left rest judge = Concludes (Err x) old left rest judge
+abbrev pub SaysEnd : Result (Option Outcome) Failed → TranscriptReader → Option (List ℕ) → Option (List ℕ) → Ruling → Type 0
+SaysEnd (Ok None) old left rest ruling = ⊥
+SaysEnd (Ok (Some f)) old left rest ruling = Concludes (Ok f) old left rest ruling
+SaysEnd (Err x) old left rest ruling = Concludes (Err x) old left rest ruling
 
 abbrev pub is_end : Event → Bool
 is_end events.End = true
@@ -78,7 +78,7 @@ items_by Beyond es = items.Beyond ∷ es
 items_by End es = []
 
 -- what the judge says from line n on
-abbrev pub judge_from : Verifier → Block → ℕ → List Item → Judge
+abbrev pub judge_from : Verifier → Block → ℕ → List Item → Ruling
 judge_from t b n es = judged (walk_of t.judge b n) t.last es
 
 -- an item led on
@@ -99,11 +99,11 @@ ItemSays (Err x) old new left rest n f =
     → (es : List Item) → Concludes (Err x) old.reader left rest (judge_from old b n (items_by f es))
 
 -- so far: the items that were found led on
-pub record GoneSo (old now : Verifier) (judge : Judge) (r : Items) (session left rest : Option (List ℕ)) : Type 0 where
+pub record GoneSo (old now : Verifier) (ruling : Ruling) (r : Items) (session left rest : Option (List ℕ)) : Type 0 where
   pub block : Block
   pub speaks : Speaks now.judge.plain.place block
   pub goes :
-      PassesOn old.reader now.reader left rest judge (judge_from now block (r.lines.number + 1) (items_of r session))
+      PassesOn old.reader now.reader left rest ruling (judge_from now block (r.lines.number + 1) (items_of r session))
 
 -- the items that are left, if this was found: it is the first one, and others come after it if it is not the last
 pub record Split (f : Found) (before : List Item) (after : List Item) : Type 0 where

@@ -2,7 +2,7 @@ pub mod Lines
 pub mod Accepted
 pub mod Letters
 pub mod Reading
-pub mod Judge
+pub mod Rulings
 pub mod Verified
 pub mod Undecided
 pub mod Sources

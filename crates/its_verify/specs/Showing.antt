@@ -12,7 +12,7 @@ use Rattle.its_plain.specs.OperatorLines.{in_a_line}
 use Rattle.its_direct.specs.declared.events.Answer.{Answer}
 use Rattle.its_direct.specs.declared.events.Answer.TheVariants.{Nothing, Slot, Dropped, Drained}
 use Rattle.its_verify.specs.TranscriptReader.{PassesOn}
-use Rattle.its_verify.specs.Judge.{Judge, led, peeking, expects}
+use Rattle.its_verify.specs.Rulings.{Ruling, led, peeking, expects}
 use Rattle.its_verify.specs.declared.transcript_reader.TranscriptReader.{TranscriptReader}
 use Rattle.std.specs.declared.option.Option.{Option}
 
@@ -52,9 +52,9 @@ lines_of (events.Show d x y) a m = shown_if (λ out. out) (file_shown m d x y)
 lines_of e a m = []
 
 -- what the judge says if these lines are to come, or a line of PEEK, and then others
-abbrev pub shown_judge : Event → Answer → Machine → Judge → Judge
-shown_judge (events.Peek s) a m next = led peeking (λ text. next)
-shown_judge e a m next = expects (lines_of e a m) next
+abbrev pub shown_ruling : Event → Answer → Machine → Ruling → Ruling
+shown_ruling (events.Peek s) a m next = led peeking (λ text. next)
+shown_ruling e a m next = expects (lines_of e a m) next
 
 abbrev pub is_peek_event : Event → Bool
 is_peek_event (events.Peek s) = true
@@ -77,7 +77,7 @@ text_lines n ws = shown_lines (name_in n 0) (name_in n 1) (name_in n 2) ws
 -- some lines were shown, and these are still to come
 abbrev pub LinesSo : TranscriptReader → TranscriptReader → Option (List ℕ) → Option (List ℕ) → List Line → List Line → Type 0
 LinesSo old now left rest lines more =
-    (next : Judge) → PassesOn old now left rest (expects lines next) (expects more next)
+    (next : Ruling) → PassesOn old now left rest (expects lines next) (expects more next)
 
 -- each of the first k bytes has eight bits
 abbrev pub BitsSo : ℕ → List ℕ → Type 0

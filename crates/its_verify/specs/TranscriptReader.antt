@@ -10,7 +10,7 @@ use Rattle.its_verify.specs.Sources.{IsTold, texts_of}
 use Rattle.its_verify.specs.Went.{Fell, Went}
 use Rattle.its_verify.specs.Lines.{most_bytes}
 use Rattle.its_verify.specs.Letters.{if_so}
-use Rattle.its_verify.specs.Judge.{Judge, Verdict, Yes, No}
+use Rattle.its_verify.specs.Rulings.{Ruling, Verdict, Yes, No}
 use Rattle.its_verify.specs.Verified.{Answer, IsYes, Judged, Long, Cut, TooLong, within}
 use Rattle.its_verify.specs.declared.outcome.Outcome.{Outcome}
 use Rattle.its_verify.specs.declared.outcome.Outcome.TheVariants as outcomes
@@ -21,13 +21,13 @@ answer_of (outcomes.Yes n) = Judged (Yes n)
 answer_of (outcomes.No n) = Judged (No n)
 answer_of (outcomes.Long n) = Long n
 answer_of (outcomes.Cut n) = Cut n
-answer_of outcomes.Beyond = TooLong
+answer_of outcomes.TooLong = TooLong
 
 -- what a judge says of the lines that are left after n that are licensed, if there is room for so many in all
-abbrev pub cut : ℕ → ℕ → Judge → List (List ℕ) → Answer
-cut room n judge texts =
-    if nat_le (n + length texts) room then Judged (judge n texts)
-    else within room (judge n (take (room - n) texts))
+abbrev pub cut : ℕ → ℕ → Ruling → List (List ℕ) → Answer
+cut room n ruling texts =
+    if nat_le (n + length texts) room then Judged (ruling n texts)
+    else within room (ruling n (take (room - n) texts))
 
 -- a line that says just these bytes
 abbrev pub same_as : List ℕ → List ℕ → Option (List ℕ)
@@ -61,16 +61,16 @@ pub record Beside (old new : TranscriptReader) : Type 0 where
 -- why no line is read if one is wanted: there is none, the next is too long, or there is no room for it
 abbrev pub Lacks : Outcome → ℕ → ℕ → List (List ℕ) → Type 0
 Lacks (outcomes.No k) room n texts = (k ≡ n + 1) × ((texts ≡ []) ⊎ ((n < room) × SomeLine texts (λ line. most_bytes < length (before_lf line))))
-Lacks outcomes.Beyond room n texts = (room ≤ n) × SomeLine texts (λ line. Unit {0})
+Lacks outcomes.TooLong room n texts = (room ≤ n) × SomeLine texts (λ line. Unit {0})
 Lacks _ room n texts = ⊥
 
 -- some lines were read, and all are passed: what a judge says of them and any others is what the next says of the others
-pub record Passed (old new : TranscriptReader) (left rest : Option (List ℕ)) (judge next : Judge) : Type 0 where
+pub record Passed (old new : TranscriptReader) (left rest : Option (List ℕ)) (ruling next : Ruling) : Type 0 where
   pub lines : List (List ℕ)
   pub went : Went lines old.texts new.texts left rest
   pub passed : new.passed ≡ old.passed + length lines
   pub texts : texts_of old.texts left ≡ lines ++ texts_of new.texts rest
-  pub leads : (more : List (List ℕ)) → cut old.room old.passed judge (lines ++ more) ≡ cut new.room new.passed next more
+  pub leads : (more : List (List ℕ)) → cut old.room old.passed ruling (lines ++ more) ≡ cut new.room new.passed next more
 
 -- a verdict that is about none of the first n lines
 abbrev pub Later : ℕ → Verdict → Type 0
@@ -84,16 +84,16 @@ SaidLater n (Long k) = ⊥
 SaidLater n (Cut k) = ⊥
 
 -- a judge says nothing of lines that are licensed already
-pub record Forward (judge : Judge) : Type 0 where
-  pub later : (n : ℕ) (texts : List (List ℕ)) → Later n (judge n texts)
+pub record Forward (ruling : Ruling) : Type 0 where
+  pub later : (n : ℕ) (texts : List (List ℕ)) → Later n (ruling n texts)
 
 -- the source failed after lines that are passed: the answer is about none of these lines. If they are all that the
 -- session has, not a byte more was read
-pub record Failing (old : TranscriptReader) (left rest : Option (List ℕ)) (judge : Judge) : Type 0 where
+pub record Failing (old : TranscriptReader) (left rest : Option (List ℕ)) (ruling : Ruling) : Type 0 where
   pub at : TranscriptReader
   pub mid : Option (List ℕ)
-  pub next : Judge
-  pub passed : Passed old at left mid judge next
+  pub next : Ruling
+  pub passed : Passed old at left mid ruling next
   pub fell : Fell most_bytes at.texts mid rest
   pub later : SaidLater at.passed (cut at.room at.passed next (texts_of at.texts mid))
   pub ended : IsYes (cut at.room at.passed next []) → fell.begun ≡ []
@@ -110,19 +110,19 @@ ReadsOn (Ok (Some f)) old new left rest = IsTold left → Lacks f old.room old.p
 ReadsOn (Err e) old new left rest = IsTold left → Fell most_bytes old.texts left rest
 
 -- a judge was led on to the next
-abbrev pub PassesOn : TranscriptReader → TranscriptReader → Option (List ℕ) → Option (List ℕ) → Judge → Judge → Type 0
-PassesOn old new left rest judge next = IsTold left → IsTold rest × Passed old new left rest judge next
+abbrev pub PassesOn : TranscriptReader → TranscriptReader → Option (List ℕ) → Option (List ℕ) → Ruling → Ruling → Type 0
+PassesOn old new left rest ruling next = IsTold left → IsTold rest × Passed old new left rest ruling next
 
 -- a judge was led on to the next, or all is said
-abbrev pub Says : Result (Option Outcome) Failed → TranscriptReader → TranscriptReader → Option (List ℕ) → Option (List ℕ) → Judge → Judge → Type 0
-Says (Ok None) old new left rest judge next = PassesOn old new left rest judge next
-Says (Ok (Some f)) old new left rest judge next = IsTold left → cut old.room old.passed judge (texts_of old.texts left) ≡ answer_of f
-Says (Err e) old new left rest judge next = Forward next → IsTold left → Failing old left rest judge
+abbrev pub Says : Result (Option Outcome) Failed → TranscriptReader → TranscriptReader → Option (List ℕ) → Option (List ℕ) → Ruling → Ruling → Type 0
+Says (Ok None) old new left rest ruling next = PassesOn old new left rest ruling next
+Says (Ok (Some f)) old new left rest ruling next = IsTold left → cut old.room old.passed ruling (texts_of old.texts left) ≡ answer_of f
+Says (Err e) old new left rest ruling next = Forward next → IsTold left → Failing old left rest ruling
 
 -- all is said that a judge says of the lines that were left
-abbrev pub Concludes : Result Outcome Failed → TranscriptReader → Option (List ℕ) → Option (List ℕ) → Judge → Type 0
-Concludes (Ok f) old left rest judge = IsTold left → cut old.room old.passed judge (texts_of old.texts left) ≡ answer_of f
-Concludes (Err e) old left rest judge = IsTold left → Failing old left rest judge
+abbrev pub Concludes : Result Outcome Failed → TranscriptReader → Option (List ℕ) → Option (List ℕ) → Ruling → Type 0
+Concludes (Ok f) old left rest ruling = IsTold left → cut old.room old.passed ruling (texts_of old.texts left) ≡ answer_of f
+Concludes (Err e) old left rest ruling = IsTold left → Failing old left rest ruling
 
 -- if it goes on, all holds together
 abbrev pub Stays : Result (Option Outcome) Failed → TranscriptReader → Option (List ℕ) → Type 0

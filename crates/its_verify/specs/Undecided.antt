@@ -4,7 +4,7 @@ use Rattle.std.specs.Prelude.{◌≡◌, ◌≤◌, ◌<◌, ◌==◌, ℕ, ◌+
 use Rattle.std.specs.List.{concat, list_all, list_any}
 use Rattle.its_session.specs.Events.{most_lines}
 use Rattle.its_reader.specs.TextLines.{lines_in}
-use Rattle.its_verify.specs.Judge.{Yes, No}
+use Rattle.its_verify.specs.Rulings.{Yes, No}
 use Rattle.its_verify.specs.Lines.{is_whole, most_bytes}
 use Rattle.its_verify.specs.Verified.{Answer, Judged, Long, Cut, TooLong, Parts, Both, LongLine, NoEnd, TooMany, IsYes, is_end_line, most_session_bytes, parts_from, verified}
 

@@ -10,7 +10,7 @@ use Rattle.its_session.specs.Events.{events_of, most_lines}
 use Rattle.its_plain.specs.Transcript.{at_start}
 use Rattle.its_plain.specs.Turns.{highest}
 use Rattle.its_reader.specs.TextLines.{before_lf, lines_in}
-use Rattle.its_verify.specs.Judge.{Verdict, Yes, No, judged}
+use Rattle.its_verify.specs.Rulings.{Verdict, Yes, No, judged}
 
 -- what is said of an input
 pub data Answer : Type 0 where

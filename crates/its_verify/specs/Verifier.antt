@@ -10,7 +10,7 @@ use Rattle.its_plain.specs.Transcript.{Walk}
 use Rattle.its_direct.specs.declared.plain.Spot.{Spot}
 use Rattle.its_direct.specs.declared.plain.Spot.TheVariants as spots
 use Rattle.its_verify.specs.TranscriptReader.{Failing, Forward, PassesOn, AtLine, Says}
-use Rattle.its_verify.specs.Judge.{Judge, led, turned}
+use Rattle.its_verify.specs.Rulings.{Ruling, led, turned}
 use Rattle.its_verify.specs.Letters.{ticked}
 use Rattle.its_verify.specs.Sources.{IsTold}
 use Rattle.its_verify.specs.JudgeState.{Sure, walk_of}
@@ -38,24 +38,24 @@ RunsOutside _ x = Unit {0}
 -- a `T` line of so many letters of a slot led on, or all is said
 abbrev pub TicksSay : Result (Option Outcome) Failed → Verifier → Verifier → Option (List ℕ) → Option (List ℕ) → ℕ → ℕ → Type 0
 TicksSay (Ok o) old new left rest i k =
-    (b : Block) (n : ℕ) (next : Walk → Judge)
+    (b : Block) (n : ℕ) (next : Walk → Ruling)
     → Says (Ok o) old.reader new.reader left rest (led (ticked (walk_of old.judge b n) i k) next) (next (walk_of new.judge b n))
 TicksSay (Err e) old new left rest i k =
-    (b : Block) (n : ℕ) (next : Walk → Judge)
+    (b : Block) (n : ℕ) (next : Walk → Ruling)
     → ((w : Walk) → Forward (next w)) → IsTold left → Failing old.reader left rest (led (ticked (walk_of old.judge b n) i k) next)
 
 -- so many turns, each of q letters, led on, or all is said
 abbrev pub TurnsSay : Result (Option Outcome) Failed → Verifier → Verifier → Option (List ℕ) → Option (List ℕ) → ℕ → ℕ → Type 0
 TurnsSay (Ok o) old new left rest n q =
-    (b : Block) (l : ℕ) (next : Walk → ℕ → Judge)
+    (b : Block) (l : ℕ) (next : Walk → ℕ → Ruling)
     → Says (Ok o) old.reader new.reader left rest (turned n q (walk_of old.judge b l) old.last next) (next (walk_of new.judge b l) new.last)
 TurnsSay (Err e) old new left rest n q =
-    (b : Block) (l : ℕ) (next : Walk → ℕ → Judge)
+    (b : Block) (l : ℕ) (next : Walk → ℕ → Ruling)
     → ((w : Walk) (s : ℕ) → Forward (next w s)) → IsTold left → Failing old.reader left rest (turned n q (walk_of old.judge b l) old.last next)
 
 -- k of n turns were made, and the others are still to come
 abbrev pub TurnsSo : Verifier → Verifier → ℕ → ℕ → ℕ → Option (List ℕ) → Option (List ℕ) → Type 0
 TurnsSo old now n k q left rest =
-    (b : Block) (l : ℕ) (next : Walk → ℕ → Judge)
+    (b : Block) (l : ℕ) (next : Walk → ℕ → Ruling)
     → PassesOn old.reader now.reader left rest (turned n q (walk_of old.judge b l) old.last next)
     (turned (n - k) q (walk_of now.judge b l) now.last next)

@@ -10,5 +10,5 @@ pub enum Outcome {
     /// There is no END line, and line n would be the next.
     Cut(u32),
     /// A line past the most that an input may have begins, and nothing is said before.
-    Beyond,
+    TooLong,
 }

@@ -12,7 +12,7 @@ ghost use Rattle.its_plain.specs.OperatorJobs.{examined, state_shown};
 ghost use Rattle.its_plain.specs.OperatorLines.{in_a_line};
 ghost use Rattle.its_direct.specs.Plain.{machine_of};
 ghost use Rattle.its_verify.specs.TranscriptReader.{AtLine, Says, Stays};
-ghost use Rattle.its_verify.specs.Judge.{Judge, expects};
+ghost use Rattle.its_verify.specs.Rulings.{Ruling, expects};
 ghost use Rattle.its_verify.specs.Showing.{IsThere, drained_lines, lines_of, loaded_lines, names_line, shown_if, text_lines, typed_lines};
 
 use super::outcome::Outcome;
@@ -42,7 +42,7 @@ pub(crate) fn show_event<S: Source>(
     requires fits { EventFits 2 event.now }
     requires there { IsThere event.now (machine_of plain.now) }
     requires at_line { AtLine reader.old (S.left src.old) }
-    ensures says { (next : Judge) → Says result reader.old reader.new (S.left src.old) (S.left src.new) (expects (lines_of event.now answer.now (machine_of plain.now)) next) next }
+    ensures says { (next : Ruling) → Says result reader.old reader.new (S.left src.old) (S.left src.new) (expects (lines_of event.now answer.now (machine_of plain.now)) next) next }
     ensures stays { Stays result reader.new (S.left src.new) }
     ensures cause { HasCause (S.faults src.old) (S.faults src.new) result }
 {
@@ -67,7 +67,7 @@ fn show_loaded<S: Source>(
     answer: &Answer,
 ) -> Result<Option<Outcome>, Failed>
     requires at_line { AtLine reader.old (S.left src.old) }
-    ensures says { (next : Judge) → Says result reader.old reader.new (S.left src.old) (S.left src.new) (expects (loaded_lines answer.now) next) next }
+    ensures says { (next : Ruling) → Says result reader.old reader.new (S.left src.old) (S.left src.new) (expects (loaded_lines answer.now) next) next }
     ensures stays { Stays result reader.new (S.left src.new) }
     ensures cause { HasCause (S.faults src.old) (S.faults src.new) result }
 {
@@ -92,7 +92,7 @@ fn show_typed<S: Source>(
     answer: &Answer,
 ) -> Result<Option<Outcome>, Failed>
     requires at_line { AtLine reader.old (S.left src.old) }
-    ensures says { (next : Judge) → Says result reader.old reader.new (S.left src.old) (S.left src.new) (expects (typed_lines c answer.now) next) next }
+    ensures says { (next : Ruling) → Says result reader.old reader.new (S.left src.old) (S.left src.new) (expects (typed_lines c answer.now) next) next }
     ensures stays { Stays result reader.new (S.left src.new) }
     ensures cause { HasCause (S.faults src.old) (S.faults src.new) result }
 {
@@ -117,7 +117,7 @@ fn show_drained<S: Source>(
     answer: &Answer,
 ) -> Result<Option<Outcome>, Failed>
     requires at_line { AtLine reader.old (S.left src.old) }
-    ensures says { (next : Judge) → Says result reader.old reader.new (S.left src.old) (S.left src.new) (expects (drained_lines c answer.now) next) next }
+    ensures says { (next : Ruling) → Says result reader.old reader.new (S.left src.old) (S.left src.new) (expects (drained_lines c answer.now) next) next }
     ensures stays { Stays result reader.new (S.left src.new) }
     ensures cause { HasCause (S.faults src.old) (S.faults src.new) result }
 {
@@ -139,7 +139,7 @@ fn show_bytes<S: Source>(
 ) -> Result<Option<Outcome>, Failed>
     requires few { length bytes.now ≤ 64 }
     requires at_line { AtLine reader.old (S.left src.old) }
-    ensures says { (next : Judge) → Says result reader.old reader.new (S.left src.old) (S.left src.new) (expects (Drained c bytes.now ∷ []) next) next }
+    ensures says { (next : Ruling) → Says result reader.old reader.new (S.left src.old) (S.left src.new) (expects (Drained c bytes.now ∷ []) next) next }
     ensures stays { Stays result reader.new (S.left src.new) }
     ensures cause { HasCause (S.faults src.old) (S.faults src.new) result }
 {
@@ -174,7 +174,7 @@ fn show_words<S: Source>(
     requires few { n ≤ 8 }
     requires there { IsOk (examined (machine_of plain.now) s a n) }
     requires at_line { AtLine reader.old (S.left src.old) }
-    ensures says { (next : Judge) → Says result reader.old reader.new (S.left src.old) (S.left src.new) (expects (shown_if (in_a_line s a) (examined (machine_of plain.now) s a n)) next) next }
+    ensures says { (next : Ruling) → Says result reader.old reader.new (S.left src.old) (S.left src.new) (expects (shown_if (in_a_line s a) (examined (machine_of plain.now) s a n)) next) next }
     ensures stays { Stays result reader.new (S.left src.new) }
     ensures cause { HasCause (S.faults src.old) (S.faults src.new) result }
 {
@@ -195,7 +195,7 @@ fn show_line<S: Source>(
 ) -> Result<Option<Outcome>, Failed>
     requires few { length words.now ≤ 8 }
     requires at_line { AtLine reader.old (S.left src.old) }
-    ensures says { (next : Judge) → Says result reader.old reader.new (S.left src.old) (S.left src.new) (expects (in_a_line s a words.now) next) next }
+    ensures says { (next : Ruling) → Says result reader.old reader.new (S.left src.old) (S.left src.new) (expects (in_a_line s a words.now) next) next }
     ensures stays { Stays result reader.new (S.left src.new) }
     ensures cause { HasCause (S.faults src.old) (S.faults src.new) result }
 {
@@ -219,7 +219,7 @@ fn list_words<S: Source>(
     requires few { n ≤ 8 }
     requires there { IsOk (examined (machine_of plain.now) s a n) }
     requires at_line { AtLine reader.old (S.left src.old) }
-    ensures says { (next : Judge) → Says result reader.old reader.new (S.left src.old) (S.left src.new) (expects (shown_if (listed s a) (examined (machine_of plain.now) s a n)) next) next }
+    ensures says { (next : Ruling) → Says result reader.old reader.new (S.left src.old) (S.left src.new) (expects (shown_if (listed s a) (examined (machine_of plain.now) s a n)) next) next }
     ensures stays { Stays result reader.new (S.left src.new) }
     ensures cause { HasCause (S.faults src.old) (S.faults src.new) result }
 {
@@ -241,7 +241,7 @@ fn list_each<S: Source>(
     requires address { a < 2 ^ 18 }
     requires few { length words.now ≤ 8 }
     requires at_line { AtLine reader.old (S.left src.old) }
-    ensures says { (next : Judge) → Says result reader.old reader.new (S.left src.old) (S.left src.new) (expects (listed s a words.now) next) next }
+    ensures says { (next : Ruling) → Says result reader.old reader.new (S.left src.old) (S.left src.new) (expects (listed s a words.now) next) next }
     ensures stays { Stays result reader.new (S.left src.new) }
     ensures cause { HasCause (S.faults src.old) (S.faults src.new) result }
 {
@@ -265,7 +265,7 @@ fn list_word<S: Source>(
     word: Word,
 ) -> Result<Option<Outcome>, Failed>
     requires at_line { AtLine reader.old (S.left src.old) }
-    ensures says { (next : Judge) → Says result reader.old reader.new (S.left src.old) (S.left src.new) (expects (listed s a (word ∷ [])) next) next }
+    ensures says { (next : Ruling) → Says result reader.old reader.new (S.left src.old) (S.left src.new) (expects (listed s a (word ∷ [])) next) next }
     ensures stays { Stays result reader.new (S.left src.new) }
     ensures cause { HasCause (S.faults src.old) (S.faults src.new) result }
 {
@@ -285,7 +285,7 @@ fn show_state<S: Source>(
     requires slot { s < slots }
     requires there { IsOk (state_shown (machine_of plain.now) s) }
     requires at_line { AtLine reader.old (S.left src.old) }
-    ensures says { (next : Judge) → Says result reader.old reader.new (S.left src.old) (S.left src.new) (expects (shown_if (λ show. State (machine_of plain.now).version s show ∷ []) (state_shown (machine_of plain.now) s)) next) next }
+    ensures says { (next : Ruling) → Says result reader.old reader.new (S.left src.old) (S.left src.new) (expects (shown_if (λ show. State (machine_of plain.now).version s show ∷ []) (state_shown (machine_of plain.now) s)) next) next }
     ensures stays { Stays result reader.new (S.left src.new) }
     ensures cause { HasCause (S.faults src.old) (S.faults src.new) result }
 {
@@ -305,7 +305,7 @@ fn show_job<S: Source>(
     show: &JobShow,
 ) -> Result<Option<Outcome>, Failed>
     requires at_line { AtLine reader.old (S.left src.old) }
-    ensures says { (next : Judge) → Says result reader.old reader.new (S.left src.old) (S.left src.new) (expects (State version s show.now ∷ []) next) next }
+    ensures says { (next : Ruling) → Says result reader.old reader.new (S.left src.old) (S.left src.new) (expects (State version s show.now ∷ []) next) next }
     ensures stays { Stays result reader.new (S.left src.new) }
     ensures cause { HasCause (S.faults src.old) (S.faults src.new) result }
 {
@@ -330,7 +330,7 @@ fn show_files<S: Source>(
     d: Word,
 ) -> Result<Option<Outcome>, Failed>
     requires at_line { AtLine reader.old (S.left src.old) }
-    ensures says { (next : Judge) → Says result reader.old reader.new (S.left src.old) (S.left src.new) (expects (listing d (files_in d (machine_of plain.now).files)) next) next }
+    ensures says { (next : Ruling) → Says result reader.old reader.new (S.left src.old) (S.left src.new) (expects (listing d (files_in d (machine_of plain.now).files)) next) next }
     ensures stays { Stays result reader.new (S.left src.new) }
     ensures cause { HasCause (S.faults src.old) (S.faults src.new) result }
 {
@@ -350,7 +350,7 @@ fn show_count<S: Source>(
     count: u32,
 ) -> Result<Option<Outcome>, Failed>
     requires at_line { AtLine reader.old (S.left src.old) }
-    ensures says { (next : Judge) → Says result reader.old reader.new (S.left src.old) (S.left src.new) (expects (Dir d count ∷ []) next) next }
+    ensures says { (next : Ruling) → Says result reader.old reader.new (S.left src.old) (S.left src.new) (expects (Dir d count ∷ []) next) next }
     ensures stays { Stays result reader.new (S.left src.new) }
     ensures cause { HasCause (S.faults src.old) (S.faults src.new) result }
 {
@@ -369,7 +369,7 @@ fn show_each<S: Source>(
 ) -> Result<Option<Outcome>, Failed>
     requires each { list_all (λ id. is_file (entry_at plain.now.files id)) ids.now ≡ true }
     requires at_line { AtLine reader.old (S.left src.old) }
-    ensures says { (next : Judge) → Says result reader.old reader.new (S.left src.old) (S.left src.new) (expects (map filed_line (map (file_of plain.now.files) ids.now)) next) next }
+    ensures says { (next : Ruling) → Says result reader.old reader.new (S.left src.old) (S.left src.new) (expects (map filed_line (map (file_of plain.now.files) ids.now)) next) next }
     ensures stays { Stays result reader.new (S.left src.new) }
     ensures cause { HasCause (S.faults src.old) (S.faults src.new) result }
 {
@@ -391,7 +391,7 @@ fn show_entry<S: Source>(
 ) -> Result<Option<Outcome>, Failed>
     requires file { is_file (entry_at plain.now.files id) ≡ true }
     requires at_line { AtLine reader.old (S.left src.old) }
-    ensures says { (next : Judge) → Says result reader.old reader.new (S.left src.old) (S.left src.new) (expects (filed_line (file_of plain.now.files id) ∷ []) next) next }
+    ensures says { (next : Ruling) → Says result reader.old reader.new (S.left src.old) (S.left src.new) (expects (filed_line (file_of plain.now.files id) ∷ []) next) next }
     ensures stays { Stays result reader.new (S.left src.new) }
     ensures cause { HasCause (S.faults src.old) (S.faults src.new) result }
 {
@@ -407,7 +407,7 @@ fn show_filed<S: Source>(
     show: FileShow,
 ) -> Result<Option<Outcome>, Failed>
     requires at_line { AtLine reader.old (S.left src.old) }
-    ensures says { (next : Judge) → Says result reader.old reader.new (S.left src.old) (S.left src.new) (expects (Filed show ∷ []) next) next }
+    ensures says { (next : Ruling) → Says result reader.old reader.new (S.left src.old) (S.left src.new) (expects (Filed show ∷ []) next) next }
     ensures stays { Stays result reader.new (S.left src.new) }
     ensures cause { HasCause (S.faults src.old) (S.faults src.new) result }
 {
@@ -426,7 +426,7 @@ fn show_file<S: Source>(
     y: Word,
 ) -> Result<Option<Outcome>, Failed>
     requires at_line { AtLine reader.old (S.left src.old) }
-    ensures says { (next : Judge) → Says result reader.old reader.new (S.left src.old) (S.left src.new) (expects (shown_if (λ out. out) (file_shown (machine_of plain.now) d x y)) next) next }
+    ensures says { (next : Ruling) → Says result reader.old reader.new (S.left src.old) (S.left src.new) (expects (shown_if (λ out. out) (file_shown (machine_of plain.now) d x y)) next) next }
     ensures stays { Stays result reader.new (S.left src.new) }
     ensures cause { HasCause (S.faults src.old) (S.faults src.new) result }
 {
@@ -446,7 +446,7 @@ fn show_text<S: Source>(
 ) -> Result<Option<Outcome>, Failed>
     requires file { is_file (entry_at plain.now.files id) ≡ true }
     requires at_line { AtLine reader.old (S.left src.old) }
-    ensures says { (next : Judge) → Says result reader.old reader.new (S.left src.old) (S.left src.new) (expects (text_lines names (words_at plain.now.files id)) next) next }
+    ensures says { (next : Ruling) → Says result reader.old reader.new (S.left src.old) (S.left src.new) (expects (text_lines names (words_at plain.now.files id)) next) next }
     ensures stays { Stays result reader.new (S.left src.new) }
     ensures cause { HasCause (S.faults src.old) (S.faults src.new) result }
 {
@@ -466,7 +466,7 @@ fn show_names<S: Source>(
     count: u32,
 ) -> Result<Option<Outcome>, Failed>
     requires at_line { AtLine reader.old (S.left src.old) }
-    ensures says { (next : Judge) → Says result reader.old reader.new (S.left src.old) (S.left src.new) (expects (names_line names count ∷ []) next) next }
+    ensures says { (next : Ruling) → Says result reader.old reader.new (S.left src.old) (S.left src.new) (expects (names_line names count ∷ []) next) next }
     ensures stays { Stays result reader.new (S.left src.new) }
     ensures cause { HasCause (S.faults src.old) (S.faults src.new) result }
 {
@@ -486,7 +486,7 @@ fn show_rows<S: Source>(
     count: u32,
 ) -> Result<Option<Outcome>, Failed>
     requires at_line { AtLine reader.old (S.left src.old) }
-    ensures says { (next : Judge) → Says result reader.old reader.new (S.left src.old) (S.left src.new) (expects (rows ((count + 7) / 8) (words_at plain.now.files id)) next) next }
+    ensures says { (next : Ruling) → Says result reader.old reader.new (S.left src.old) (S.left src.new) (expects (rows ((count + 7) / 8) (words_at plain.now.files id)) next) next }
     ensures stays { Stays result reader.new (S.left src.new) }
     ensures cause { HasCause (S.faults src.old) (S.faults src.new) result }
 {
@@ -518,7 +518,7 @@ fn show_row<S: Source>(
 ) -> Result<Option<Outcome>, Failed>
     requires few { 8 * k + 8 ≤ 2 ^ 32 }
     requires at_line { AtLine reader.old (S.left src.old) }
-    ensures says { (next : Judge) → Says result reader.old reader.new (S.left src.old) (S.left src.new) (expects (Row (take 8 (drop (8 * k) (words_at plain.now.files id))) ∷ []) next) next }
+    ensures says { (next : Ruling) → Says result reader.old reader.new (S.left src.old) (S.left src.new) (expects (Row (take 8 (drop (8 * k) (words_at plain.now.files id))) ∷ []) next) next }
     ensures stays { Stays result reader.new (S.left src.new) }
     ensures cause { HasCause (S.faults src.old) (S.faults src.new) result }
 {
@@ -535,7 +535,7 @@ fn show_some<S: Source>(
 ) -> Result<Option<Outcome>, Failed>
     requires few { length words.now ≤ 8 }
     requires at_line { AtLine reader.old (S.left src.old) }
-    ensures says { (next : Judge) → Says result reader.old reader.new (S.left src.old) (S.left src.new) (expects (Row words.now ∷ []) next) next }
+    ensures says { (next : Ruling) → Says result reader.old reader.new (S.left src.old) (S.left src.new) (expects (Row words.now ∷ []) next) next }
     ensures stays { Stays result reader.new (S.left src.new) }
     ensures cause { HasCause (S.faults src.old) (S.faults src.new) result }
 {

@@ -22,7 +22,7 @@ pub struct TranscriptReader {
 impl TranscriptReader {
     ghost use Rattle.its_verify.specs.Finds.{ReadsOut};
     ghost use Rattle.its_verify.specs.TranscriptReader.{Beside, Concludes, AtLine, Reads, ReadsOn, PassedIf, Says, Stays, same_as};
-    ghost use Rattle.its_verify.specs.Judge.{Judge, at_end, led, peeking, expects};
+    ghost use Rattle.its_verify.specs.Rulings.{Ruling, at_end, led, peeking, expects};
 
     /// Reads the next line, if one is wanted. It is not judged yet.
     #[tactic(auto, using(crate::proofs::TranscriptReaderLaws::number_few, crate::proofs::TranscriptReaderLaws::read_line, crate::proofs::TranscriptReaderLaws::read_long, crate::proofs::TranscriptReaderLaws::read_end, crate::proofs::TranscriptReaderLaws::read_beyond, crate::proofs::TranscriptReaderLaws::read_fails))]
@@ -36,7 +36,7 @@ impl TranscriptReader {
             Next::Line => Ok(None),
             Next::Long => Ok(Some(Outcome::No(self.passed + 1))),
             Next::End => Ok(Some(Outcome::No(self.passed + 1))),
-            Next::Beyond => Ok(Some(Outcome::Beyond)),
+            Next::Beyond => Ok(Some(Outcome::TooLong)),
         }
     }
 
@@ -58,7 +58,7 @@ impl TranscriptReader {
     pub fn expect<S: Source>(&mut self, src: &mut S, line: &[u8]) -> Result<Option<Outcome>, Failed>
         requires short { length line.now ≤ 1543 }
         requires at_line { AtLine self.old (S.left src.old) }
-        ensures says { (next : Judge) → Says result self.old self.new (S.left src.old) (S.left src.new) (led (same_as line.now) (λ t. next)) next }
+        ensures says { (next : Ruling) → Says result self.old self.new (S.left src.old) (S.left src.new) (led (same_as line.now) (λ t. next)) next }
         ensures stays { Stays result self.new (S.left src.new) }
         ensures cause { HasCause (S.faults src.old) (S.faults src.new) result }
     {
@@ -73,7 +73,7 @@ impl TranscriptReader {
     #[tactic(auto, using(crate::proofs::TranscriptReaderLaws::peek_lacks, crate::proofs::TranscriptReaderLaws::peek_fails, crate::proofs::TranscriptReaderLaws::peek_passed, crate::proofs::TranscriptReaderLaws::passed_stays))]
     pub fn peek<S: Source>(&mut self, src: &mut S) -> Result<Option<Outcome>, Failed>
         requires at_line { AtLine self.old (S.left src.old) }
-        ensures says { (next : Judge) → Says result self.old self.new (S.left src.old) (S.left src.new) (led peeking (λ t. next)) next }
+        ensures says { (next : Ruling) → Says result self.old self.new (S.left src.old) (S.left src.new) (led peeking (λ t. next)) next }
         ensures stays { Stays result self.new (S.left src.new) }
         ensures cause { HasCause (S.faults src.old) (S.faults src.new) result }
     {
@@ -97,7 +97,7 @@ impl TranscriptReader {
             Next::End => Ok(Outcome::Yes(self.passed)),
             Next::Line => Ok(Outcome::No(self.passed + 1)),
             Next::Long => Ok(Outcome::No(self.passed + 1)),
-            Next::Beyond => Ok(Outcome::Beyond),
+            Next::Beyond => Ok(Outcome::TooLong),
         }
     }
 

@@ -32,9 +32,9 @@ pub struct Verifier {
 impl Verifier {
     ghost use Rattle.its_verify.specs.Finds.{ReadsOutIf};
     ghost use Rattle.its_verify.specs.TranscriptReader.{Says};
-    ghost use Rattle.its_verify.specs.Judge.{Judge as AnyJudge, at_end, led, turned, expects};
+    ghost use Rattle.its_verify.specs.Rulings.{Ruling, at_end, led, turned, expects};
     ghost use Rattle.its_verify.specs.Going.{LineSays, SaysEnd};
-    ghost use Rattle.its_verify.specs.Showing.{IsThere, shown_judge};
+    ghost use Rattle.its_verify.specs.Showing.{IsThere, shown_ruling};
     ghost use Rattle.its_verify.specs.Letters.{ticked};
     ghost use Rattle.its_verify.specs.JudgeState.{walk_of};
     ghost use Rattle.its_verify.specs.Verifier.{StaysAtItem, TicksSay, AtItem, TurnsSay};
@@ -183,7 +183,7 @@ impl Verifier {
         requires fits { EventFits 2 event.now }
         requires there { IsThere event.now (machine_of self.old.judge.plain) }
         requires at_item { AtItem self.old (S.left src.old) }
-        ensures says { (next : AnyJudge) → Says result self.old.reader self.new.reader (S.left src.old) (S.left src.new) (shown_judge event.now answer.now (machine_of self.old.judge.plain) next) next }
+        ensures says { (next : Ruling) → Says result self.old.reader self.new.reader (S.left src.old) (S.left src.new) (shown_ruling event.now answer.now (machine_of self.old.judge.plain) next) next }
         ensures stays { StaysAtItem result self.new (S.left src.new) }
         ensures judge { self.new.judge ≡ self.old.judge }
         ensures last { self.new.last ≡ self.old.last }

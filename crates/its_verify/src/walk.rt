@@ -48,7 +48,7 @@ pub fn verify<S: Source>(alloc: Global, src: &mut S) -> Result<Outcome, Broken>
         Part::Session => judge_transcript(alloc, src, texts, session),
         Part::Long(n) => Ok(Outcome::Long(n)),
         Part::Cut(n) => Ok(Outcome::Cut(n)),
-        Part::Beyond => Ok(Outcome::Beyond),
+        Part::Beyond => Ok(Outcome::TooLong),
     }
 }
 
@@ -92,7 +92,7 @@ impl Verifier {
     ghost use Rattle.its_verify.specs.Finds.{ReadsOutIf};
     ghost use Rattle.its_verify.specs.Going.{FoundStands, ItemSays, is_end, judge_from};
     ghost use Rattle.its_verify.specs.TranscriptReader.{Concludes, Says};
-    ghost use Rattle.its_verify.specs.Judge.{Judge as AnyJudge, turned};
+    ghost use Rattle.its_verify.specs.Rulings.{Ruling, turned};
     ghost use Rattle.its_verify.specs.JudgeState.{walk_of};
     ghost use Rattle.its_verify.specs.Verifier.{RunsOutside, StaysAtItem, AtItem, TurnsSay};
 

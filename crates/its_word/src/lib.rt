@@ -52,7 +52,7 @@ pub use location::Location;
 pub use memory::NoMemory;
 pub use opcode::decode;
 pub use pending::{ALR, BRK, FATAL, ILO, INF, IOC, MPV, PDL, TBL, WRO};
-pub use plan::{Context, Plan, Reached, Store, Turn};
+pub use plan::{ChainStep, Context, Plan, Reached, Store};
 pub use ready::ReadyWords;
 pub use result2::Result2;
 pub use runs::words;

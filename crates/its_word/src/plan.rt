@@ -28,7 +28,7 @@ pub struct Reached {
 /// To what an instruction word leads: to its own instruction, or, if it is an XCT, to another word, with so much of
 /// the budget used.
 #[derive(Clone, Copy, Debug, PartialEq, Eq)]
-pub enum Turn {
+pub enum ChainStep {
     Found(Reached),
     Target { word: Word, used: u32 },
 }

@@ -19,7 +19,7 @@ use Rattle.its_plain.specs.Machine.{Pipe, Whole, changed}
 use Rattle.its_plain.specs.Change.{on_console, on_link}
 use Rattle.its_plain.proofs.MachineLaws.{machine_is}
 use Rattle.its_stepped.specs.Lines.{with_raw}
-use Rattle.its_stepped.specs.State.{State, turn, same, reserving}
+use Rattle.its_stepped.specs.State.{State, with_slot, same, reserving}
 use Rattle.its_world.specs.World.{mark_of, alarm_at, raw_of, raw_at, frame_at, console_at, holder_at, state_of, in_raw, with_frames, Becomes, FrameBecomes, ConsoleBecomes, HolderBecomes, LinkBecomes, symbols_at}
 use Rattle.its_pipes.specs.Pipes.{piped}
 use Rattle.its_world.specs.declared.world.World.{World}
@@ -63,7 +63,7 @@ raw_here old new s c i j f r h b job e =
 -- the job of a slot is changed by h, its frame is f, and of its reserved page r quarters are clear
 pub written_state : (old new : World) (s : ℕ) (c : Core) (i j : Job) (f : Option Frame) (r : Option ℕ) (h : Whole → Whole) → Becomes old new s c (Some i) f r
     → job_at old.jobs s ≡ Some j → h (raw_job old.files (core_at old.core s) j (superior_at old.jobs s) (alarm_at old.alarms.items s)) ≡ raw_job old.files c i (superior_at old.jobs s) (alarm_at old.alarms.items s)
-    → state_of new ≡ reserving (turn (state_of old) s h f) s r
+    → state_of new ≡ reserving (with_slot (state_of old) s h f) s r
 unfolding state_of
 written_state old new s c i j f r h b job e = state_is _ _
     (machine_is _ _ (slot_at _ _ s h (raw_here old new s c i j f r h b job e) (raw_others old new s c (Some i) f r b)) (λ k. ap (λ l. console_at l.items k) b.consoles) (λ k. ap (λ l. holder_at l k) b.holders) (ap directory b.files) b.clock b.version (λ k. ap (λ l. symbols_at l.items k) b.symbols) (λ k. ap (λ p. piped p k) b.pipes))
@@ -73,7 +73,7 @@ written_state old new s c i j f r h b job e = state_is _ _
 
 pub turned_state : (old new : World) (s : ℕ) (c : Core) (i j : Job) (f : Option Frame) (h : Whole → Whole) → Becomes old new s c (Some i) f (clear_at old.core s)
     → job_at old.jobs s ≡ Some j → h (raw_job old.files (core_at old.core s) j (superior_at old.jobs s) (alarm_at old.alarms.items s)) ≡ raw_job old.files c i (superior_at old.jobs s) (alarm_at old.alarms.items s)
-    → state_of new ≡ turn (state_of old) s h f
+    → state_of new ≡ with_slot (state_of old) s h f
 unfolding state_of
 turned_state old new s c i j f h b job e = state_is _ _
     (machine_is _ _ (slot_at _ _ s h (raw_here old new s c i j f _ h b job e) (raw_others old new s c (Some i) f _ b)) (λ k. ap (λ l. console_at l.items k) b.consoles) (λ k. ap (λ l. holder_at l k) b.holders) (ap directory b.files) b.clock b.version (λ k. ap (λ l. symbols_at l.items k) b.symbols) (λ k. ap (λ p. piped p k) b.pipes))
@@ -99,29 +99,29 @@ job_of (Some j) h = (j, refl)
 job_of None h = cc
 
 pub kept_state : (old new : World) (s : ℕ) (f : Option Frame) (r : Option ℕ) → is_some (job_at old.jobs s) ≡ true
-    → Becomes old new s (core_at old.core s) (job_at old.jobs s) f r → state_of new ≡ reserving (turn (state_of old) s same f) s r
+    → Becomes old new s (core_at old.core s) (job_at old.jobs s) f r → state_of new ≡ reserving (with_slot (state_of old) s same f) s r
 kept_state old new s f r h b =
     let j = job_of (job_at old.jobs s) h in
     written_state old new s (core_at old.core s) j.0 j.0 f r same (subst (λ o. Becomes old new s (core_at old.core s) o f r) j.1 b) j.1 refl
 
-pub kept_turn : (old new : World) (s : ℕ) (f : Option Frame) → is_some (job_at old.jobs s) ≡ true → FrameBecomes old new s f
-    → state_of new ≡ turn (state_of old) s same f
-kept_turn old new s f h b =
+pub kept_slot : (old new : World) (s : ℕ) (f : Option Frame) → is_some (job_at old.jobs s) ≡ true → FrameBecomes old new s f
+    → state_of new ≡ with_slot (state_of old) s same f
+kept_slot old new s f h b =
     let j = job_of (job_at old.jobs s) h in
     turned_state old new s (core_at old.core s) j.0 j.0 f same (subst (λ o. Becomes old new s (core_at old.core s) o f (clear_at old.core s)) j.1 b) j.1 refl
 
-pub stored_turn : (old new : World) (s : ℕ) (ss : List Store) (f : Option Frame) → is_some (job_at old.jobs s) ≡ true
-    → Becomes old new s (stored (core_at old.core s) ss) (job_at old.jobs s) f (clear_at old.core s) → state_of new ≡ turn (state_of old) s (with_stores ss) f
-stored_turn old new s ss f h b =
+pub stored_slot : (old new : World) (s : ℕ) (ss : List Store) (f : Option Frame) → is_some (job_at old.jobs s) ≡ true
+    → Becomes old new s (stored (core_at old.core s) ss) (job_at old.jobs s) f (clear_at old.core s) → state_of new ≡ with_slot (state_of old) s (with_stores ss) f
+stored_slot old new s ss f h b =
     let j = job_of (job_at old.jobs s) h in
     turned_state old new s (stored (core_at old.core s) ss) j.0 j.0 f (with_stores ss) (subst (λ o. Becomes old new s (stored (core_at old.core s) ss) o f (clear_at old.core s)) j.1 b) j.1 refl
 
-pub left_turn : (old new : World) (s : ℕ) (j : Job) (e : Exit) (f : Option Frame) → job_at old.jobs s ≡ Some j
-    → Becomes old new s (core_at old.core s) (Some (left_with e j)) f (clear_at old.core s) → state_of new ≡ turn (state_of old) s (leave e) f
-left_turn old new s j e f h b = turned_state old new s (core_at old.core s) (left_with e j) j f (leave e) b h refl
+pub left_slot : (old new : World) (s : ℕ) (j : Job) (e : Exit) (f : Option Frame) → job_at old.jobs s ≡ Some j
+    → Becomes old new s (core_at old.core s) (Some (left_with e j)) f (clear_at old.core s) → state_of new ≡ with_slot (state_of old) s (leave e) f
+left_slot old new s j e f h b = turned_state old new s (core_at old.core s) (left_with e j) j f (leave e) b h refl
 
 -- a frame that was taken out and another put in its place
-pub retaken : (w : State) (s : ℕ) (f g : Option Frame) (h : Whole → Whole) → turn (turn w s same f) s h g ≡ turn w s h g
+pub retaken : (w : State) (s : ℕ) (f g : Option Frame) (h : Whole → Whole) → with_slot (with_slot w s same f) s h g ≡ with_slot w s h g
 retaken w s f g h = state_is _ _ (machine_is _ _ (λ k. twice (k == s) (w.raw.jobs k)) (λ k. refl) (λ k. refl) refl refl refl (λ k. refl) (λ k. refl)) (λ k. over (k == s) (w.frames k)) (λ k. refl) refl
   where
     twice : (b : Bool) (o : Option Whole) → (if b then option_map h (if b then option_map same o else o) else (if b then option_map same o else o)) ≡ (if b then option_map h o else o)
@@ -139,7 +139,7 @@ pub changed_state : (old new : World) (s : ℕ) (c : Core) (i j : Job) (h : Whol
 unfolding state_of
 changed_state old new s c i j h b job e =
     turned_state old new s c i j (frame_at old.frames.items s) h b job e
-    ∙ state_is (turn (state_of old) s h (frame_at old.frames.items s)) (in_raw (state_of old) s h) refl
+    ∙ state_is (with_slot (state_of old) s h (frame_at old.frames.items s)) (in_raw (state_of old) s h) refl
     (λ k. elim (cases_Bool (k == s)) [
       | inl t ↦ let n : k ≡ s = grind (arith, nat_tests) in rw t (ap (frame_at old.frames.items) (sym n))
       | inr t ↦ rw t refl

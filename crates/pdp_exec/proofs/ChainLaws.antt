@@ -12,12 +12,12 @@ use Rattle.its_word.specs.declared.instruction.Instruction.TheVariants.{Move, Ex
 use Rattle.its_word.specs.declared.jobs.Job.{Job}
 use Rattle.its_word.specs.declared.plan.Context.{Context}
 use Rattle.its_word.specs.declared.plan.Reached.{Reached}
-use Rattle.its_word.specs.declared.plan.Turn.{Turn}
-use Rattle.its_word.specs.declared.plan.Turn.TheVariants.{Found, Target}
+use Rattle.its_word.specs.declared.plan.ChainStep.{ChainStep}
+use Rattle.its_word.specs.declared.plan.ChainStep.TheVariants.{Found, Target}
 use Rattle.its_word.specs.Stores.{first_fault}
 use Rattle.its_plain.specs.UnitPlan.{Planned, read_of}
 use Rattle.its_plain.specs.Traced.{Traced, also, gives, goes_on, located, word}
-use Rattle.its_plain.specs.Unit.{Outcome, Called, Faulted, chain, context_of, decoded, done_by, followed, has_row, made, outcome_at, outcome_of, reached, row_of, site_of, turn, turn_at, unit}
+use Rattle.its_plain.specs.Unit.{Outcome, Called, Faulted, chain, context_of, decoded, done_by, followed, has_row, made, outcome_at, outcome_of, reached, row_of, site_of, chain_step, chain_step_at, unit}
 use Rattle.pdp_exec.specs.Answer.{IsCalled}
 use Rattle.pdp_exec.specs.Ready.{Stands, is_call, leads_on}
 use Rattle.its_plain.proofs.TracedLaws.{stops_answer}
@@ -35,16 +35,16 @@ stops_reads : {X Y : Type 0} (m : Traced X) (k : X → Traced Y) (f : Fault) →
 unfolding also
 stops_reads m k f e = ap (λ a. (goes_on m.reads m.tests a k).reads) e
 
--- one turn
-next_turn : Core → Job → ℕ → Turn → Traced Reached
-next_turn c j n t = followed (λ v k. chain n c j v k) t
+-- one step
+next_step : Core → Job → ℕ → ChainStep → Traced Reached
+next_step c j n t = followed (λ v k. chain n c j v k) t
 
-chain_suc : (n m : ℕ) (c : Core) (j : Job) (w used : ℕ) → n ≡ suc m → chain n c j w used ≡ also (turn c j w used) (next_turn c j m)
-unfolding chain next_turn
+chain_suc : (n m : ℕ) (c : Core) (j : Job) (w used : ℕ) → n ≡ suc m → chain n c j w used ≡ also (chain_step c j w used) (next_step c j m)
+unfolding chain next_step
 chain_suc n m c j w used h = rw h refl
 
-chain_turn : (i : ℕ) (c : Core) (j : Job) (w used : ℕ) → i < 65 → chain (65 - i) c j w used ≡ also (turn c j w used) (next_turn c j (65 - (i + 1)))
-chain_turn i c j w used h = chain_suc (65 - i) (65 - (i + 1)) c j w used (omega arith)
+chain_on : (i : ℕ) (c : Core) (j : Job) (w used : ℕ) → i < 65 → chain (65 - i) c j w used ≡ also (chain_step c j w used) (next_step c j (65 - (i + 1)))
+chain_on i c j w used h = chain_suc (65 - i) (65 - (i + 1)) c j w used (omega arith)
 
 chain_zero : (n : ℕ) (c : Core) (j : Job) (w used : ℕ) → n ≡ zero → chain n c j w used ≡ record { answer = Err Ilo; reads = []; tests = [] }
 unfolding chain
@@ -78,45 +78,45 @@ along_none c j f old seen n e r = record {
 }
 
 pub along_more : (c : Core) (j : Job) (i w used : ℕ) (seen new : List ℕ) (v k : ℕ) → Along c j (65 - i) w used seen → i < 65
-    → Ok (Target v k) ≡ (turn c j w used).answer → new ≡ seen ++ (turn c j w used).reads → Along c j (65 - (i + 1)) v k new
-unfolding next_turn
+    → Ok (Target v k) ≡ (chain_step c j w used).answer → new ≡ seen ++ (chain_step c j w used).reads → Along c j (65 - (i + 1)) v k new
+unfolding next_step
 along_more c j i w used seen new v k a h e n =
-    let t = chain_turn i c j w used h in
-    let x = then_answer (turn c j w used) (next_turn c j (65 - (i + 1))) (Target v k) (sym e) in
-    let y = then_reads (turn c j w used) (next_turn c j (65 - (i + 1))) (Target v k) (sym e) in
+    let t = chain_on i c j w used h in
+    let x = then_answer (chain_step c j w used) (next_step c j (65 - (i + 1))) (Target v k) (sym e) in
+    let y = then_reads (chain_step c j w used) (next_step c j (65 - (i + 1))) (Target v k) (sym e) in
     record {
       answer = sym (ap (λ m. m.answer) t ∙ x) ∙ a.answer;
-      places = ap (λ xs. xs ++ (chain (65 - (i + 1)) c j v k).reads) n ∙ append_assoc seen (turn c j w used).reads (chain (65 - (i + 1)) c j v k).reads ∙ ap (λ r. seen ++ r) (sym (ap (λ m. m.reads) t ∙ y)) ∙ a.places;
+      places = ap (λ xs. xs ++ (chain (65 - (i + 1)) c j v k).reads) n ∙ append_assoc seen (chain_step c j w used).reads (chain (65 - (i + 1)) c j v k).reads ∙ ap (λ r. seen ++ r) (sym (ap (λ m. m.reads) t ∙ y)) ∙ a.places;
     }
 
 pub along_found : (c : Core) (j : Job) (i w used : ℕ) (seen new : List ℕ) (r : Reached) → Along c j (65 - i) w used seen → i < 65
-    → Ok (Found r) ≡ (turn c j w used).answer → new ≡ seen ++ (turn c j w used).reads → Ended c j (Ok r) new
-unfolding next_turn
+    → Ok (Found r) ≡ (chain_step c j w used).answer → new ≡ seen ++ (chain_step c j w used).reads → Ended c j (Ok r) new
+unfolding next_step
 along_found c j i w used seen new r a h e n =
-    let t = chain_turn i c j w used h in
-    let x = then_answer (turn c j w used) (next_turn c j (65 - (i + 1))) (Found r) (sym e) in
-    let y = then_reads (turn c j w used) (next_turn c j (65 - (i + 1))) (Found r) (sym e) in
+    let t = chain_on i c j w used h in
+    let x = then_answer (chain_step c j w used) (next_step c j (65 - (i + 1))) (Found r) (sym e) in
+    let y = then_reads (chain_step c j w used) (next_step c j (65 - (i + 1))) (Found r) (sym e) in
     record {
       answer_is = sym (ap (λ m. m.answer) t ∙ x) ∙ a.answer;
-      places_is = n ∙ ap (λ r. seen ++ r) (sym (ap (λ m. m.reads) t ∙ y ∙ append-nil (turn c j w used).reads)) ∙ a.places;
+      places_is = n ∙ ap (λ r. seen ++ r) (sym (ap (λ m. m.reads) t ∙ y ∙ append-nil (chain_step c j w used).reads)) ∙ a.places;
     }
 
 pub along_stops : (c : Core) (j : Job) (i w used : ℕ) (seen new : List ℕ) (f : Fault) → Along c j (65 - i) w used seen → i < 65
-    → Err f ≡ (turn c j w used).answer → new ≡ seen ++ (turn c j w used).reads → Ended c j (Err f) new
+    → Err f ≡ (chain_step c j w used).answer → new ≡ seen ++ (chain_step c j w used).reads → Ended c j (Err f) new
 along_stops c j i w used seen new f a h e n =
-    let t = chain_turn i c j w used h in
+    let t = chain_on i c j w used h in
     record {
-      answer_is = sym (ap (λ m. m.answer) t ∙ stops_answer (turn c j w used) (next_turn c j (65 - (i + 1))) f (sym e)) ∙ a.answer;
-      places_is = n ∙ ap (λ r. seen ++ r) (sym (ap (λ m. m.reads) t ∙ stops_reads (turn c j w used) (next_turn c j (65 - (i + 1))) f (sym e))) ∙ a.places;
+      answer_is = sym (ap (λ m. m.answer) t ∙ stops_answer (chain_step c j w used) (next_step c j (65 - (i + 1))) f (sym e)) ∙ a.answer;
+      places_is = n ∙ ap (λ r. seen ++ r) (sym (ap (λ m. m.reads) t ∙ stops_reads (chain_step c j w used) (next_step c j (65 - (i + 1))) f (sym e))) ∙ a.places;
     }
 
 -- the faults of the two, for `using`
 pub no_word : (c : Core) (j : Job) (f : Fault) → (word c j.pc).answer ≡ Err f → (reached c j).answer ≡ Err f
 no_word c j f e = sym (along_none c j f [] (word c j.pc).reads refl (sym e) refl).answer_is
 
-pub turn_faults : (c : Core) (j : Job) (i w used : ℕ) (seen : List ℕ) (f : Fault) → Along c j (65 - i) w used seen → i < 65
-    → (turn c j w used).answer ≡ Err f → (reached c j).answer ≡ Err f
-turn_faults c j i w used seen f a h e = sym (along_stops c j i w used seen _ f a h (sym e) refl).answer_is
+pub step_faults : (c : Core) (j : Job) (i w used : ℕ) (seen : List ℕ) (f : Fault) → Along c j (65 - i) w used seen → i < 65
+    → (chain_step c j w used).answer ≡ Err f → (reached c j).answer ≡ Err f
+step_faults c j i w used seen f a h e = sym (along_stops c j i w used seen _ f a h (sym e) refl).answer_is
 
 pub along_over : (c : Core) (j : Job) (i w used : ℕ) (seen : List ℕ) → Along c j (65 - i) w used seen → 65 ≤ i → Ended c j (Err Ilo) seen
 along_over c j i w used seen a h =
@@ -127,22 +127,22 @@ along_over c j i w used seen a h =
     }
 
 -- an instruction that is no XCT is found in its own place
-pub turn_plain : (c : Core) (i : Instruction) (x : Context) → leads_on i ≡ false → turn_at c i x ≡ gives (Found (record { instruction = i; context = x }))
-unfolding turn_at
-turn_plain c Xct x h = cc
-turn_plain c _ x h = refl
+pub step_plain : (c : Core) (i : Instruction) (x : Context) → leads_on i ≡ false → chain_step_at c i x ≡ gives (Found (record { instruction = i; context = x }))
+unfolding chain_step_at
+step_plain c Xct x h = cc
+step_plain c _ x h = refl
 
-pub plain_turn : (c : Core) (j : Job) (w : ℕ) (i : Instruction) (e : Address) → decoded w ≡ Ok i → leads_on i ≡ false → (address c w 0).answer ≡ Ok e
-    → (turn c j w 0).answer ≡ Ok (Found (record { instruction = i; context = context_of j w e (address c w 0).used }))
-unfolding turn also located
-plain_turn c j w i e d p a = rw (d, a) (ap (λ m. m.answer) (turn_plain c i (context_of j w e (address c w 0).used) p))
+pub plain_step : (c : Core) (j : Job) (w : ℕ) (i : Instruction) (e : Address) → decoded w ≡ Ok i → leads_on i ≡ false → (address c w 0).answer ≡ Ok e
+    → (chain_step c j w 0).answer ≡ Ok (Found (record { instruction = i; context = context_of j w e (address c w 0).used }))
+unfolding chain_step also located
+plain_step c j w i e d p a = rw (d, a) (ap (λ m. m.answer) (step_plain c i (context_of j w e (address c w 0).used) p))
 
 plain_reached : (c : Core) (j : Job) (w : ℕ) (i : Instruction) (e : Address) → read_of c j.pc ≡ Ok w → decoded w ≡ Ok i → leads_on i ≡ false
     → (address c w 0).answer ≡ Ok e → (reached c j).answer ≡ Ok (record { instruction = i; context = context_of j w e (address c w 0).used })
 unfolding word
 plain_reached c j w i e r d p a =
     let s = along_start c j w [] (word c j.pc).reads refl (sym r) refl in
-    sym (along_found c j 0 w 0 (word c j.pc).reads _ _ s (omega arith) (sym (plain_turn c j w i e d p a)) refl).answer_is
+    sym (along_found c j 0 w 0 (word c j.pc).reads _ _ s (omega arith) (sym (plain_step c j w i e d p a)) refl).answer_is
 
 -- an instruction that is no call does what its row plans
 planned_by : (c : Core) (j : Job) (reads : List ℕ) (x : Context) (i : Instruction) → is_call i ≡ false → done_by c j reads x i ≡ outcome_of c j (row_of c x i)

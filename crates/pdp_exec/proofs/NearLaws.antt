@@ -10,9 +10,9 @@ use Rattle.its_word.specs.declared.jobs.Job.{Job}
 use Rattle.its_word.proofs.AddressLaws.{direct_answer, direct_used}
 use Rattle.its_plain.specs.Traced.{also, gives, located, word}
 use Rattle.its_plain.specs.UnitPlan.{read_of}
-use Rattle.its_plain.specs.Unit.{Called, context_of, decoded, reached, site_of, turn, turn_at, unit}
+use Rattle.its_plain.specs.Unit.{Called, context_of, decoded, reached, site_of, chain_step, chain_step_at, unit}
 use Rattle.pdp_exec.specs.Ready.{leads_on}
-use Rattle.pdp_exec.proofs.ChainLaws.{Ended, along_found, along_start, plain_turn, turn_plain, unit_call, unit_iot}
+use Rattle.pdp_exec.proofs.ChainLaws.{Ended, along_found, along_start, plain_step, step_plain, unit_call, unit_iot}
 
 -- of an address word without X and I no place is read, and its right half is the address
 no_places : (n : ℕ) (c : Core) (w : ℕ) → is_indirect w ≡ false → index_of w ≡ 0 → (calculation n c w None).reads ≡ []
@@ -25,18 +25,18 @@ unfolding indexed last_used
 right_answer c w i x = direct_answer c w 0 i ∙ (rw (x) refl)
 
 -- the walk to the instruction
-no_turn_places : (c : Core) (j : Job) (w : ℕ) (i : Instruction) → decoded w ≡ Ok i → leads_on i ≡ false → is_indirect w ≡ false → index_of w ≡ 0 → (turn c j w 0).reads ≡ []
-unfolding turn also located
-no_turn_places c j w i d p n x =
+no_step_places : (c : Core) (j : Job) (w : ℕ) (i : Instruction) → decoded w ≡ Ok i → leads_on i ≡ false → is_indirect w ≡ false → index_of w ≡ 0 → (chain_step c j w 0).reads ≡ []
+unfolding chain_step also located
+no_step_places c j w i d p n x =
     let at = context_of j w (record { e = right_of w; flags_word = None }) (address c w 0).used in
-    rw (d, right_answer c w n x) (ap (λ xs. xs ++ (turn_at c i at).reads) (no_places 64 c w n x) ∙ ap (λ m. m.reads) (turn_plain c i at p))
+    rw (d, right_answer c w n x) (ap (λ xs. xs ++ (chain_step_at c i at).reads) (no_places 64 c w n x) ∙ ap (λ m. m.reads) (step_plain c i at p))
 
 near_ended : (c : Core) (j : Job) (w : ℕ) (i : Instruction) → read_of c j.pc ≡ Ok w → decoded w ≡ Ok i → leads_on i ≡ false → is_indirect w ≡ false → index_of w ≡ 0
     → Ended c j (Ok (record { instruction = i; context = context_of j w (record { e = right_of w; flags_word = None }) (address c w 0).used })) (j.pc ∷ [])
 unfolding word
 near_ended c j w i r d p n x =
     let s = along_start c j w [] (j.pc ∷ []) refl (sym r) refl in
-    along_found c j 0 w 0 (j.pc ∷ []) (j.pc ∷ []) _ s (omega arith) (sym (plain_turn c j w i _ d p (right_answer c w n x))) (ap (λ xs. j.pc ∷ xs) (sym (no_turn_places c j w i d p n x)))
+    along_found c j 0 w 0 (j.pc ∷ []) (j.pc ∷ []) _ s (omega arith) (sym (plain_step c j w i _ d p (right_answer c w n x))) (ap (λ xs. j.pc ∷ xs) (sym (no_step_places c j w i d p n x)))
 
 pub near_iot : (c : Core) (j : Job) (w x e a : ℕ) → read_of c j.pc ≡ Ok w → is_indirect w ≡ false → x ≡ index_of w → x ≡ 0 → decoded w ≡ Ok Iot → e ≡ right_of w → a ≡ ac_of w
     → unit c j ≡ Called (record { pc = j.pc; e = e; channel = Some a; used = 0; decode = record { items = j.pc ∷ [] } })

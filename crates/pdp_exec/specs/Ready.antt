@@ -8,19 +8,19 @@ use Rattle.its_word.specs.declared.instruction.Instruction.{Instruction}
 use Rattle.its_word.specs.declared.instruction.Instruction.TheVariants.{Xct, Iot, Call}
 use Rattle.its_word.specs.declared.jobs.Job.{Job}
 use Rattle.its_word.specs.declared.plan.Context.{Context}
-use Rattle.its_word.specs.declared.plan.Turn.{Turn}
-use Rattle.its_word.specs.declared.plan.Turn.TheVariants.{Found, Target}
+use Rattle.its_word.specs.declared.plan.ChainStep.{ChainStep}
+use Rattle.its_word.specs.declared.plan.ChainStep.TheVariants.{Found, Target}
 use Rattle.its_plain.specs.Unit.{has_row, outcome_of, row_of, unit}
 use Rattle.its_plain.specs.UnitPlan.{Fits}
 use Rattle.pdp_exec.specs.Answer.{IsCalled}
 
 -- an instruction with the numbers of its row and of its context, or a word with some of the budget used
-abbrev pub IsReady : Turn → Type 0
+abbrev pub IsReady : ChainStep → Type 0
 IsReady (Found r) = IsRow r.instruction × Fits r.context
 IsReady (Target w used) = used ≤ budget
 
 -- so many places were read at most, by what is used of the budget
-abbrev pub HasFew : ℕ → Turn → Type 0
+abbrev pub HasFew : ℕ → ChainStep → Type 0
 HasFew n (Found r) = n ≤ 2 * r.context.used + 2
 HasFew n (Target w used) = n ≤ 2 * used + 1
 

@@ -6,14 +6,14 @@ ghost use Rattle.its_word.specs.Limits.{budget, slots};
 ghost use Rattle.its_word.specs.Opcode.{IsRow, ac_of, opcode_of};
 ghost use Rattle.its_plain.specs.UnitPlan.{Fits};
 ghost use Rattle.its_plain.specs.Traced.{word as word_of};
-ghost use Rattle.its_plain.specs.Unit.{chain, decoded, has_row, reached, target_of, turn as turn_of, turn_at};
+ghost use Rattle.its_plain.specs.Unit.{chain, decoded, has_row, reached, target_of, chain_step as step_of, chain_step_at};
 ghost use Rattle.pdp_exec.specs.Ready.{HasFew, IsReady, Stands};
 
 use super::reads::read;
 use arrayvec::ArrayVec;
 use its_core::Core;
 use its_word::{
-    Address, BUDGET, BranchOp, Context, Fault, Instruction, Job, Reached, Turn, Word, decode,
+    Address, BUDGET, BranchOp, ChainStep, Context, Fault, Instruction, Job, Reached, Word, decode,
 };
 
 /// How many instruction words a unit can have: its own, and the targets of its XCTs.
@@ -125,11 +125,11 @@ fn noted(core: &Core, slot: u8, a: u32, reads: &mut Places) -> Result<Word, Faul
 
 /// The target of an XCT; Ilo if the budget is at its end.
 #[tactic(auto, using(its_plain::proofs::TracedLaws::joined, its_plain::proofs::TracedLaws::ended), unfolding(its_plain::specs::Unit::target_of, its_plain::specs::Traced::also))]
-fn target(core: &Core, slot: u8, x: &Context, reads: &mut Places) -> Result<Turn, Fault>
+fn target(core: &Core, slot: u8, x: &Context, reads: &mut Places) -> Result<ChainStep, Fault>
     requires slot { slot < slots }
     requires fits { Fits x.now }
     requires few { length reads.old.items ≤ 2 * x.now.used + 2 }
-    ensures turn { result ≡ (target_of (core_at core.now slot) x.now).answer }
+    ensures step { result ≡ (target_of (core_at core.now slot) x.now).answer }
     ensures reads { reads.new.items ≡ reads.old.items ++ (target_of (core_at core.now slot) x.now).reads }
     ensures ready { IfOk result IsReady }
     ensures few { IfOk result (HasFew (length reads.new.items)) }
@@ -137,33 +137,33 @@ fn target(core: &Core, slot: u8, x: &Context, reads: &mut Places) -> Result<Turn
     if x.used == BUDGET {
         return Err(Fault::Ilo);
     }
-    Ok(Turn::Target {
+    Ok(ChainStep::Target {
         word: noted(core, slot, x.e, reads)?,
         used: x.used + 1,
     })
 }
 
 /// The place at which an instruction goes on: at the target of an XCT, else at itself.
-#[tactic(auto, using(its_plain::proofs::TracedLaws::ended), unfolding(its_plain::specs::Unit::turn_at))]
-fn turn_by(
+#[tactic(auto, using(its_plain::proofs::TracedLaws::ended), unfolding(its_plain::specs::Unit::chain_step_at))]
+fn step_by(
     core: &Core,
     slot: u8,
     i: Instruction,
     x: &Context,
     reads: &mut Places,
-) -> Result<Turn, Fault>
+) -> Result<ChainStep, Fault>
     requires slot { slot < slots }
     requires fits { Fits x.now }
     requires numbers { IsRow i }
     requires few { length reads.old.items ≤ 2 * x.now.used + 2 }
-    ensures turn { result ≡ (turn_at (core_at core.now slot) i x.now).answer }
-    ensures reads { reads.new.items ≡ reads.old.items ++ (turn_at (core_at core.now slot) i x.now).reads }
+    ensures step { result ≡ (chain_step_at (core_at core.now slot) i x.now).answer }
+    ensures reads { reads.new.items ≡ reads.old.items ++ (chain_step_at (core_at core.now slot) i x.now).reads }
     ensures ready { IfOk result IsReady }
     ensures few { IfOk result (HasFew (length reads.new.items)) }
 {
     match i {
         Instruction::Xct => target(core, slot, x, reads),
-        _ => Ok(Turn::Found(Reached {
+        _ => Ok(ChainStep::Found(Reached {
             instruction: i,
             context: *x,
         })),
@@ -171,21 +171,21 @@ fn turn_by(
 }
 
 /// The place to which an instruction word leads, under what is left of the budget.
-#[tactic(auto, using(its_plain::proofs::TracedLaws::joined, its_plain::proofs::TracedLaws::ended), unfolding(its_plain::specs::Unit::turn, its_plain::specs::Traced::also, its_plain::specs::Traced::located))]
-fn turn(
+#[tactic(auto, using(its_plain::proofs::TracedLaws::joined, its_plain::proofs::TracedLaws::ended), unfolding(its_plain::specs::Unit::chain_step, its_plain::specs::Traced::also, its_plain::specs::Traced::located))]
+fn chain_step(
     core: &Core,
     slot: u8,
     job: &Job,
     w: Word,
     used: u32,
     reads: &mut Places,
-) -> Result<Turn, Fault>
+) -> Result<ChainStep, Fault>
     requires slot { slot < slots }
     requires pc { job.now.pc < 2 ^ 18 }
     requires used { used ≤ budget }
     requires few { length reads.old.items ≤ 2 * used + 1 }
-    ensures turn { result ≡ (turn_of (core_at core.now slot) job.now w used).answer }
-    ensures reads { reads.new.items ≡ reads.old.items ++ (turn_of (core_at core.now slot) job.now w used).reads }
+    ensures step { result ≡ (step_of (core_at core.now slot) job.now w used).answer }
+    ensures reads { reads.new.items ≡ reads.old.items ++ (step_of (core_at core.now slot) job.now w used).reads }
     ensures ready { IfOk result IsReady }
     ensures few { IfOk result (HasFew (length reads.new.items)) }
 {
@@ -200,27 +200,27 @@ fn turn(
         flags_word,
         used: after,
     };
-    turn_by(core, slot, i, &x, reads)
+    step_by(core, slot, i, &x, reads)
 }
 
 /// The instruction of a job's unit: the one at its PC, or the one at the end of its chain of XCTs. The
 /// places of the words that are read to come there are noted.
-#[tactic(auto, using(crate::proofs::ChainLaws::no_word, crate::proofs::ChainLaws::turn_faults))]
+#[tactic(auto, using(crate::proofs::ChainLaws::no_word, crate::proofs::ChainLaws::step_faults))]
 pub fn find(core: &Core, slot: u8, job: &Job, reads: &mut Places) -> Result<Reached, Fault>
     requires slot { slot < slots }
     requires pc { job.now.pc < 2 ^ 18 }
     requires none { reads.old.items ≡ [] }
     ensures found { result ≡ (reached (core_at core.now slot) job.now).answer }
     ensures reads { reads.new.items ≡ (reached (core_at core.now slot) job.now).reads }
-    ensures ready { IfOk result (λ r. IsReady (Turn.Found r)) }
+    ensures ready { IfOk result (λ r. IsReady (ChainStep.Found r)) }
     ensures few { IfOk result (λ r. length reads.new.items ≤ 2 * r.context.used + 2) }
 {
     let mut w = noted(core, slot, job.pc, reads)?;
     let mut used = 0;
-    for _turn in 0..WORDS {
-        match turn(core, slot, job, w, used, reads)? {
-            Turn::Found(r) => return Ok(r),
-            Turn::Target { word, used: more } => {
+    for _step in 0..WORDS {
+        match chain_step(core, slot, job, w, used, reads)? {
+            ChainStep::Found(r) => return Ok(r),
+            ChainStep::Target { word, used: more } => {
                 w = word;
                 used = more;
             }
@@ -234,7 +234,7 @@ pub fn reach(core: &Core, slot: u8, job: &Job) -> Result<Reached, Fault>
     requires slot { slot < slots }
     requires pc { job.now.pc < 2 ^ 18 }
     ensures found { result ≡ (reached (core_at core.now slot) job.now).answer }
-    ensures ready { IfOk result (λ r. IsReady (Turn.Found r)) }
+    ensures ready { IfOk result (λ r. IsReady (ChainStep.Found r)) }
 {
     let mut reads = Places::new();
     find(core, slot, job, &mut reads)

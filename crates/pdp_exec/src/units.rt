@@ -20,7 +20,9 @@ use super::moves::{exchange, halves, moves};
 use super::plans::{Draft, next, with_pending};
 use super::stores::none;
 use its_core::Core;
-use its_word::{BRK, Context, Fault, ILO, Instruction, Job, MPV, Reached, Site, Turn, WRO, Word};
+use its_word::{
+    BRK, ChainStep, Context, Fault, ILO, Instruction, Job, MPV, Reached, Site, WRO, Word,
+};
 
 /// The result of a unit: it is done; or a fault, with its bit of pending word 1, which leaves no part of it done; or
 /// a call of the monitor.
@@ -81,7 +83,7 @@ pub fn fault_bit(f: Fault) -> u32
 fn act(core: &mut Core, slot: u8, job: &mut Job, r: &Reached) -> Result<(), Fault>
     requires slot { slot < slots }
     requires pc { job.old.pc < 2 ^ 18 }
-    requires ready { IsReady (Turn.Found r.now) }
+    requires ready { IsReady (ChainStep.Found r.now) }
     ensures done { OnOk result (outcome_of (core_at core.old slot) job.old (row_of (core_at core.old slot) r.now.context r.now.instruction) ≡ Changed (core_at core.new slot) job.new) }
     ensures fault { IfErr result (λ f. outcome_of (core_at core.old slot) job.old (row_of (core_at core.old slot) r.now.context r.now.instruction) ≡ Faulted f) }
     ensures pc { job.new.pc < 2 ^ 18 }

@@ -8,7 +8,7 @@ use Rattle.its_top.proofs.listing.list_words.Goals as goal
 pub returns-then-not-goes_on-clause-told : goal.returns-then-not-goes_on-clause-told
 returns-then-not-goes_on-clause-told g c =
     writes_cut _ _ _ _ _ _ _ (sym c.goes_on.ensures ∙ c.if-not-goes_on.true)
-    (listing_next _ _ _ _ _ _ _ _ c.loop-w-test.true (get_or_read_under _ _ _ _ 0 c.w-item.is c.loop-w-test.true refl) c.loop-w.invariant.so_far) c.list_word-turn.ensures.told
+    (listing_next _ _ _ _ _ _ _ _ c.loop-w-test.true (get_or_read_under _ _ _ _ 0 c.w-item.is c.loop-w-test.true refl) c.loop-w.invariant.so_far) c.list_word-flow.ensures.told
 
 pub loop-w-preserved : goal.loop-w-preserved
 loop-w-preserved g c =
@@ -16,8 +16,8 @@ loop-w-preserved g c =
     record {
       place = omega (arith, c.loop-w.invariant.place);
       so_far = writes_next _ _ _ _ _ _ _ on
-          (listing_next _ _ _ _ _ _ _ _ c.loop-w-test.true (get_or_read_under _ _ _ _ 0 c.w-item.is c.loop-w-test.true refl) c.loop-w.invariant.so_far) c.list_word-turn.ensures.told;
-      unfailed = c.list_word-turn.ensures.cause.unfailed (not_fault _ on) ∙ c.loop-w.invariant.unfailed;
+          (listing_next _ _ _ _ _ _ _ _ c.loop-w-test.true (get_or_read_under _ _ _ _ 0 c.w-item.is c.loop-w-test.true refl) c.loop-w.invariant.so_far) c.list_word-flow.ensures.told;
+      unfailed = c.list_word-flow.ensures.cause.unfailed (not_fault _ on) ∙ c.loop-w.invariant.unfailed;
     }
 
 pub returns-clause-told : goal.returns-clause-told

@@ -1,7 +1,7 @@
 use Rattle.std.proofs.Common.{subst, sym}
 use Rattle.its_print.specs.Printing.{text}
 use Rattle.its_print.specs.Runs.{paces_in}
-use Rattle.its_top.specs.declared.turn.Turn.TheVariants as turns
+use Rattle.its_top.specs.declared.flow.Flow.TheVariants as flows
 use Rattle.its_top.specs.Answer.{Tells}
 use Rattle.its_top.specs.Performing.{lines_of}
 use Rattle.its_top.proofs.WritingLaws.{tells_nothing}
@@ -9,5 +9,5 @@ use Rattle.its_top.proofs.printing.print_shown.Goals as goal
 
 pub returns-in-Nothing-clause-told : goal.returns-in-Nothing-clause-told
 returns-in-Nothing-clause-told g c =
-    subst (λ s. Tells turns.On turns.On (text (lines_of s (paces_in c.args.runs.now.items) c.args.m.now.world)) (g.K.Sink.written c.args.out.now) (g.K.Sink.written c.args.out.now))
-    (sym c.in-Nothing.is) (tells_nothing turns.On (g.K.Sink.written c.args.out.now))
+    subst (λ s. Tells flows.On flows.On (text (lines_of s (paces_in c.args.runs.now.items) c.args.m.now.world)) (g.K.Sink.written c.args.out.now) (g.K.Sink.written c.args.out.now))
+    (sym c.in-Nothing.is) (tells_nothing flows.On (g.K.Sink.written c.args.out.now))

@@ -3,7 +3,7 @@ use Rattle.its_word.specs.declared.session.Event.{Event}
 use Rattle.its_session.specs.Fits.{EventFits}
 use Rattle.its_direct.specs.Plain.{machine_of}
 use Rattle.its_verify.specs.TranscriptReader.{Says}
-use Rattle.its_verify.specs.Judge.{Judge, expects}
+use Rattle.its_verify.specs.Rulings.{Ruling, expects}
 use Rattle.its_verify.specs.Showing.{lines_of}
 use Rattle.its_verify.proofs.ShowingLaws.{in_slots, nothing_says}
 use Rattle.its_verify.proofs.showing.show_event.Goals as goal
@@ -20,7 +20,7 @@ show_state-requires-clause-slot g c = in_slots c.in-State.s (subst (EventFits 2)
 pub returns-in-List-clause-says : goal.returns-in-List-clause-says
 returns-in-List-clause-says g c =
     subst
-    (λ (e : Event). (next : Judge) → Says c.list_words.result c.args.reader.now c.list_words.new.reader (g.S.Source.left c.args.src.now) (g.S.Source.left c.list_words.new.src) (expects (lines_of e c.args.answer.now (machine_of c.args.plain.now)) next) next)
+    (λ (e : Event). (next : Ruling) → Says c.list_words.result c.args.reader.now c.list_words.new.reader (g.S.Source.left c.args.src.now) (g.S.Source.left c.list_words.new.src) (expects (lines_of e c.args.answer.now (machine_of c.args.plain.now)) next) next)
     (sym c.in-List.is) c.list_words.ensures.says
 
 pub returns-in_default : goal.returns-in_default

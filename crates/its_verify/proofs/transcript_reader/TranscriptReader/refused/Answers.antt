@@ -1,6 +1,6 @@
 use Rattle.std.proofs.Common.{Option, Some, Ok, subst, rules}
 use Rattle.its_verify.specs.TranscriptReader.{Says, same_as}
-use Rattle.its_verify.specs.Judge.{at_end, led}
+use Rattle.its_verify.specs.Rulings.{at_end, led}
 use Rattle.its_verify.specs.declared.outcome.Outcome.{Outcome}
 use Rattle.its_verify.proofs.ErrLaws.{err_concludes}
 use Rattle.its_verify.proofs.TranscriptReaderLaws.{refused_ends, refused_fails, refused_lacks}

@@ -1,16 +1,16 @@
 use Rattle.std.proofs.Common.{◌∙◌, sym}
-use Rattle.its_tick.proofs.TickLaws.{turn_call, turn_unit}
+use Rattle.its_tick.proofs.TickLaws.{tick_call, tick_unit}
 use Rattle.its_tick.proofs.StepsLaws.{quiet_at}
 use Rattle.its_tick.proofs.FramesLaws.{frames_call, frames_delivery, frames_unit}
-use Rattle.its_tick.proofs.ticks.turn.Goals as goal
+use Rattle.its_tick.proofs.ticks.one_tick.Goals as goal
 
 pub returns-then-has_frame-clause-row : goal.returns-then-has_frame-clause-row
 returns-then-has_frame-clause-row c =
-    turn_call c.args.w.now c.in_call.new.w c.args.slot c.in-Some.job.now c.in_call.result (sym c.in-Some.ensures.job) c.if-job.false c.in_call.ensures.row
+    tick_call c.args.w.now c.in_call.new.w c.args.slot c.in-Some.job.now c.in_call.result (sym c.in-Some.ensures.job) c.if-job.false c.in_call.ensures.row
 
 pub returns-clause-row : goal.returns-clause-row
 returns-clause-row c =
-    turn_unit c.args.w.now c.make_unit.new.w c.args.slot c.in-Some.job.now c.make_unit.result (sym c.in-Some.ensures.job) c.if-job.false
+    tick_unit c.args.w.now c.make_unit.new.w c.args.slot c.in-Some.job.now c.make_unit.result (sym c.in-Some.ensures.job) c.if-job.false
     (sym c.has_frame.ensures ∙ c.if-has_frame.false) (sym c.deliverable.ensures ∙ c.if-deliverable.false) c.make_unit.ensures.row
 
 pub returns-then-has_frame-clause-pages : goal.returns-then-has_frame-clause-pages

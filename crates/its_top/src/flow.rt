@@ -7,38 +7,38 @@ use super::status::Status;
 /// What a part of a session did: the session goes on, it is over by END, by a refused line or since a
 /// line past the most that it may have begins, or a write failed.
 #[derive(Clone, Copy, Debug, PartialEq, Eq)]
-pub enum Turn {
+pub enum Flow {
     On,
     Ended,
     Refused,
-    Beyond,
+    TooLong,
     Fault,
 }
 
-impl Turn {
+impl Flow {
     /// Whether the session goes on.
     pub fn goes_on(self) -> bool
         ensures { result ≡ goes_on self }
     {
         match self {
-            Turn::On => true,
-            Turn::Ended => false,
-            Turn::Refused => false,
-            Turn::Beyond => false,
-            Turn::Fault => false,
+            Flow::On => true,
+            Flow::Ended => false,
+            Flow::Refused => false,
+            Flow::TooLong => false,
+            Flow::Fault => false,
         }
     }
 
-    /// The status of a session that this turn ended.
+    /// The status of a session that this ended.
     pub fn status(self) -> Status
         ensures { result ≡ status_of self }
     {
         match self {
-            Turn::On => Status::Done,
-            Turn::Ended => Status::Done,
-            Turn::Refused => Status::Refused,
-            Turn::Beyond => Status::TooLong,
-            Turn::Fault => Status::WriteFault,
+            Flow::On => Status::Done,
+            Flow::Ended => Status::Done,
+            Flow::Refused => Status::Refused,
+            Flow::TooLong => Status::TooLong,
+            Flow::Fault => Status::WriteFault,
         }
     }
 }

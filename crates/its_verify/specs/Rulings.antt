@@ -20,20 +20,20 @@ pub data Verdict : Type 0 where
   No : ℕ → Verdict
 
 -- what is said of the lines that are left, after so many that are licensed
-abbrev pub Judge : Type 0
-Judge = ℕ → List (List ℕ) → Verdict
+abbrev pub Ruling : Type 0
+Ruling = ℕ → List (List ℕ) → Verdict
 
 -- nothing more is shown
-abbrev pub at_end : Judge
+abbrev pub at_end : Ruling
 at_end n [] = Yes n
 at_end n (text ∷ texts) = No (n + 1)
 
 -- one line is shown, and its text says how to go on, or is not licensed
-abbrev pub led_by : {X : Type 0} → Option X → (X → Judge) → Judge
+abbrev pub led_by : {X : Type 0} → Option X → (X → Ruling) → Ruling
 led_by None next n texts = No (n + 1)
 led_by (Some x) next n texts = next x (n + 1) texts
 
-abbrev pub led : {X : Type 0} → (List ℕ → Option X) → (X → Judge) → Judge
+abbrev pub led : {X : Type 0} → (List ℕ → Option X) → (X → Ruling) → Ruling
 led reads next n [] = No (n + 1)
 led reads next n (text ∷ texts) = led_by (reads text) next n texts
 
@@ -45,12 +45,12 @@ abbrev pub peeking : List ℕ → Option (List ℕ)
 peeking bytes = if_so (is_peek bytes) bytes
 
 -- these lines are shown
-abbrev pub expects : List Line → Judge → Judge
+abbrev pub expects : List Line → Ruling → Ruling
 expects [] next = next
 expects (line ∷ lines) next = led (saying line) (λ text. expects lines next)
 
 -- a line of the session with this effect
-abbrev pub gone : Walk → Lined → (Walk → Judge) → Judge
+abbrev pub gone : Walk → Lined → (Walk → Ruling) → Ruling
 gone v (Done (Refuses r)) next = expects (Refused v.line r ∷ []) at_end
 gone v (Done (Does n out touched b)) next = expects out (next (next_line (walk_after v n touched b)))
 gone v (Done (Ticks i k)) next = led (ticked v i k) (λ w. next (next_line w))
@@ -58,17 +58,17 @@ gone v (Done Quits) next = at_end
 gone v (Peeks i) next = led peeking (λ text. next (next_line v))
 
 -- a turn of q ticks of the slot whose turn it is; if it is nobody's, no more turns come
-abbrev pub turned_by : ℕ → Walk → Option ℕ → (Walk → ℕ → Judge) → Judge → Judge
+abbrev pub turned_by : ℕ → Walk → Option ℕ → (Walk → ℕ → Ruling) → Ruling → Ruling
 turned_by q v (Some s) more done = led (ticked v s q) (λ w. more w s)
 turned_by q v None more done = done
 
 -- up to n turns of q ticks, the first of them after a turn of the last slot, and how it goes on after them
-abbrev pub turned : ℕ → ℕ → Walk → ℕ → (Walk → ℕ → Judge) → Judge
+abbrev pub turned : ℕ → ℕ → Walk → ℕ → (Walk → ℕ → Ruling) → Ruling
 turned zero q v last next = next v last
 turned (suc n) q v last next = turned_by q v (turn_after v.machine last) (λ w s. turned n q w s next) (next v last)
 
 -- the events of a session from here on, after a turn of the last slot
-abbrev pub judged : Walk → ℕ → List Item → Judge
+abbrev pub judged : Walk → ℕ → List Item → Ruling
 judged v last [] = at_end
 judged v last (Read e ∷ es) =
     gone v (lined v.machine v.block e) (λ w. turned (turns_asked e) (ticks_asked e) w last (λ x s. judged x s es))
