@@ -17,7 +17,7 @@ use Rattle.its_chart.proofs.NameLaws.{is_letter, is_op, is_other, stood}
 use Rattle.its_chart.proofs.OperandLaws.{halves_bytes, is_operand, operand_bytes, operand_length, six_digits}
 use Rattle.its_chart.proofs.TypedLaws.{letter_printable, operand_printable}
 use Rattle.its_asm.specs.Text.{statement_words}
-use Rattle.its_asm.specs.Instruction.{alone, instruction, whole}
+use Rattle.its_asm.specs.Instruction.{without_literal, instruction, whole}
 use Rattle.its_asm.specs.Statement.{body, no_names, statement_of, with_one}
 use Rattle.its_asm.specs.declared.statements.Statement.TheVariants.{Gives}
 use Rattle.its_asm.proofs.NumberLaws.{cut_unmarked, unmarked}
@@ -51,7 +51,7 @@ two_words n t some more h k =
 
 -- such a line on its own
 read_line : (n t : List ℕ) (w : ℕ) → 1 ≤ length n → length n ≤ 7 → 1 ≤ length t → length t ≤ 40 → list_all is_letter n ≡ true → list_all is_operand t ≡ true
-    → with_one no_names no_names n t ≡ Some (Gives (Ok (alone w))) → statement_of (n ++ 32 ∷ t) ≡ Some w
+    → with_one no_names no_names n t ≡ Some (Gives (Ok (without_literal w))) → statement_of (n ++ 32 ∷ t) ≡ Some w
 unfolding statement_of body
 read_line n t w some few more short h k made =
     let long = length-append n (32 ∷ t) in
@@ -62,7 +62,7 @@ read_line n t w some few more short h k made =
     rw (fits, shown, two, made) refl
 
 -- a word whose opcode has no name
-halves_made : (w : ℕ) → w < 2 ^ 36 → with_one no_names no_names (codes "WORD") (digits_of (left_of w) ++ (codes ",," ++ digits_of (right_of w))) ≡ Some (Gives (Ok (alone w)))
+halves_made : (w : ℕ) → w < 2 ^ 36 → with_one no_names no_names (codes "WORD") (digits_of (left_of w) ++ (codes ",," ++ digits_of (right_of w))) ≡ Some (Gives (Ok (without_literal w)))
 unfolding with_one
 halves_made w h =
     let made : whole no_names (digits_of (left_of w) ++ (codes ",," ++ digits_of (right_of w))) ≡ Ok (pair_of (left_of w) (right_of w)) = whole_number no_names (left_of w) (right_of w) (omega arith) (omega arith) in
@@ -79,7 +79,7 @@ read_halves w h =
     (halves_bytes (left_of w) (right_of w) (omega arith) (omega arith)) (halves_made w h)
 
 -- an operation by its name
-operation_made : (n t : List ℕ) (op v : ℕ) → is_other n ≡ false → opcode_named n ≡ Some op → instruction no_names op t ≡ Ok (alone v) → with_one no_names no_names n t ≡ Some (Gives (Ok (alone v)))
+operation_made : (n t : List ℕ) (op v : ℕ) → is_other n ≡ false → opcode_named n ≡ Some op → instruction no_names op t ≡ Ok (without_literal v) → with_one no_names no_names n t ≡ Some (Gives (Ok (without_literal v)))
 unfolding with_one
 operation_made n t op v other found made =
     let a = or_parts (bytes_eq n (codes "LOC")) (bytes_eq n (codes "GO") || (bytes_eq n (codes "WORD") || bytes_eq n (codes "SIXBIT"))) other in
@@ -112,8 +112,8 @@ read_operation w n h named =
     let x : index_of w < 16 = omega arith in
     let y : right_of w < 2 ^ 18 = omega arith in
     let size = operand_length (ac_of w) (indirect_of w) (right_of w) (index_of w) a y x in
-    let made : instruction no_names (opcode_of w) (typed_operand w) ≡ Ok (alone w) =
-    instruction_number no_names (opcode_of w) (ac_of w) (indirect_of w) (right_of w) (index_of w) a i y x ∙ ap (λ (v : ℕ). Ok (alone v)) (fields w h) in
+    let made : instruction no_names (opcode_of w) (typed_operand w) ≡ Ok (without_literal w) =
+    instruction_number no_names (opcode_of w) (ac_of w) (indirect_of w) (right_of w) (index_of w) a i y x ∙ ap (λ (v : ℕ). Ok (without_literal v)) (fields w h) in
     read_line n (typed_operand w) w long short size.0 size.1 bytes.0 (operand_bytes (ac_of w) (indirect_of w) (right_of w) (index_of w) a y x)
     (operation_made n (typed_operand w) (opcode_of w) w other (named_first n (opcode_of w) below own.first) made)
 

@@ -11,7 +11,7 @@ use Rattle.its_chart.proofs.BytesLaws.{all_imp}
 use Rattle.its_chart.proofs.OperandLaws.{inner_address, is_inner}
 use Rattle.its_asm.specs.Text.{closed}
 use Rattle.its_asm.specs.Expression.{Scope, expression, register}
-use Rattle.its_asm.specs.Instruction.{address, alone, indexed, instruction, place, whole}
+use Rattle.its_asm.specs.Instruction.{address, without_literal, indexed, instruction, place, whole}
 use Rattle.its_asm.proofs.NumberLaws.{IsNumber, closed_last, cut_marked, cut_unmarked, digits_number, expression_number, first_digit, register_number, unmarked}
 
 bracket_free : (b : ℕ) → is_code 48 55 b ≡ true → unmarked (codes "(") b ≡ true
@@ -26,7 +26,7 @@ digit_comma_free b h = grind (arith, nat_tests)
 lone_comma_free : (b : ℕ) → is_code 48 55 b ≡ true → unmarked (codes ",") b ≡ true
 lone_comma_free b h = grind (arith, nat_tests)
 
-place_number : (s : Scope) (n : ℕ) (t : List ℕ) → n < 2 ^ 18 → IsNumber n t → place s t ≡ Ok (alone n)
+place_number : (s : Scope) (n : ℕ) (t : List ℕ) → n < 2 ^ 18 → IsNumber n t → place s t ≡ Ok (without_literal n)
 place_number s n [] h k = let some = k.some in absurd (omega arith)
 place_number s n (d ∷ ds) h k =
     let digit = first_digit d ds k.digits in
@@ -35,11 +35,11 @@ place_number s n (d ∷ ds) h k =
     rw (bracket, one) refl
 
 -- an address after its `@`
-indexed_number : (s : Scope) (i y x : ℕ) → y < 2 ^ 18 → x < 16 → indexed s i (digits_of y ++ typed_index x) ≡ Ok (alone (i * 2 ^ 22 + x * 2 ^ 18 + y))
+indexed_number : (s : Scope) (i y x : ℕ) → y < 2 ^ 18 → x < 16 → indexed s i (digits_of y ++ typed_index x) ≡ Ok (without_literal (i * 2 ^ 22 + x * 2 ^ 18 + y))
 indexed_number s i y x hy hx =
     let ny = digits_number y hy in
     let nx = digits_number x (omega arith) in
-    let py : place s (digits_of y) ≡ Ok (alone y) = place_number s y (digits_of y) hy ny in
+    let py : place s (digits_of y) ≡ Ok (without_literal y) = place_number s y (digits_of y) hy ny in
     let free = all_imp (is_code 48 55) (unmarked (codes "(")) bracket_free (digits_of y) ny.digits in
     elim (cases_Bool (x == 0)) [
       | inl hit ↦
@@ -61,7 +61,7 @@ no_at n (d ∷ ds) u k =
     let digit = first_digit d ds k.digits in
     grind (arith, nat_tests)
 
-pub address_number : (s : Scope) (i y x : ℕ) → i < 2 → y < 2 ^ 18 → x < 16 → address s (typed_indirect i ++ (digits_of y ++ typed_index x)) ≡ Ok (alone (i * 2 ^ 22 + x * 2 ^ 18 + y))
+pub address_number : (s : Scope) (i y x : ℕ) → i < 2 → y < 2 ^ 18 → x < 16 → address s (typed_indirect i ++ (digits_of y ++ typed_index x)) ≡ Ok (without_literal (i * 2 ^ 22 + x * 2 ^ 18 + y))
 unfolding address
 address_number s zero y x hi hy hx = rw (no_at y (digits_of y) (typed_index x) (digits_number y hy)) (indexed_number s 0 y x hy hx)
 address_number s (suc zero) y x hi hy hx = indexed_number s 1 y x hy hx
@@ -69,11 +69,11 @@ address_number s (suc (suc i)) y x hi hy hx = absurd (omega arith)
 
 -- the operand of an instruction
 pub instruction_number : (s : Scope) (op a i y x : ℕ) → a < 16 → i < 2 → y < 2 ^ 18 → x < 16
-    → instruction s op (typed_ac a ++ (typed_indirect i ++ (digits_of y ++ typed_index x))) ≡ Ok (alone (op * 2 ^ 27 + a * 2 ^ 23 + (i * 2 ^ 22 + x * 2 ^ 18 + y)))
+    → instruction s op (typed_ac a ++ (typed_indirect i ++ (digits_of y ++ typed_index x))) ≡ Ok (without_literal (op * 2 ^ 27 + a * 2 ^ 23 + (i * 2 ^ 22 + x * 2 ^ 18 + y)))
 unfolding instruction
 instruction_number s op a i y x ha hi hy hx =
     let rest = typed_indirect i ++ (digits_of y ++ typed_index x) in
-    let found : address s rest ≡ Ok (alone (i * 2 ^ 22 + x * 2 ^ 18 + y)) = address_number s i y x hi hy hx in
+    let found : address s rest ≡ Ok (without_literal (i * 2 ^ 22 + x * 2 ^ 18 + y)) = address_number s i y x hi hy hx in
     elim (cases_Bool (a == 0)) [
       | inl hit ↦
           (let none : a ≡ 0 = eqb-true a 0 hit in

@@ -21,8 +21,8 @@ unfoldable pub whole : Scope → List ℕ → Result ℕ AsmReason
 whole s text = whole_by s text (cut (codes ",") text)
 
 -- a word without a literal
-abbrev pub alone : ℕ → Item
-alone w = record { word = w; literal = None }
+abbrev pub without_literal : ℕ → Item
+without_literal w = record { word = w; literal = None }
 
 -- a literal's word between brackets; its address is still to be added
 abbrev pub literal : Scope → Option (List ℕ) → Result Item AsmReason
@@ -31,8 +31,8 @@ literal s (Some text) = given (whole s text) (λ w. Ok (record { word = 0; liter
 
 -- what an address is without @ and index register: nothing, a literal in brackets, or an expression
 abbrev pub place : Scope → List ℕ → Result Item AsmReason
-place s [] = Ok (alone 0)
-place s (b ∷ rest) = if b == 91 then literal s (closed 93 rest) else given (expression s (b ∷ rest)) (λ y. Ok (alone y))
+place s [] = Ok (without_literal 0)
+place s (b ∷ rest) = if b == 91 then literal s (closed 93 rest) else given (expression s (b ∷ rest)) (λ y. Ok (without_literal y))
 
 -- an index register before the parenthesis that ends it
 abbrev pub index : Scope → Option (List ℕ) → Result ℕ AsmReason

@@ -6,7 +6,7 @@ use Rattle.its_chart.specs.Text.{is_printable}
 use Rattle.its_chart.specs.Mnemonic.{opcode_named}
 use Rattle.its_asm.specs.Text.{label_of, symbol_of, statement_words}
 use Rattle.its_asm.specs.Expression.{Scope, expression, given}
-use Rattle.its_asm.specs.Instruction.{alone, instruction, whole}
+use Rattle.its_asm.specs.Instruction.{without_literal, instruction, whole}
 use Rattle.its_asm.specs.declared.instruction.Item.{Item}
 use Rattle.its_asm.specs.declared.statements.Statement.{Statement}
 use Rattle.its_asm.specs.declared.statements.Statement.TheVariants.{Nothing, Job, Equals, Loc, Gives, Go}
@@ -28,8 +28,8 @@ labels_of [] = []
 labels_of (word ∷ words) = labels_by (label_of word) (labels_of words)
 
 -- `JOB u j c`; c is `-` or a console from 0 to 7
-abbrev pub console_of : List ℕ → Option (Option ℕ)
-console_of word =
+abbrev pub console_named : List ℕ → Option (Option ℕ)
+console_named word =
     if bytes_eq word (codes "-") then Some None
     else (if is_octal word then (if nat_le (octal_value word) 7 then Some (Some (octal_value word)) else None) else None)
 
@@ -38,7 +38,7 @@ job_by u j None = None
 job_by u j (Some console) = if is_name u then (if is_name j then Some (Job (sixbit_of u) (sixbit_of j) console) else None) else None
 
 unfoldable pub job : List (List ℕ) → Option Statement
-job (first ∷ u ∷ j ∷ c ∷ []) = if bytes_eq first (codes "JOB") then job_by u j (console_of c) else None
+job (first ∷ u ∷ j ∷ c ∷ []) = if bytes_eq first (codes "JOB") then job_by u j (console_named c) else None
 job words = None
 
 -- `NAME = e`
@@ -51,7 +51,7 @@ equals s name sign e = if bytes_eq sign (codes "=") then equals_by s e (symbol_o
 
 -- `SIXBIT name`
 abbrev pub sixbit : List ℕ → Result Item AsmReason
-sixbit name = if is_name name then Ok (alone (sixbit_of name)) else Err Syntax
+sixbit name = if is_name name then Ok (without_literal (sixbit_of name)) else Err Syntax
 
 -- `op` with what follows it
 abbrev pub gives : Result Item AsmReason → Option Statement
@@ -66,7 +66,7 @@ unfoldable pub with_one : Scope → Scope → List ℕ → List ℕ → Option S
 with_one earlier s first text =
     if bytes_eq first (codes "LOC") then formed (λ v. Loc v) (expression earlier text)
     else (if bytes_eq first (codes "GO") then formed (λ v. Go v) (expression s text)
-    else (if bytes_eq first (codes "WORD") then gives (given (whole s text) (λ w. Ok (alone w)))
+    else (if bytes_eq first (codes "WORD") then gives (given (whole s text) (λ w. Ok (without_literal w)))
     else (if bytes_eq first (codes "SIXBIT") then gives (sixbit text)
     else operation s text (opcode_named first))))
 

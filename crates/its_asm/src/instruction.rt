@@ -1,7 +1,7 @@
 //! The words that statements give.
 ghost use Rattle.std.specs.Prelude.{◌≡◌, ◌<◌, ◌≤◌, ◌^◌, ◌*◌, IfOk, Ok, codes, if◌then◌else◌};
 ghost use Rattle.its_asm.specs.Expression.{expression, given};
-ghost use Rattle.its_asm.specs.Instruction.{address, alone, indexed, indexed_by, index, instruction, joined, literal, place, whole};
+ghost use Rattle.its_asm.specs.Instruction.{address, without_literal, indexed, indexed_by, index, instruction, joined, literal, place, whole};
 ghost use Rattle.its_asm.specs.Reading.{scope_of};
 ghost use Rattle.its_chart.specs.Text.{cut};
 ghost use Rattle.its_asm.specs.Text.{closed};
@@ -53,7 +53,7 @@ fn literal(names: Names, text: &[u8]) -> Result<Item, AsmReason>
 
 /// An address that is an expression.
 fn expressed(names: Names, text: &[u8]) -> Result<Item, AsmReason>
-    ensures value { result ≡ given (expression (scope_of names.entry) text.now) (λ y. Ok (alone y)) }
+    ensures value { result ≡ given (expression (scope_of names.entry) text.now) (λ y. Ok (without_literal y)) }
     ensures below { IfOk result (λ y. y.word < 2 ^ 18) }
 {
     let y = expression(names, text)?;

@@ -2,9 +2,9 @@
 ghost use Rattle.std.specs.Prelude.{◌≡◌, [], map, Ok, bytes_eq};
 ghost use Rattle.its_chart.specs.Mnemonic.{opcode_named};
 ghost use Rattle.its_asm.specs.Expression.{expression, given};
-ghost use Rattle.its_asm.specs.Instruction.{alone, instruction, whole};
+ghost use Rattle.its_asm.specs.Instruction.{without_literal, instruction, whole};
 ghost use Rattle.its_asm.specs.Reading.{scope_of};
-ghost use Rattle.its_asm.specs.Statement.{body, console_of, equals, gives, job, labels_of, operation, sixbit, with_one, formed};
+ghost use Rattle.its_asm.specs.Statement.{body, console_named, equals, gives, job, labels_of, operation, sixbit, with_one, formed};
 ghost use Rattle.its_asm.specs.Text.{symbol_of};
 
 use super::expression::{Names, expression};
@@ -46,7 +46,7 @@ pub enum Statement {
 
 /// A console from 0 to 7, or `-` for none.
 fn console(word: &[u8]) -> Option<Option<u8>>
-    ensures { result ≡ console_of word.now }
+    ensures { result ≡ console_named word.now }
 {
     if is(word, b"-") {
         return Some(None);
@@ -120,7 +120,7 @@ fn gives(item: Result<Item, AsmReason>) -> Option<Statement>
 
 /// `WORD w`
 fn whole_word(names: Names, text: &[u8]) -> Result<Item, AsmReason>
-    ensures { result ≡ given (whole (scope_of names.entry) text.now) (λ w. Ok (alone w)) }
+    ensures { result ≡ given (whole (scope_of names.entry) text.now) (λ w. Ok (without_literal w)) }
 {
     let word = whole(names, text)?;
     Ok(Item {

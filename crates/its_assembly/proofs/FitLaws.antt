@@ -18,7 +18,7 @@ use Rattle.its_asm.specs.declared.statements.Statement.TheVariants.{Nothing, Job
 use Rattle.its_asm.specs.declared.assembly.Image.{Image}
 use Rattle.its_asm.specs.declared.reason.AsmReason.{AsmReason}
 use Rattle.its_asm.specs.declared.reason.AsmReason.TheVariants.{Long}
-use Rattle.its_assembly.specs.Image.{CellFits, Fits, SymbolFits, rises, rises_from}
+use Rattle.its_assembly.specs.Image.{CellFits, ImageFits, SymbolFits, rises, rises_from}
 use Rattle.its_assembly.proofs.StatementLaws.{JobFits, StatementFits, labels_named, statement_fits}
 
 -- of two values the one that a test chooses
@@ -208,7 +208,7 @@ line_fits whole a line f = pick (λ r. IfOk r AssemblyFits) (nat_le (length line
     by None h = tt
     by (Some l) h = unless_fits (reason_against whole.location a l) (behind whole.location a l) (λ e. behind_fits whole.location a l h f e)
 
-ended_fits : (n : ℕ) (stage : Stage) (a : Assembly) → AssemblyFits a → NamesFit stage a.u a.j a.console → IfOk (ended n stage a) Fits
+ended_fits : (n : ℕ) (stage : Stage) (a : Assembly) → AssemblyFits a → NamesFit stage a.u a.j a.console → IfOk (ended n stage a) ImageFits
 ended_fits n Begin a f h = tt
 ended_fits n Body a f h = tt
 ended_fits n After a f h = record {
@@ -222,20 +222,20 @@ ended_fits n After a f h = record {
   start = f.start;
 }
 
-from_fits : (whole : Layout) (n : ℕ) (a : Assembly) (lines : List (List ℕ)) → AssemblyFits a → IfOk (from_line whole n a lines) Fits
+from_fits : (whole : Layout) (n : ℕ) (a : Assembly) (lines : List (List ℕ)) → AssemblyFits a → IfOk (from_line whole n a lines) ImageFits
 from_fits whole n a [] f = ended_fits n a.layout.stage a f f.names
 from_fits whole n a (line ∷ lines) f = go (with_line whole a line) (line_fits whole a line f) (λ b h. from_fits whole (n + 1) b lines h)
   where
-    go : (r : Result Assembly AsmReason) → IfOk r AssemblyFits → ((b : Assembly) → AssemblyFits b → IfOk (from_line whole (n + 1) b lines) Fits) → IfOk (onwards n r (λ b. from_line whole (n + 1) b lines)) Fits
+    go : (r : Result Assembly AsmReason) → IfOk r AssemblyFits → ((b : Assembly) → AssemblyFits b → IfOk (from_line whole (n + 1) b lines) ImageFits) → IfOk (onwards n r (λ b. from_line whole (n + 1) b lines)) ImageFits
     go (Ok b) h next = next b h
     go (Err e) h next = tt
 
 nothing_fits : AssemblyFits nothing_made
 nothing_fits = record { cells = record { fit = All-nil CellFits; rise = refl }; symbols = All-nil SymbolFits; few = omega arith; start = omega arith; names = tt }
 
-all_fit : (text : List ℕ) → IfOk (assembly text) Fits
+all_fit : (text : List ℕ) → IfOk (assembly text) ImageFits
 unfolding assembly
 all_fit text = from_fits (laid_out before_all (lines_of text)) 1 nothing_made (lines_of text) nothing_fits
 
-pub image_fits : (text : List ℕ) (i : Image) → assembly text ≡ Ok i → Fits i
-image_fits text i h = subst (λ r. IfOk r Fits) h (all_fit text)
+pub image_fits : (text : List ℕ) (i : Image) → assembly text ≡ Ok i → ImageFits i
+image_fits text i h = subst (λ r. IfOk r ImageFits) h (all_fit text)

@@ -12,7 +12,7 @@ use Rattle.its_reader.specs.declared.lines.Next.{Next}
 use Rattle.its_reader.specs.declared.lines.Next.TheVariants as nexts
 use Rattle.its_reader.specs.Bytes.{pending}
 use Rattle.its_reader.specs.Limits.{WithinLimits}
-use Rattle.its_reader.specs.Lines.{Facing, Opened, Ready, Reads, ahead}
+use Rattle.its_reader.specs.Lines.{Facing, Opened, BetweenLines, Reads, ahead}
 use Rattle.its_reader.proofs.LinesLaws.{facing, limits_by}
 use Rattle.its_asm.specs.Assembly.{assembly, lines_of}
 use Rattle.its_assembly.specs.declared.text.Unread.{Unread}
@@ -105,7 +105,7 @@ by_kept : (b : Bool) (text bytes read : List ℕ) → runs_past bytes ≡ false 
 by_kept true text bytes read within h = let k = h refl in (within, k.0, k.1)
 by_kept false text bytes read within h = within
 
-end_stands : (k : Bool) (text read : List ℕ) (old new : Lines) (bytes : List ℕ) (mid rest : Option (List ℕ)) (s : LinesSo k text old (Some bytes) mid) (r : Reads (Ok nexts.End) old new mid rest) → Ready new rest
+end_stands : (k : Bool) (text read : List ℕ) (old new : Lines) (bytes : List ℕ) (mid rest : Option (List ℕ)) (s : LinesSo k text old (Some bytes) mid) (r : Reads (Ok nexts.End) old new mid rest) → BetweenLines new rest
     → old.number ≤ most_lines → read ≡ s.read ++ r.read → Consumes (Some bytes) rest read → StandsFor (read_whole k) bytes text read
 end_stands k text read old new bytes mid None s r ready few e c = absurd c
 end_stands k text read old new bytes mid (Some ys) s r ready few e c =
@@ -121,7 +121,7 @@ by_bytes : {P : List ℕ → Type 0} (left : Option (List ℕ)) → ((bytes : Li
 by_bytes None f = tt
 by_bytes (Some bytes) f = f bytes refl
 
-pub gather_end : (k : Bool) (text : List ℕ) (old new : Lines) (left mid rest : Option (List ℕ)) → LinesSo k text old left mid → Reads (Ok nexts.End) old new mid rest → Ready new rest → old.number ≤ most_lines
+pub gather_end : (k : Bool) (text : List ℕ) (old new : Lines) (left mid rest : Option (List ℕ)) → LinesSo k text old left mid → Reads (Ok nexts.End) old new mid rest → BetweenLines new rest → old.number ≤ most_lines
     → Gathered (read_whole k) text left rest
 gather_end k text old new left mid rest s r ready few =
     let c = Consumes-trans left mid rest s.read r.read s.consumed r.consumed in
@@ -132,7 +132,7 @@ gather_end k text old new left mid rest s r ready few =
     go (Some bytes) t c = end_stands k text (t.read ++ r.read) old new bytes mid rest t r ready few refl c
 
 -- a long line
-long_stands : (k b : Bool) (text then long read : List ℕ) (old new : Lines) (bytes : List ℕ) (mid rest : Option (List ℕ)) (s : LinesSo k text old (Some bytes) mid) (r : Reads (Ok nexts.Long) old new mid rest) → Ready new rest
+long_stands : (k b : Bool) (text then long read : List ℕ) (old new : Lines) (bytes : List ℕ) (mid rest : Option (List ℕ)) (s : LinesSo k text old (Some bytes) mid) (r : Reads (Ok nexts.Long) old new mid rest) → BetweenLines new rest
     → new.number ≡ old.number + 1 → (b ≡ true → k ≡ true) → (b ≡ true → then ≡ text ++ long) → clean long ≡ true → nat_le (length long) 255 ≡ false → read ≡ s.read ++ r.read → Consumes (Some bytes) rest read
     → StandsFor (read_whole b) bytes then read
 long_stands k b text then long read old new bytes mid None s r ready n before t cl ln e c = absurd c
@@ -150,7 +150,7 @@ long_stands k b text then long read old new bytes mid (Some ys) s r ready n befo
       λ m. absurd (none_assembled bytes s.lines l.first l.behind long_first lines m),
     ))
 
-pub gather_long : (k b : Bool) (text then long : List ℕ) (old new : Lines) (left mid rest : Option (List ℕ)) → LinesSo k text old left mid → Reads (Ok nexts.Long) old new mid rest → Ready new rest
+pub gather_long : (k b : Bool) (text then long : List ℕ) (old new : Lines) (left mid rest : Option (List ℕ)) → LinesSo k text old left mid → Reads (Ok nexts.Long) old new mid rest → BetweenLines new rest
     → new.number ≡ old.number + 1 → (b ≡ true → k ≡ true) → (b ≡ true → then ≡ text ++ long) → clean long ≡ true → nat_le (length long) 255 ≡ false → Gathered (read_whole b) then left rest
 gather_long k b text then long old new left mid rest s r ready n before t cl ln =
     let c = Consumes-trans left mid rest s.read r.read s.consumed r.consumed in
@@ -160,7 +160,7 @@ gather_long k b text then long old new left mid rest s r ready n before t cl ln 
     go None u c = tt
     go (Some bytes) u c = long_stands k b text then long (u.read ++ r.read) old new bytes mid rest u r ready n before t cl ln refl c
 
-pub gather_blanks : (k b : Bool) (text then : List ℕ) (old new : Lines) (left mid rest : Option (List ℕ)) → LinesSo k text old left mid → Reads (Ok nexts.Long) old new mid rest → Ready new rest
+pub gather_blanks : (k b : Bool) (text then : List ℕ) (old new : Lines) (left mid rest : Option (List ℕ)) → LinesSo k text old left mid → Reads (Ok nexts.Long) old new mid rest → BetweenLines new rest
     → new.number ≡ old.number + 1 → (b ≡ true → k ≡ true) → (b ≡ true → then ≡ text ++ replicate 256 32) → Gathered (read_whole b) then left rest
 gather_blanks k b text then old new left mid rest s r ready n before t =
     gather_long k b text then (replicate 256 32) old new left mid rest s r ready n before t refl refl
@@ -170,7 +170,7 @@ pub gathered_by : (b : Bool) (o : Result (Unit {0}) Unread) (text : List ℕ) (l
 gathered_by b o text left rest is g = subst (λ x. Gathered x text left rest) (sym is) g
 
 -- a line too many
-beyond_stands : (k : Bool) (text read : List ℕ) (old new : Lines) (bytes : List ℕ) (mid rest : Option (List ℕ)) (s : LinesSo k text old (Some bytes) mid) (r : Reads (Ok nexts.Beyond) old new mid rest) → Ready new rest
+beyond_stands : (k : Bool) (text read : List ℕ) (old new : Lines) (bytes : List ℕ) (mid rest : Option (List ℕ)) (s : LinesSo k text old (Some bytes) mid) (r : Reads (Ok nexts.Beyond) old new mid rest) → BetweenLines new rest
     → new.number ≡ old.number + 1 → read ≡ s.read ++ r.read → Consumes (Some bytes) rest read → runs_past bytes ≡ true
 beyond_stands k text read old new bytes mid None s r ready n e c = absurd c
 beyond_stands k text read old new bytes mid (Some ys) s r ready n e c =
@@ -181,7 +181,7 @@ beyond_stands k text read old new bytes mid (Some ys) s r ready n e c =
     let many : most_lines ≤ length s.lines = (let m : most_lines < new.number = r.next.0 in omega (arith, s.number, n)) in
     past_lines bytes s.lines l.first l.behind lines s.short many
 
-pub gather_beyond : (k : Bool) (text : List ℕ) (old new : Lines) (left mid rest : Option (List ℕ)) → LinesSo k text old left mid → Reads (Ok nexts.Beyond) old new mid rest → Ready new rest → new.number ≡ old.number + 1
+pub gather_beyond : (k : Bool) (text : List ℕ) (old new : Lines) (left mid rest : Option (List ℕ)) → LinesSo k text old left mid → Reads (Ok nexts.Beyond) old new mid rest → BetweenLines new rest → new.number ≡ old.number + 1
     → Gathered (Err unreads.TooLong) text left rest
 gather_beyond k text old new left mid rest s r ready n =
     let c = Consumes-trans left mid rest s.read r.read s.consumed r.consumed in

@@ -30,7 +30,7 @@ use Rattle.its_plain.specs.Transcript.{Ended, Fate, Shows, Transcript, Walk, at_
 use Rattle.its_plain.specs.Turns.{highest, turns_asked, ticks_asked}
 use Rattle.its_plain.specs.Course.{Course, course, run_of}
 use Rattle.its_asm.specs.declared.assembly.Image.{Image}
-use Rattle.its_assembly.specs.Image.{CellFits, Fits, rises, rises_from}
+use Rattle.its_assembly.specs.Image.{CellFits, ImageFits, rises, rises_from}
 use Rattle.its_assembly.specs.Loading.{IsWhole, Loads, has_page, image_word}
 use Rattle.its_assembly.specs.Made.{IsSessionOf}
 use Rattle.its_assembly.specs.Written.{goes_on, image_events, rows, rows_from, symbol_lines}
@@ -386,7 +386,7 @@ whole_session u j start con words symbols f r few =
       has = go.1.holds.has;
     }
 
-pub image_whole : (i : Image) (text : List ℕ) → Fits i → IsSessionOf i text → IsWhole i
+pub image_whole : (i : Image) (text : List ℕ) → ImageFits i → IsSessionOf i text → IsWhole i
 image_whole i text f s =
     let w = whole_session i.u i.j i.start i.console i.words i.symbols f.cells f.rise f.few in
     record {

@@ -18,7 +18,7 @@ use Rattle.its_session.specs.Grammar.{event_of_words, kind_of, line_event, versi
 use Rattle.its_session.specs.Writing.{text_of_event}
 use Rattle.its_asm.specs.declared.assembly.Image.{Image}
 use Rattle.its_assembly.specs.Text.{joined}
-use Rattle.its_assembly.specs.Image.{CellFits, Fits, rises, rises_from}
+use Rattle.its_assembly.specs.Image.{CellFits, ImageFits, rises, rises_from}
 use Rattle.its_assembly.specs.Made.{IsSessionOf, ReadsBack}
 use Rattle.its_assembly.specs.Written.{event_line, image_events, lines_text, rows, rows_from, goes_on, symbol_lines}
 use Rattle.its_assembly.proofs.TextLaws.{all_clean, clean, joined_from}
@@ -169,7 +169,7 @@ ends i = events.Go i.start ∷ events.End ∷ []
 events_are : (i : Image) → image_events i ≡ events.Version 2 ∷ events.Load i.u i.j i.console ∷ (block i ++ ends i)
 events_are i = ap (λ x. events.Version 2 ∷ events.Load i.u i.j i.console ∷ x) (sym (append_assoc (rows i.words) (symbol_lines i.symbols) (ends i)))
 
-block_fits : (i : Image) → Fits i → length (block i) ≤ 2 ^ 18 + 512
+block_fits : (i : Image) → ImageFits i → length (block i) ≤ 2 ^ 18 + 512
 block_fits i f = omega (arith, length-append (rows i.words) (symbol_lines i.symbols), few_rows i.words, few_cells i.words f.cells f.rise, few_symbols i.symbols, f.few)
 
 block_inner : (i : Image) → All IsInner (block i)
@@ -198,5 +198,5 @@ unfolding events_of
 by_events es all e h f =
     ap (items_from true 1 places.First 1) (lines_back all h) ∙ ap (λ x. items_from true 1 places.First 1 (map text_of_event x)) e ∙ f (subst (All ReadsBack) e h) ∙ ap (map Read) (sym e)
 
-pub session_whole : (i : Image) (text : List ℕ) → Fits i → IsSessionOf i text → events_of (lines_text (image_events i)) ≡ map Read (image_events i)
+pub session_whole : (i : Image) (text : List ℕ) → ImageFits i → IsSessionOf i text → events_of (lines_text (image_events i)) ≡ map Read (image_events i)
 session_whole i text f s = by_events _ (image_events i) (events_are i) s.reads (λ h. all_items i.u i.j i.start i.console (block i) (block_inner i) (block_fits i f) h)

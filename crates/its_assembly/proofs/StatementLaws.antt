@@ -9,8 +9,8 @@ use Rattle.its_chart.specs.Text.{is_mark}
 use Rattle.its_chart.specs.Mnemonic.{opcode_named}
 use Rattle.its_asm.specs.Text.{closed, is_symbol, pieces, label_by, label_of, symbol_of}
 use Rattle.its_asm.specs.Expression.{Scope, added, both, expression, given, summed, sum_with, term}
-use Rattle.its_asm.specs.Statement.{body, console_of, equals, equals_by, formed, gives, job, job_by, labels_by, labels_of, operation, sixbit, with_one}
-use Rattle.its_asm.specs.Instruction.{alone, instruction, whole}
+use Rattle.its_asm.specs.Statement.{body, console_named, equals, equals_by, formed, gives, job, job_by, labels_by, labels_of, operation, sixbit, with_one}
+use Rattle.its_asm.specs.Instruction.{without_literal, instruction, whole}
 use Rattle.its_asm.specs.Layout.{statement_at}
 use Rattle.its_asm.specs.declared.instruction.Item.{Item}
 use Rattle.its_asm.specs.declared.layout.Stage.{Stage}
@@ -103,7 +103,7 @@ unfolding with_one
 with_one_fits earlier s first text =
     choose BodyFits (bytes_eq first (codes "LOC")) _ _ (λ t. formed_fits (λ v. Loc v) (expression earlier text) (λ v e. tt) (λ e. tt)) (λ f.
     choose BodyFits (bytes_eq first (codes "GO")) _ _ (λ t. formed_fits (λ v. Go v) (expression s text) (λ v e. expression_below s text v e) (λ e. tt)) (λ f.
-    choose BodyFits (bytes_eq first (codes "WORD")) _ _ (λ t. gives_fits (given (whole s text) (λ w. Ok (alone w)))) (λ f.
+    choose BodyFits (bytes_eq first (codes "WORD")) _ _ (λ t. gives_fits (given (whole s text) (λ w. Ok (without_literal w)))) (λ f.
     choose BodyFits (bytes_eq first (codes "SIXBIT")) _ _ (λ t. gives_fits (sixbit text)) (λ f.
     operation_fits s text (opcode_named first)))))
 
@@ -133,7 +133,7 @@ IsJob Nothing = Unit {0}
 IsJob (Job u j console) = JobFits u j console
 IsJob other = ⊥
 
-console_fits : (word : List ℕ) → IfSome (console_of word) (λ c. IfSome c (λ k. k ≤ 7))
+console_fits : (word : List ℕ) → IfSome (console_named word) (λ c. IfSome c (λ k. k ≤ 7))
 console_fits word =
     choose (λ c. IfSome c (λ k. k ≤ 7)) (bytes_eq word (codes "-")) (Some None) _ (λ t. tt) (λ f.
     choose (λ c. IfSome c (λ k. k ≤ 7)) (is_octal word) _ None (λ t.
@@ -141,7 +141,7 @@ console_fits word =
 
 job_fits : (words : List (List ℕ)) → IfSome (job words) IsJob
 unfolding job
-job_fits (first ∷ u ∷ j ∷ c ∷ []) = choose IsJob (bytes_eq first (codes "JOB")) _ None (λ t. by (console_of c) (console_fits c)) (λ f. tt)
+job_fits (first ∷ u ∷ j ∷ c ∷ []) = choose IsJob (bytes_eq first (codes "JOB")) _ None (λ t. by (console_named c) (console_fits c)) (λ f. tt)
   where
     by : (o : Option (Option ℕ)) → IfSome o (λ k. IfSome k (λ n. n ≤ 7)) → IfSome (job_by u j o) IsJob
     by None h = tt

@@ -21,7 +21,7 @@ abbrev pub rises : List (ℕ × ℕ) → Bool
 rises [] = true
 rises (c ∷ cells) = rises_from c.0 cells
 
-pub record Fits (i : Image) : Type 0 where
+pub record ImageFits (i : Image) : Type 0 where
   pub uname : IsNameWord i.u
   pub jname : IsNameWord i.j
   pub console : IfSome i.console (λ k. k ≤ 7)

@@ -2,7 +2,7 @@
 ghost use Rattle.std.specs.Prelude.{◌≡◌, ◌≤◌, ◌<◌, ◌+◌, ◌^◌, ◌∷◌, ◌++◌, [], length, All, IfOk, OnOk};
 ghost use Rattle.its_session.specs.Fits.{EventFits};
 ghost use Rattle.its_assembly.specs.Written.{image_events, rows, rows_from, symbol_lines};
-ghost use Rattle.its_assembly.specs.Image.{Fits, CellFits, SymbolFits};
+ghost use Rattle.its_assembly.specs.Image.{ImageFits, CellFits, SymbolFits};
 ghost use Rattle.its_assembly.specs.Made.{Adds, AddsRow, RowFits, IsSessionOf};
 ghost use Rattle.its_word.specs.declared.session.Event.TheVariants as events;
 
@@ -19,7 +19,7 @@ const MOST_SYMBOLS: u32 = 512;
 /// The session of an image: its lines, each of which reads as its event.
 #[tactic(auto, using(crate::proofs::AddsLaws::session_adds))]
 pub fn session_text(alloc: Global, image: &Image) -> Result<Vec<u8>, AllocError>
-    requires fits { Fits image.now }
+    requires fits { ImageFits image.now }
     ensures session { IfOk result (λ t. IsSessionOf image.now t.items) }
 {
     let (u, j, console) = (image.u, image.j, image.console);

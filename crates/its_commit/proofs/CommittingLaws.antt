@@ -28,7 +28,7 @@ use Rattle.its_plain.specs.Machine.{changed}
 use Rattle.its_stepped.specs.Commit.{effect_on, effects_on, committed, gone_on, owed_by, given_up, owed_part, owed_parts, owed_store}
 use Rattle.its_stepped.specs.State.{State, mine, with_slot, same, ending, waiting}
 use Rattle.its_commit.specs.Built.{CanMake, CanMakeAll, backed}
-use Rattle.its_commit.specs.Carried.{standing_of, Ready, Endable}
+use Rattle.its_commit.specs.Carried.{standing_of, CanCommit, Endable}
 use Rattle.its_world.specs.World.{state_of, marking, mark_of, parts_left, frame_at, FrameBecomes}
 use Rattle.its_world.specs.declared.world.World.{World}
 use Rattle.its_world.proofs.StateLaws.{kept_slot}
@@ -109,8 +109,8 @@ pub stands_kept : (old mid : World) (s : ℕ) (cs : List Change) → state_of mi
 stands_kept old mid s cs e b h = ap (λ f. is_some (standing_of f)) (frame_kept old mid s cs e b) ∙ h
 
 -- what is asked of a decision, by its kind
-pub ready_for : (o : Option Holding) (w : State) (s : ℕ) (d e : Decision) → d ≡ e → IfSome o (λ f. Ready w s f d) → IfSome o (λ f. Ready w s f e)
-ready_for o w s d e h r = subst (λ (x : Decision). IfSome o (λ f. Ready w s f x)) h r
+pub ready_for : (o : Option Holding) (w : State) (s : ℕ) (d e : Decision) → d ≡ e → IfSome o (λ f. CanCommit w s f d) → IfSome o (λ f. CanCommit w s f e)
+ready_for o w s d e h r = subst (λ (x : Decision). IfSome o (λ f. CanCommit w s f x)) h r
 
 pub ends_built : (o : Option Holding) (w : State) (s n : ℕ) (cs : List Change) → is_some o ≡ true → IfSome o (λ f. CanMakeAll cs s w × Endable (effects_on cs s w) s f n)
     → CanMakeAll cs s w

@@ -33,7 +33,7 @@ use Rattle.its_stepped.proofs.ForestLaws.{forest_few}
 use Rattle.its_stepped.proofs.LogoutDuty.{among_left, among_right, among_below}
 use Rattle.its_plain.proofs.TargetLaws.{target_on, reach_named}
 use Rattle.its_commit.specs.Built.{Removable}
-use Rattle.its_commit.specs.Carried.{standing_of, Ready}
+use Rattle.its_commit.specs.Carried.{standing_of, CanCommit}
 use Rattle.its_commit.proofs.CommittingLaws.{all_mild}
 use Rattle.its_commit.proofs.RemovalLaws.{no_page}
 use Rattle.its_commit.proofs.CanLaws.{DecisionCan, decision_on}
@@ -144,7 +144,7 @@ parts_after cs j v h sound stands quiet =
     let k = m.few in omega arith
 
 pub ready_by : (v : State) (j : ℕ) (own : Whole) (h : Holding) (d : Decision) → Sound v → standing_of (v.frames j) ≡ Some h → length (debts h.ask h.owes) ≡ h.owes
-    → DecisionCan d j v → Duty v j own h.site h.ask h.owes d → Ready v j h d
+    → DecisionCan d j v → Duty v j own h.site h.ask h.owes d → CanCommit v j h d
 ready_by v j own h (Waits r) sound stands read can duty = tt
 ready_by v j own h (Goes cs b vs) sound stands read can duty = can
 ready_by v j own h (Ends cs ss e) sound stands read can duty = (

@@ -40,7 +40,7 @@ use Rattle.its_stepped.proofs.ViewLaws.{StillAt, target_seen, reach_plain, helps
 use Rattle.its_stepped.proofs.ForestLaws.{forest_raw}
 use Rattle.its_world.specs.World.{alarm_at, raw_of, raw_at, frame_at, state_of}
 use Rattle.its_world.specs.declared.world.World.{World}
-use Rattle.its_commit.specs.Carried.{standing_of, pace_of, Ready}
+use Rattle.its_commit.specs.Carried.{standing_of, pace_of, CanCommit}
 use Rattle.its_commit.proofs.ReadyLaws.{still_at, target_reached, waits_reach, ready_by, decision_can}
 use Rattle.its_commit.proofs.CanLaws.{DecisionCan}
 
@@ -123,7 +123,7 @@ pub record Tries (w v : State) (j : ℕ) (q : Whole) (h : Holding) (d : Decision
   pub cleared : Cleared w v j q h
   pub decides : decision (plain w) j (seen (w.frames j) q) h.ask ≡ d
   pub can : DecisionCan d j v
-  pub ready : Ready v j h d
+  pub ready : CanCommit v j h d
   pub row : tick_in w j q (w.frames j) ≡ carried v j h d
   pub ticks : tick w j ≡ carried v j h d
 
@@ -243,9 +243,9 @@ unfolding state_of
 decided_there w s q a d e h = subst (λ (o : Option Whole). IfSome o (λ q. d ≡ decision (state_of w).raw s q a)) e h
 
 pub ready_there : (old mid : World) (s : ℕ) (q : Whole) (h : Holding) (d : Decision) → Tries (state_of old) (state_of mid) s q h d
-    → IfSome (standing_of (frame_at mid.frames.items s)) (λ f. Ready (state_of mid) s f d)
+    → IfSome (standing_of (frame_at mid.frames.items s)) (λ f. CanCommit (state_of mid) s f d)
 unfolding state_of
-ready_there old mid s q h d t = subst (λ (o : Option Holding). IfSome o (λ f. Ready (state_of mid) s f d)) (sym t.cleared.stands) t.ready
+ready_there old mid s q h d t = subst (λ (o : Option Holding). IfSome o (λ f. CanCommit (state_of mid) s f d)) (sym t.cleared.stands) t.ready
 
 pub ticked : (old mid new : World) (s : ℕ) (q : Whole) (h : Holding) (d : Decision) → Tries (state_of old) (state_of mid) s q h d
     → IfSome (standing_of (frame_at mid.frames.items s)) (λ f. state_of new ≡ committed (state_of mid) s f.site f.ask f.owes d)

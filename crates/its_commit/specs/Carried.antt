@@ -32,11 +32,11 @@ pub record Endable (w : State) (s : ℕ) (f : Holding) (stores : ℕ) : Type 0 w
   pub few : length (owed_parts w.mark s) + kept (w.reserved s) + f.owes + stores ≤ 3
 
 -- the changes can be made, and the rest can be done
-abbrev pub Ready : State → ℕ → Holding → Decision → Type 0
-Ready w s f (Waits r) = Unit {0}
-Ready w s f (Goes cs h vs) = CanMakeAll cs.items s w
-Ready w s f (Ends cs ss e) = CanMakeAll cs.items s w × Endable (effects_on cs.items s w) s f (length ss.items)
-Ready w s f (Gone cs) = CanMakeAll cs.items s (effect_on (Remove s) s w) × Removable w s
+abbrev pub CanCommit : State → ℕ → Holding → Decision → Type 0
+CanCommit w s f (Waits r) = Unit {0}
+CanCommit w s f (Goes cs h vs) = CanMakeAll cs.items s w
+CanCommit w s f (Ends cs ss e) = CanMakeAll cs.items s w × Endable (effects_on cs.items s w) s f (length ss.items)
+CanCommit w s f (Gone cs) = CanMakeAll cs.items s (effect_on (Remove s) s w) × Removable w s
 
 -- the next stage of a call of which a part is done
 abbrev pub next_stays : Bool → ℕ → Next

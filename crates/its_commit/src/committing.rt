@@ -10,7 +10,7 @@ ghost use Rattle.its_stepped.specs.State.{ending, waiting};
 ghost use Rattle.its_world.specs.Tidy.{Tidy};
 ghost use Rattle.its_commit.specs.Built.{backed};
 ghost use Rattle.its_commit.specs.Pages.{pages_carried};
-ghost use Rattle.its_commit.specs.Carried.{standing_of, next_of, Ready, Endable};
+ghost use Rattle.its_commit.specs.Carried.{standing_of, next_of, CanCommit, Endable};
 ghost use Rattle.its_world.specs.World.{state_of, frame_at, FrameBecomes};
 
 use super::carrying::owed_steps;
@@ -29,7 +29,7 @@ pub fn carry_out(w: &mut World, slot: u8, decision: Decision)
     requires slot { slot < slots }
     requires job { is_some (job_at w.old.jobs slot) ≡ true }
     requires stands { is_some (standing_of (frame_at w.old.frames.items slot)) ≡ true }
-    requires ready { IfSome (standing_of (frame_at w.old.frames.items slot)) (λ f. Ready (state_of w.old) slot f decision) }
+    requires ready { IfSome (standing_of (frame_at w.old.frames.items slot)) (λ f. CanCommit (state_of w.old) slot f decision) }
     requires tidy { Tidy w.old }
     ensures row { IfSome (standing_of (frame_at w.old.frames.items slot)) (λ f. state_of w.new ≡ committed (state_of w.old) slot f.site f.ask f.owes decision) }
     ensures pages { w.new.core.frames ≡ pages_carried decision slot (state_of w.old) w.old.core.frames }

@@ -14,7 +14,7 @@ use Rattle.its_machine.proofs.RoomLaws.{full_on}
 use Rattle.its_machine.proofs.StandLaws as stands
 use Rattle.its_machine.specs.Called.{channel_under}
 use Rattle.its_decide.specs.Called.{looks}
-use Rattle.its_decide.specs.Fits.{Fits}
+use Rattle.its_decide.specs.Fits.{SeenFits}
 use Rattle.its_decide.specs.declared.caller.Caller.{Caller}
 use Rattle.its_machine.proofs.NumberLaws.{held, reading_number, writing_number}
 use Rattle.its_machine.proofs.SeenLaws.{chan_seen}
@@ -30,18 +30,18 @@ module _ (c : Caller) where
   pub seen_reads : (names : Names) (k n : ℕ) → reads names (channels_in (looks c) k n) ≡ reads names (chan_of files (channel_at c.seen.now.jobs.now k n))
   seen_reads names k n = ap (reads names) (seen_channel k n)
 
-  pub file_of_channel : (k n f at : ℕ) → Fits c.seen.now → channel_at c.seen.now.jobs.now k n ≡ Reading f at → is_some (entry_at files f) ≡ true
+  pub file_of_channel : (k n f at : ℕ) → SeenFits c.seen.now → channel_at c.seen.now.jobs.now k n ≡ Reading f at → is_some (entry_at files f) ≡ true
   file_of_channel k n f at fits e = file_stands (entry_at files f) (stands.reading_file files c.seen.now.jobs.now fits.across k n f at e)
 
   -- what a channel of the caller is on exists
-  pub reading_file : (n f at : ℕ) → Fits c.seen.now → channel_under c.job.now n ≡ Reading f at → is_file (entry_at files f) ≡ true
+  pub reading_file : (n f at : ℕ) → SeenFits c.seen.now → channel_under c.job.now n ≡ Reading f at → is_file (entry_at files f) ≡ true
   reading_file n f at fits e = stands.reading_file files c.seen.now.jobs.now fits.across c.slot n f at (held c.seen.now.jobs.now c.slot n c.job.now (Reading f at) c.stands e (λ z. cc))
 
-  pub writing_draft : (n d : ℕ) → Fits c.seen.now → channel_under c.job.now n ≡ Writing d → is_draft (entry_at files d) ≡ true
+  pub writing_draft : (n d : ℕ) → SeenFits c.seen.now → channel_under c.job.now n ≡ Writing d → is_draft (entry_at files d) ≡ true
   writing_draft n d fits e = stands.writing_draft files c.seen.now.jobs.now fits.across c.slot n d (held c.seen.now.jobs.now c.slot n c.job.now (Writing d) c.stands e (λ z. cc))
 
   -- whether there is no room for a word more
-  pub seen_full : (d : ℕ) → Fits c.seen.now → IsStore files → length (free_blocks files.stored.chains) + blocks_used files.stored ≡ blocks
+  pub seen_full : (d : ℕ) → SeenFits c.seen.now → IsStore files → length (free_blocks files.stored.chains) + blocks_used files.stored ≡ blocks
       → is_full files.stored d ≡ has_no_room (directory files) (channels_in (looks c)) (words_at files d)
   seen_full d fits whole sum =
       full_on files whole fits.unmarked c.seen.now.jobs.now d fits.across (omega arith)

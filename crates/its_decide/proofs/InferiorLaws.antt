@@ -18,7 +18,7 @@ use Rattle.its_plain.specs.View.{job_at as job_seen, view}
 use Rattle.its_plain.proofs.TargetLaws.{target_on}
 use Rattle.its_machine.specs.Called.{channel_under}
 use Rattle.its_decide.specs.Called.{looks, raw}
-use Rattle.its_decide.specs.Fits.{Fits, OnJob}
+use Rattle.its_decide.specs.Fits.{SeenFits, OnJob}
 use Rattle.its_decide.specs.Seen.{machine_seen}
 use Rattle.its_decide.specs.Targets.{Targets}
 use Rattle.its_decide.specs.declared.caller.Caller.{Caller}
@@ -26,17 +26,17 @@ use Rattle.its_machine.proofs.NumberLaws.{held, usr_number, usr_on}
 use Rattle.its_machine.proofs.SeenLaws.{core_here, free_seen}
 
 module _ (c : Caller) where
-  stands : (n k at : ℕ) (b : Bool) → Fits c.seen.now → channel_under c.job.now n ≡ Usr k b at → is_some (job_at c.seen.now.jobs.now k) ≡ true
+  stands : (n k at : ℕ) (b : Bool) → SeenFits c.seen.now → channel_under c.job.now n ≡ Usr k b at → is_some (job_at c.seen.now.jobs.now k) ≡ true
   stands n k at b fits e = subst (OnJob c.seen.now.jobs.now) (held c.seen.now.jobs.now c.slot n c.job.now (Usr k b at) c.stands e (λ z. cc)) (fits.aimed c.slot n)
 
-  few : (k : ℕ) → Fits c.seen.now → is_some (job_at c.seen.now.jobs.now k) ≡ true → k < slots
+  few : (k : ℕ) → SeenFits c.seen.now → is_some (job_at c.seen.now.jobs.now k) ≡ true → k < slots
   few k fits h = elim (cases_lt k slots) [
     | inl lt ↦ lt
     | inr ge ↦ absurd (let e = ap is_some (fits.few k ge) in cc)
   ]
 
   -- the call reaches it
-  pub targets : (m : CallName) (i k at : ℕ) (b : Bool) → Fits c.seen.now → c.ask.now.fail ≡ 0 → call_named c.ask.now.name ≡ Some m → reaching m ≡ Some i → channel_under c.job.now (input c.ask.now i) ≡ Usr k b at
+  pub targets : (m : CallName) (i k at : ℕ) (b : Bool) → SeenFits c.seen.now → c.ask.now.fail ≡ 0 → call_named c.ask.now.name ≡ Some m → reaching m ≡ Some i → channel_under c.job.now (input c.ask.now i) ≡ Usr k b at
       → Targets c (input c.ask.now i) k
   unfolding view
   targets m i k at b fits z e names on =
@@ -49,7 +49,7 @@ module _ (c : Caller) where
       }
 
   -- the calls that reach an inferior
-  module _ (k at : ℕ) (b : Bool) (fits : Fits c.seen.now) (z : c.ask.now.fail ≡ 0) where
+  module _ (k at : ℕ) (b : Bool) (fits : SeenFits c.seen.now) (z : c.ask.now.fail ≡ 0) where
     pub iot_targets : call_named c.ask.now.name ≡ Some Iot → channel_under c.job.now (input c.ask.now 0) ≡ Usr k b at → Targets c (input c.ask.now 0) k
     iot_targets e on = targets Iot 0 k at b fits z e refl on
 
@@ -73,7 +73,7 @@ module _ (c : Caller) where
   other_stored n k at t = ap (λ d. can_store d at) t.core
 
   -- the least slot in which the call sees no job
-  pub free_slot : Fits c.seen.now → least_free (looks c).limit (looks c).outlines ≡ least_free c.seen.now.jobs.now.limit (job_at c.seen.now.jobs.now)
+  pub free_slot : SeenFits c.seen.now → least_free (looks c).limit (looks c).outlines ≡ least_free c.seen.now.jobs.now.limit (job_at c.seen.now.jobs.now)
   unfolding view
   free_slot fits = free_seen c.seen.now.files.now c.seen.now.core.now c.seen.now.jobs.now c.seen.now.alarms.now.items (looks c).limit fits.limited
 

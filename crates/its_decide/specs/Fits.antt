@@ -17,7 +17,7 @@ OnJob t _ = Unit {0}
 
 -- the numbers in channels fit the files and drafts, of which none is being closed, and the jobs, which have slots; a
 -- slot without a job has no page; and the limit of jobs is that of the version
-pub record Fits (s : Seen) : Type 0 where
+pub record SeenFits (s : Seen) : Type 0 where
   pub across : Across s.files.now s.jobs.now
   pub unmarked : s.files.now.mark ≡ None
   pub aimed : (k n : ℕ) → OnJob s.jobs.now (channel_at s.jobs.now k n)

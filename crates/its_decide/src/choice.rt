@@ -12,7 +12,7 @@ ghost use Rattle.its_plain.specs.Decide.{call_named, decided, target};
 ghost use Rattle.its_plain.specs.OperatorClock.{clock_end};
 ghost use Rattle.its_plain.specs.Own.{advanced, exit_of};
 ghost use Rattle.its_decide.specs.Called.{looks};
-ghost use Rattle.its_decide.specs.Fits.{Fits};
+ghost use Rattle.its_decide.specs.Fits.{SeenFits};
 ghost use Rattle.its_decide.specs.Seen.{machine_seen, raw_with};
 
 use super::arguments::{channel, input, is_oneself};
@@ -30,7 +30,7 @@ const USR: u64 = 0o656362000000;
 pub fn decide(seen: &Seen<'_>, slot: u8, job: &Job, ask: &Ask) -> Decision
     requires slot { slot < slots }
     requires job { job_at seen.now.jobs.now slot ≡ Some job.now }
-    requires fits { Fits seen.now }
+    requires fits { SeenFits seen.now }
     requires clock { seen.now.clock < clock_end }
     ensures { result ≡ decision (machine_seen seen.now) slot (raw_with seen.now slot job.now) ask.now }
 {
@@ -73,7 +73,7 @@ impl Caller<'_> {
     /// The decision of the call of the caller, by its name. An error of its decoding comes first.
     #[tactic(auto, unfolding(its_plain::specs::Decide::decided, its_plain::specs::View::view))]
     fn decided(&self) -> Decision
-        requires fits { Fits self.now.seen.now }
+        requires fits { SeenFits self.now.seen.now }
         requires clock { self.now.seen.now.clock < clock_end }
         ensures { result ≡ decided (looks self.now) self.now.ask.now }
     {
@@ -108,7 +108,7 @@ impl Caller<'_> {
     /// OPEN by its device: any but DSK, USR and LNK has to be TTY.
     #[tactic(auto, unfolding(its_plain::specs::CallDevice::open_call))]
     fn open(&self) -> Decision
-        requires { Fits self.now.seen.now }
+        requires { SeenFits self.now.seen.now }
         ensures { result ≡ open_call (looks self.now) self.now.ask.now }
     {
         match self.input(1).value() {
@@ -123,7 +123,7 @@ impl Caller<'_> {
     /// and those of a draft.
     #[tactic(auto, using(its_machine::proofs::NumberLaws::under, its_machine::proofs::NumberLaws::numbers), unfolding(its_plain::specs::CallDevice::close_call, its_plain::specs::View::view))]
     fn close(&self) -> Decision
-        requires { Fits self.now.seen.now }
+        requires { SeenFits self.now.seen.now }
         ensures { result ≡ close_call (looks self.now) self.now.ask.now }
     {
         match self.channel(self.input(0)) {
@@ -152,7 +152,7 @@ impl Caller<'_> {
     fn iot(&self) -> Decision
         requires fail { self.now.ask.now.fail ≡ 0 }
         requires name { call_named self.now.ask.now.name ≡ Some Iot }
-        requires fits { Fits self.now.seen.now }
+        requires fits { SeenFits self.now.seen.now }
         ensures { result ≡ iot_call (looks self.now) self.now.ask.now }
     {
         match self.channel(self.input(0)) {
@@ -172,7 +172,7 @@ impl Caller<'_> {
     fn siot(&self) -> Decision
         requires fail { self.now.ask.now.fail ≡ 0 }
         requires name { call_named self.now.ask.now.name ≡ Some Siot }
-        requires fits { Fits self.now.seen.now }
+        requires fits { SeenFits self.now.seen.now }
         ensures { result ≡ siot_call (looks self.now) self.now.ask.now }
     {
         match self.channel(self.input(0)) {

@@ -2,7 +2,7 @@
 ghost use Rattle.std.specs.Prelude.{◌≡◌, ◌==◌, false, true, length, not, slice_get, slice_index_or, unwrap_or};
 ghost use Rattle.its_word.specs.Byte.{has_size};
 ghost use Rattle.its_plain.specs.Arguments.{input};
-ghost use Rattle.its_plain.specs.CallTty.{can_take, console_of, finish, first_typed, input_waits, iot_in, iot_out, is_holder, is_other, lands, listen, listens, opens, output_left, output_waits, shown_byte, siot_in, siot_out, ttylnd};
+ghost use Rattle.its_plain.specs.CallTty.{can_take, view_console, finish, first_typed, input_waits, iot_in, iot_out, is_holder, is_other, lands, listen, listens, opens, output_left, output_waits, shown_byte, siot_in, siot_out, ttylnd};
 ghost use Rattle.its_plain.specs.CallBasic.{is_superior};
 ghost use Rattle.its_plain.specs.Transfer.{next_pointer, siot_by};
 ghost use Rattle.its_decide.specs.Called.{looks};
@@ -35,8 +35,8 @@ impl Caller<'_> {
     /// The numbers of bytes that wait at the caller's console, as input and as output.
     #[tactic(auto, unfolding(its_plain::specs::View::view))]
     fn waiting(&self) -> (u32, u32)
-        ensures input { result.0 ≡ length ((looks self.now).consoles (console_of (looks self.now))).input }
-        ensures output { result.1 ≡ length ((looks self.now).consoles (console_of (looks self.now))).output }
+        ensures input { result.0 ≡ length ((looks self.now).consoles (view_console (looks self.now))).input }
+        ensures output { result.1 ≡ length ((looks self.now).consoles (view_console (looks self.now))).output }
     {
         match self.seen.consoles.get(usize::from(self.console())) {
             Some(console) => console.waiting(),
@@ -47,7 +47,7 @@ impl Caller<'_> {
     /// The first byte of its input; 0 if there is none.
     #[tactic(auto, unfolding(its_plain::specs::View::view))]
     fn first_typed(&self) -> Word
-        ensures { result ≡ first_typed (looks self.now) (console_of (looks self.now)) }
+        ensures { result ≡ first_typed (looks self.now) (view_console (looks self.now)) }
     {
         let first = match self.seen.consoles.get(usize::from(self.console())) {
             Some(console) => console.first().unwrap_or(0),
@@ -59,7 +59,7 @@ impl Caller<'_> {
     /// Who holds it.
     #[tactic(auto, unfolding(its_plain::specs::View::view))]
     fn holder(&self) -> Option<u8>
-        ensures { result ≡ (looks self.now).holders (console_of (looks self.now)) }
+        ensures { result ≡ (looks self.now).holders (view_console (looks self.now)) }
     {
         let holders = self.seen.holders;
         match holders.get(usize::from(self.console())) {
@@ -71,7 +71,7 @@ impl Caller<'_> {
     /// Whether another job holds it.
     #[tactic(auto, unfolding(its_plain::specs::View::view))]
     fn is_other(&self) -> bool
-        ensures { result ≡ is_other self.now.slot ((looks self.now).holders (console_of (looks self.now))) }
+        ensures { result ≡ is_other self.now.slot ((looks self.now).holders (view_console (looks self.now))) }
     {
         match self.holder() {
             Some(h) => h != self.slot,
@@ -82,7 +82,7 @@ impl Caller<'_> {
     /// Whether it gives the caller no byte.
     #[tactic(auto, unfolding(its_plain::specs::View::view))]
     fn input_waits(&self) -> bool
-        ensures { result ≡ input_waits (looks self.now) (console_of (looks self.now)) }
+        ensures { result ≡ input_waits (looks self.now) (view_console (looks self.now)) }
     {
         self.waiting().0 == 0 || self.is_other()
     }
@@ -90,7 +90,7 @@ impl Caller<'_> {
     /// Whether it takes no byte of the caller.
     #[tactic(auto, unfolding(its_plain::specs::View::view))]
     fn output_waits(&self) -> bool
-        ensures { result ≡ output_waits (looks self.now) (console_of (looks self.now)) }
+        ensures { result ≡ output_waits (looks self.now) (view_console (looks self.now)) }
     {
         self.waiting().1 >= RING_BYTES || self.is_other()
     }
@@ -98,7 +98,7 @@ impl Caller<'_> {
     /// Whether output of it is not drained yet.
     #[tactic(auto, unfolding(its_plain::specs::View::view))]
     fn output_left(&self) -> bool
-        ensures { result ≡ output_left (looks self.now) (console_of (looks self.now)) }
+        ensures { result ≡ output_left (looks self.now) (view_console (looks self.now)) }
     {
         self.waiting().1 != 0
     }
@@ -131,7 +131,7 @@ impl Caller<'_> {
     /// The number of bytes of input, once all output is drained.
     #[tactic(auto, unfolding(its_plain::specs::View::view))]
     fn listened(&self) -> Decision
-        ensures { result ≡ listens (looks self.now) self.now.ask.now (console_of (looks self.now)) }
+        ensures { result ≡ listens (looks self.now) self.now.ask.now (view_console (looks self.now)) }
     {
         if self.output_left() {
             return Decision::Waits(Wait::Drained(self.console()));
@@ -159,7 +159,7 @@ impl Caller<'_> {
     /// Whether the caller can take its console for itself: nobody holds it, or the caller, or one of its inferiors.
     #[tactic(auto, unfolding(its_plain::specs::View::view))]
     fn can_take(&self) -> bool
-        ensures { result ≡ can_take (looks self.now) ((looks self.now).holders (console_of (looks self.now))) }
+        ensures { result ≡ can_take (looks self.now) ((looks self.now).holders (view_console (looks self.now))) }
     {
         match self.holder() {
             Some(h) => h == self.slot || self.is_superior_of(h),
@@ -181,7 +181,7 @@ impl Caller<'_> {
     /// Whether the caller holds its console.
     #[tactic(auto, unfolding(its_plain::specs::View::view))]
     fn is_holder(&self) -> bool
-        ensures { result ≡ is_holder (looks self.now) ((looks self.now).holders (console_of (looks self.now))) }
+        ensures { result ≡ is_holder (looks self.now) ((looks self.now).holders (view_console (looks self.now))) }
     {
         match self.holder() {
             Some(h) => h == self.slot,
@@ -235,7 +235,7 @@ impl Caller<'_> {
     /// `.IOT` from a console: its first byte becomes the word at E, right-justified. MPV or WRO by the word.
     #[tactic(auto, unfolding(its_plain::specs::View::view))]
     pub(crate) fn iot_in(&self) -> Decision
-        ensures { result ≡ iot_in (looks self.now) (slice_index_or self.now.ask.now.outputs.items 0 0) (console_of (looks self.now)) }
+        ensures { result ≡ iot_in (looks self.now) (slice_index_or self.now.ask.now.outputs.items 0 0) (view_console (looks self.now)) }
     {
         let e = self.address();
         if let Some(fault) = self.bar(e) {
@@ -255,7 +255,7 @@ impl Caller<'_> {
     /// `.IOT` to a console: the byte in the word at E is put out. MPV by the word.
     #[tactic(auto, unfolding(its_plain::specs::View::view))]
     pub(crate) fn iot_out(&self) -> Decision
-        ensures { result ≡ iot_out (looks self.now) (slice_index_or self.now.ask.now.outputs.items 0 0) (console_of (looks self.now)) }
+        ensures { result ≡ iot_out (looks self.now) (slice_index_or self.now.ask.now.outputs.items 0 0) (view_console (looks self.now)) }
     {
         let Some(word) = self.seen.core.word(self.slot, self.address()) else {
             return self.faults(Fault::Mpv);
@@ -274,7 +274,7 @@ impl Caller<'_> {
 
     /// SIOT from a console: one byte, which is held and stored by the next step; pointer and count become those of the rest.
     pub(crate) fn siot_in(&self) -> Decision
-        ensures { result ≡ siot_by (looks self.now) self.now.ask.now false false (siot_in (looks self.now) self.now.ask.now (next_pointer (input self.now.ask.now 1)) (input self.now.ask.now 2) (console_of (looks self.now))) }
+        ensures { result ≡ siot_by (looks self.now) self.now.ask.now false false (siot_in (looks self.now) self.now.ask.now (next_pointer (input self.now.ask.now 1)) (input self.now.ask.now 2) (view_console (looks self.now))) }
     {
         match self.next_byte(false, false) {
             Ok(next) => self.takes_byte(next),
@@ -285,7 +285,7 @@ impl Caller<'_> {
     /// The byte of the next pointer comes from a console.
     #[tactic(auto, unfolding(its_plain::specs::View::view))]
     fn takes_byte(&self, next: Word) -> Decision
-        ensures { result ≡ siot_in (looks self.now) self.now.ask.now next (input self.now.ask.now 2) (console_of (looks self.now)) }
+        ensures { result ≡ siot_in (looks self.now) self.now.ask.now next (input self.now.ask.now 2) (view_console (looks self.now)) }
     {
         let place = next.right();
         if let Some(fault) = self.bar(place) {
@@ -304,7 +304,7 @@ impl Caller<'_> {
 
     /// SIOT to a console: one byte; pointer and count become those of the rest.
     pub(crate) fn siot_out(&self) -> Decision
-        ensures { result ≡ siot_by (looks self.now) self.now.ask.now false false (siot_out (looks self.now) self.now.ask.now (next_pointer (input self.now.ask.now 1)) (input self.now.ask.now 2) (console_of (looks self.now))) }
+        ensures { result ≡ siot_by (looks self.now) self.now.ask.now false false (siot_out (looks self.now) self.now.ask.now (next_pointer (input self.now.ask.now 1)) (input self.now.ask.now 2) (view_console (looks self.now))) }
     {
         match self.next_byte(false, false) {
             Ok(next) => self.puts_byte(next),
@@ -316,7 +316,7 @@ impl Caller<'_> {
     #[tactic(auto, unfolding(its_plain::specs::View::view))]
     fn puts_byte(&self, next: Word) -> Decision
         requires { has_size next ≡ true }
-        ensures { result ≡ siot_out (looks self.now) self.now.ask.now next (input self.now.ask.now 2) (console_of (looks self.now)) }
+        ensures { result ≡ siot_out (looks self.now) self.now.ask.now next (input self.now.ask.now 2) (view_console (looks self.now)) }
     {
         let Some(word) = self.seen.core.word(self.slot, next.right()) else {
             return self.faults(Fault::Mpv);

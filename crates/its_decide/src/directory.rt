@@ -9,7 +9,7 @@ ghost use Rattle.its_plain.specs.CallFile.{channels_in, closes_draft, delete, ha
 ghost use Rattle.its_machine.specs.Across.{channel_at};
 ghost use Rattle.its_decide.specs.Called.{looks};
 ghost use Rattle.its_decide.specs.Directory.{error_of_file};
-ghost use Rattle.its_decide.specs.Fits.{Fits};
+ghost use Rattle.its_decide.specs.Fits.{SeenFits};
 ghost use Rattle.its_word.specs.declared.jobs.Channel.TheVariants.{Writing};
 ghost use Rattle.its_machine.specs.Called.{channel_under};
 
@@ -46,7 +46,7 @@ impl Caller<'_> {
     /// Whether any channel of any job reads the file with these names.
     #[tactic(auto, unfolding(its_plain::specs::CallFile::is_read))]
     fn is_read(&self, names: [Word; 3]) -> bool
-        requires { Fits self.now.seen.now }
+        requires { SeenFits self.now.seen.now }
         ensures { result ≡ is_read names (channels_in (looks self.now)) }
     {
         (0..SLOTS as u8).any(|k| self.is_reader(k, names))
@@ -55,7 +55,7 @@ impl Caller<'_> {
     /// Whether a channel of the job of a slot reads the file with these names.
     #[tactic(auto, unfolding(its_plain::specs::View::view))]
     fn is_reader(&self, slot: u8, names: [Word; 3]) -> bool
-        requires { Fits self.now.seen.now }
+        requires { SeenFits self.now.seen.now }
         ensures { result ≡ list_any (λ n. reads names (channels_in (looks self.now) slot n)) (range_with_len 0 16) }
     {
         (0..CHANNELS).any(|n| self.reads(slot, n, names))
@@ -64,7 +64,7 @@ impl Caller<'_> {
     /// Whether channel n of the job of a slot reads the file with these names.
     #[tactic(auto, using(crate::proofs::FileLaws::seen_reads, crate::proofs::FileLaws::file_of_channel))]
     fn reads(&self, slot: u8, n: usize, names: [Word; 3]) -> bool
-        requires { Fits self.now.seen.now }
+        requires { SeenFits self.now.seen.now }
         ensures { result ≡ reads names (channels_in (looks self.now) slot n) }
     {
         match self.channel_of(slot, n) {
@@ -88,7 +88,7 @@ impl Caller<'_> {
     #[tactic(auto, using(its_files::proofs::EntryLaws::draft_stands, crate::proofs::FileLaws::writing, its_machine::proofs::SeenLaws::seen_count), unfolding(its_plain::specs::CallFile::closes_draft, its_plain::specs::View::view))]
     pub(crate) fn close_draft(&self, draft: u32) -> Decision
         requires on { channel_under self.now.job.now (input self.now.ask.now 0) ≡ Writing draft }
-        requires fits { Fits self.now.seen.now }
+        requires fits { SeenFits self.now.seen.now }
         ensures { result ≡ closes_draft (looks self.now) self.now.ask.now (file_at self.now.seen.now.files.now draft) }
     {
         let names = self.seen.files.names(draft);
@@ -107,7 +107,7 @@ impl Caller<'_> {
     /// it.
     #[tactic(auto, unfolding(its_plain::specs::View::view))]
     fn error_of_file(&self, names: [Word; 3]) -> Option<u8>
-        requires { Fits self.now.seen.now }
+        requires { SeenFits self.now.seen.now }
         ensures { result ≡ error_of_file (looks self.now) self.now.ask.now names }
     {
         if self.input(0).value() != DSK {
@@ -124,7 +124,7 @@ impl Caller<'_> {
     /// DELETE device, name 1, name 2, directory. Errors 5, 6, 11.
     #[tactic(auto, unfolding(its_plain::specs::CallFile::delete, its_plain::specs::View::view))]
     pub(crate) fn delete(&self) -> Decision
-        requires { Fits self.now.seen.now }
+        requires { SeenFits self.now.seen.now }
         ensures { result ≡ delete (looks self.now) self.now.ask.now }
     {
         let [d, x, y] = self.names_from(1);
@@ -138,7 +138,7 @@ impl Caller<'_> {
     /// names, itself included.
     #[tactic(auto, unfolding(its_plain::specs::CallFile::rename, its_plain::specs::View::view))]
     pub(crate) fn rename(&self) -> Decision
-        requires { Fits self.now.seen.now }
+        requires { SeenFits self.now.seen.now }
         ensures { result ≡ rename (looks self.now) self.now.ask.now }
     {
         let [d, x, y] = self.names_from(1);

@@ -11,7 +11,7 @@ ghost use Rattle.its_word.specs.Byte.{has_size};
 ghost use Rattle.its_word.specs.declared.jobs.Channel.TheVariants.{Reading, Writing};
 ghost use Rattle.its_machine.specs.Called.{channel_under};
 ghost use Rattle.its_decide.specs.Called.{looks};
-ghost use Rattle.its_decide.specs.Fits.{Fits};
+ghost use Rattle.its_decide.specs.Fits.{SeenFits};
 
 use super::caller::Caller;
 use super::ends::{ends, moves};
@@ -49,7 +49,7 @@ impl Caller<'_> {
     /// position is past the end.
     #[tactic(auto, using(its_machine::proofs::NumberLaws::under, crate::proofs::FileLaws::reading, its_machine::proofs::NumberLaws::usr_number), unfolding(its_plain::specs::CallFile::access, its_plain::specs::View::view))]
     pub(crate) fn access(&self) -> Decision
-        requires { Fits self.now.seen.now }
+        requires { SeenFits self.now.seen.now }
         ensures { result ≡ access (looks self.now) self.now.ask.now }
     {
         match self.channel(self.input(0)) {
@@ -76,7 +76,7 @@ impl Caller<'_> {
     /// FILLEN channel: how many words a file or a draft has. Errors 4, 5.
     #[tactic(auto, using(its_machine::proofs::NumberLaws::under, crate::proofs::FileLaws::reading, crate::proofs::FileLaws::writing, its_files::proofs::EntryLaws::draft_stands), unfolding(its_plain::specs::CallFile::fillen, its_plain::specs::View::view))]
     pub(crate) fn fillen(&self) -> Decision
-        requires { Fits self.now.seen.now }
+        requires { SeenFits self.now.seen.now }
         ensures { result ≡ fillen (looks self.now) self.now.ask.now }
     {
         match self.channel(self.input(0)) {
@@ -120,7 +120,7 @@ impl Caller<'_> {
     #[tactic(auto, using(crate::proofs::FileLaws::reading), unfolding(its_plain::specs::View::view))]
     pub(crate) fn iot_reads(&self, file: u32, at: u32) -> Decision
         requires on { channel_under self.now.job.now (input self.now.ask.now 0) ≡ Reading file at }
-        requires fits { Fits self.now.seen.now }
+        requires fits { SeenFits self.now.seen.now }
         ensures { result ≡ iot_reads (looks self.now) (slice_index_or self.now.ask.now.outputs.items 0 0) (input self.now.ask.now 0) (names_at self.now.seen.now.files.now file) at }
     {
         if let Some(fault) = self.bar(self.address()) {
@@ -136,7 +136,7 @@ impl Caller<'_> {
     #[tactic(auto, using(crate::proofs::FileLaws::writing, crate::proofs::FileLaws::seen_full, its_files::proofs::EntryLaws::draft_stands), unfolding(its_plain::specs::View::view))]
     pub(crate) fn iot_writes(&self, draft: u32) -> Decision
         requires on { channel_under self.now.job.now (input self.now.ask.now 0) ≡ Writing draft }
-        requires fits { Fits self.now.seen.now }
+        requires fits { SeenFits self.now.seen.now }
         ensures { result ≡ iot_writes (looks self.now) (slice_index_or self.now.ask.now.outputs.items 0 0) (input self.now.ask.now 0) (file_at self.now.seen.now.files.now draft) }
     {
         self.seen.files.seen();
@@ -153,7 +153,7 @@ impl Caller<'_> {
     #[tactic(auto, using(crate::proofs::FileLaws::reading), unfolding(its_plain::specs::View::view))]
     pub(crate) fn siot_reads(&self, file: u32, at: u32) -> Decision
         requires on { channel_under self.now.job.now (input self.now.ask.now 0) ≡ Reading file at }
-        requires fits { Fits self.now.seen.now }
+        requires fits { SeenFits self.now.seen.now }
         ensures { result ≡ siot_reads (looks self.now) self.now.ask.now (input self.now.ask.now 0) at (slice_get (words_of (looks self.now) (names_at self.now.seen.now.files.now file)) at) }
     {
         let word = self.word_of_file(file, at);
@@ -167,7 +167,7 @@ impl Caller<'_> {
     #[tactic(auto, unfolding(its_plain::specs::View::view))]
     pub(crate) fn siot_writes(&self, draft: u32) -> Decision
         requires on { channel_under self.now.job.now (input self.now.ask.now 0) ≡ Writing draft }
-        requires fits { Fits self.now.seen.now }
+        requires fits { SeenFits self.now.seen.now }
         ensures { result ≡ siot_writes (looks self.now) self.now.ask.now (input self.now.ask.now 0) (file_at self.now.seen.now.files.now draft) }
     {
         match self.next_byte(true, false) {
@@ -181,7 +181,7 @@ impl Caller<'_> {
     fn siot_write(&self, next: Word, draft: u32) -> Decision
         requires on { channel_under self.now.job.now (input self.now.ask.now 0) ≡ Writing draft }
         requires size { has_size next ≡ true }
-        requires fits { Fits self.now.seen.now }
+        requires fits { SeenFits self.now.seen.now }
         ensures { result ≡ siot_write (looks self.now) self.now.ask.now next (input self.now.ask.now 2) (input self.now.ask.now 0) (file_at self.now.seen.now.files.now draft) }
     {
         self.seen.files.seen();

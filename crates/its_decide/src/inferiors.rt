@@ -12,7 +12,7 @@ ghost use Rattle.its_plain.specs.Decide.{call_named};
 ghost use Rattle.its_plain.specs.Machine.{On};
 ghost use Rattle.its_machine.specs.Called.{channel_under};
 ghost use Rattle.its_decide.specs.Called.{looks};
-ghost use Rattle.its_decide.specs.Fits.{Fits};
+ghost use Rattle.its_decide.specs.Fits.{SeenFits};
 ghost use Rattle.its_decide.specs.Targets.{Targets};
 
 use super::caller::Caller;
@@ -28,7 +28,7 @@ impl Caller<'_> {
     /// Errors 4, 22; 13 if they are those of another job, 12 for input if no job has them, 14 if all slots below the limit have jobs.
     #[tactic(auto, unfolding(its_plain::specs::CallUsr::opens_usr, its_plain::specs::View::view))]
     pub(crate) fn open_usr(&self) -> Decision
-        requires { Fits self.now.seen.now }
+        requires { SeenFits self.now.seen.now }
         ensures { result ≡ opens_usr (looks self.now) self.now.ask.now }
     {
         let number = self.input(0);
@@ -75,7 +75,7 @@ impl Caller<'_> {
     /// The least slot below the limit that has no job.
     #[tactic(auto, using(crate::proofs::InferiorLaws::free_slot))]
     fn free_slot(&self) -> Option<u8>
-        requires { Fits self.now.seen.now }
+        requires { SeenFits self.now.seen.now }
         ensures { result ≡ least_free (looks self.now).limit (looks self.now).outlines }
     {
         self.seen.jobs.free()
@@ -125,7 +125,7 @@ impl Caller<'_> {
         requires on { channel_under self.now.job.now (input self.now.ask.now 0) ≡ Usr inferior write at }
         requires fail { self.now.ask.now.fail ≡ 0 }
         requires name { call_named self.now.ask.now.name ≡ Some Iot }
-        requires fits { Fits self.now.seen.now }
+        requires fits { SeenFits self.now.seen.now }
         ensures { result ≡ iot_through (looks self.now) (slice_index_or self.now.ask.now.outputs.items 0 0) (input self.now.ask.now 0) inferior write at }
     {
         if write {
@@ -194,7 +194,7 @@ impl Caller<'_> {
         requires on { channel_under self.now.job.now (input self.now.ask.now 0) ≡ Usr inferior write at }
         requires fail { self.now.ask.now.fail ≡ 0 }
         requires name { call_named self.now.ask.now.name ≡ Some Siot }
-        requires fits { Fits self.now.seen.now }
+        requires fits { SeenFits self.now.seen.now }
         ensures { result ≡ siot_through (looks self.now) self.now.ask.now (input self.now.ask.now 0) inferior write at }
     {
         if write {
@@ -274,7 +274,7 @@ impl Caller<'_> {
     pub(crate) fn usrmem(&self) -> Decision
         requires fail { self.now.ask.now.fail ≡ 0 }
         requires name { call_named self.now.ask.now.name ≡ Some Usrmem }
-        requires fits { Fits self.now.seen.now }
+        requires fits { SeenFits self.now.seen.now }
         ensures { result ≡ usrmem (looks self.now) self.now.ask.now }
     {
         match self.channel(self.input(0)) {

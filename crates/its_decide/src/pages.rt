@@ -8,7 +8,7 @@ ghost use Rattle.its_plain.specs.CallCore.{corblk, page_changed, pages_of};
 ghost use Rattle.its_plain.specs.CallUsr.{other_core};
 ghost use Rattle.its_plain.specs.Decide.{call_named};
 ghost use Rattle.its_decide.specs.Called.{looks};
-ghost use Rattle.its_decide.specs.Fits.{Fits};
+ghost use Rattle.its_decide.specs.Fits.{SeenFits};
 ghost use Rattle.its_decide.specs.Targets.{Targets};
 
 use super::arguments::is_oneself;
@@ -32,7 +32,7 @@ impl Caller<'_> {
     pub(crate) fn corblk(&self) -> Decision
         requires fail { self.now.ask.now.fail ≡ 0 }
         requires name { call_named self.now.ask.now.name ≡ Some Corblk }
-        requires fits { Fits self.now.seen.now }
+        requires fits { SeenFits self.now.seen.now }
         ensures { result ≡ corblk (looks self.now) self.now.ask.now }
     {
         let party = self.input(1);
@@ -57,7 +57,7 @@ impl Caller<'_> {
     #[tactic(auto, using(crate::proofs::InferiorLaws::other_core_is))]
     fn pages_of_other(&self, inferior: u8) -> Decision
         requires targets { Targets self.now (input self.now.ask.now 1) inferior }
-        requires fits { Fits self.now.seen.now }
+        requires fits { SeenFits self.now.seen.now }
         ensures { result ≡ pages_of (looks self.now) self.now.ask.now (input self.now.ask.now 0) inferior (other_core (looks self.now)) (input self.now.ask.now 2) }
     {
         self.pages_of(inferior)
@@ -67,7 +67,7 @@ impl Caller<'_> {
     #[tactic(auto, using(crate::proofs::PageLaws::seen_pages), unfolding(its_plain::specs::View::view))]
     fn pages_of(&self, target: u8) -> Decision
         requires target { target < slots }
-        requires fits { Fits self.now.seen.now }
+        requires fits { SeenFits self.now.seen.now }
         ensures { result ≡ pages_of (looks self.now) self.now.ask.now (input self.now.ask.now 0) target (core_at self.now.seen.now.core.now target) (input self.now.ask.now 2) }
     {
         let (operation, page) = (self.input(0).value(), self.input(2).value());

@@ -18,7 +18,7 @@ use Rattle.its_word.specs.declared.calls.Placed.{Placed}
 use Rattle.its_word.specs.declared.calls.Site.{Site}
 use Rattle.its_plain.specs.UnitPlan.{given}
 use Rattle.its_plain.specs.Traced.{Traced, Located, also, gives, located, located_by, word}
-use Rattle.its_plain.specs.Decode.{Shape, argument, argument_at, argument_words, arguments, ask, ask_by, ask_of, block_at, checked, control_of, error_at_of, has_bit_0, input_of, is_legal, kind_of, operand_of, output_of, parsed, place_of, shaped, up_to_last, value_of, words_of}
+use Rattle.its_plain.specs.Decode.{Shape, argument, argument_at, argument_words, arguments, ask, ask_by, ask_of, block_at, checked, control_of, error_at_of, has_bit_0, input_of, is_legal, kind_of, operand_of, output_of, parsed, held_place, shaped, up_to_last, value_of, words_of}
 use Rattle.its_plain.proofs.ReadLaws.{also_err, also_ok, unread}
 use Rattle.its_direct.specs.Asking.{Reads, Sorts, ask_from, first_error, no_parts, parts_of, sorted_by, with_argument}
 use Rattle.its_direct.specs.declared.sorting.Parts.{Parts}
@@ -234,13 +234,13 @@ count_more ys y = sym (length-append ys (y ∷ []))
 pub parts_more : (c : Core) (xs : List Arg) (x : Arg) → with_argument c x (parts_of c xs) ≡ parts_of c (xs ++ x ∷ [])
 unfolding parts_of
 parts_more c xs (Input s) = λ t. record {
-  inputs = record { items = one_more (input_of c) xs (Input s) (record { value = value_of c s; place = place_of s } ∷ []) refl t };
+  inputs = record { items = one_more (input_of c) xs (Input s) (record { value = value_of c s; place = held_place s } ∷ []) refl t };
   outputs = record { items = none_more output_of xs (Input s) refl t };
   errors = length (none_more error_at_of xs (Input s) refl t);
   error = slice_get (none_more error_at_of xs (Input s) refl t) 0;
   controls = length (none_more (control_of c) xs (Input s) refl t);
   control = slice_get (none_more (control_of c) xs (Input s) refl t) 0;
-  operand = record { items = one_more operand_of xs (Input s) (cons_option (place_of s) []) refl t };
+  operand = record { items = one_more operand_of xs (Input s) (cons_option (held_place s) []) refl t };
 }
 parts_more c xs (Output a) = λ t. record {
   inputs = record { items = none_more (input_of c) xs (Output a) refl t };
@@ -267,7 +267,7 @@ parts_more c xs (Control s) = λ t. record {
   error = slice_get (none_more error_at_of xs (Control s) refl t) 0;
   controls = (count_more (filter_map (control_of c) xs) (value_of c s) ∙ ap length (one_more (control_of c) xs (Control s) (value_of c s ∷ []) refl)) t;
   control = (first_more (filter_map (control_of c) xs) (value_of c s) ∙ ap (λ ys. slice_get ys 0) (one_more (control_of c) xs (Control s) (value_of c s ∷ []) refl)) t;
-  operand = record { items = one_more operand_of xs (Control s) (cons_option (place_of s) []) refl t };
+  operand = record { items = one_more operand_of xs (Control s) (cons_option (held_place s) []) refl t };
 }
 
 -- there are no more of a sort than arguments

@@ -25,7 +25,7 @@ use Rattle.its_frame.specs.declared.name.CallName.TheVariants.{Logout, Uclose}
 use Rattle.its_plain.specs.Arguments.{input}
 use Rattle.its_plain.specs.Decode.{ask}
 use Rattle.its_plain.specs.CallBasic.{channel_at as chan_at, is_oneself}
-use Rattle.its_plain.specs.CallStep.{Transition, acted, alone, by_ask, decision, faulted, step, transition, is_made}
+use Rattle.its_plain.specs.CallStep.{Transition, acted, quiet_step, by_ask, decision, faulted, step, transition, is_made}
 use Rattle.its_plain.specs.Change.{channel_in, in_job, superiors, superior_in}
 use Rattle.its_plain.specs.Decide.{argument_of, call_named, inferior_on, listed, reach, reach_by, target, target_by, with_below}
 use Rattle.its_plain.specs.Footprint.{SiteFits, among}
@@ -42,12 +42,12 @@ use Rattle.its_stepped.proofs.ConsoledLaws.{step_consoled}
 use Rattle.its_stepped.proofs.FitLaws.{forest_steps}
 use Rattle.its_stepped.proofs.ForestLaws.{channel_of, forest_few, inferior_stands, job_few}
 use Rattle.its_stepped.proofs.UnwindLaws.{filtered_out}
-use Rattle.its_decide.specs.Fits.{Fits, OnJob}
+use Rattle.its_decide.specs.Fits.{SeenFits, OnJob}
 use Rattle.its_decide.specs.Seen.{machine_seen, raw_with}
 use Rattle.its_decide.specs.declared.caller.Seen.{Seen}
 use Rattle.its_direct.specs.Events.{Kept, SpotFits}
 use Rattle.its_direct.specs.Plain.{machine_of, is_touched, no_slots, Tidy, JobBecomes}
-use Rattle.its_direct.specs.Ready.{Ready}
+use Rattle.its_direct.specs.Ready.{CanCarryOut}
 use Rattle.its_direct.specs.Steps.{Acts, CallsAt, Lent, LosesOnly, Makes, SteppedBy, Steps, marked_by, own_of}
 use Rattle.its_direct.specs.declared.plain.Plain.{Plain}
 use Rattle.its_direct.specs.declared.plain.Spot.TheVariants as spots
@@ -108,7 +108,7 @@ aimed p d k n = go (job_at p.jobs k) (d.channels k n)
     go None h = tt
 
 -- so its parts fit each other
-pub lent_fits : (p : Plain) (s : Seen) → Lent p s → Tidy p → Forest (machine_of p) → Fits s
+pub lent_fits : (p : Plain) (s : Seen) → Lent p s → Tidy p → Forest (machine_of p) → SeenFits s
 lent_fits p s h tidy forest = record {
   across = subst (λ (x : Store). Across x s.jobs.now) (sym h.files) (subst (λ (t : Table). Across p.files t) (sym h.jobs) tidy.across);
   unmarked = ap (λ (x : Store). x.mark) h.files ∙ tidy.unmarked;
@@ -260,7 +260,7 @@ module _ (old mid new : Plain) (s : ℕ) (a : Ask) (ks : List ℕ) (d : Decision
 -- the decoding of a call faults
 module _ (old put new : Plain) (s : ℕ) (i k : Job) (f : Fault) (had : job_at old.jobs s ≡ Some i) (is : k ≡ with_pending i (bit_of f)) (b : JobBecomes old put s k)
     (e : new ≡ record put { touched = no_slots }) where
-  pub fault_row : Steps old new (alone (in_job (machine_of old) s (faulted f)))
+  pub fault_row : Steps old new (quiet_step (in_job (machine_of old) s (faulted f)))
   fault_row = record {
     machine = touched_machine put new no_slots e
         ∙ slot_machine old put s (core_at old.core s) i k (faulted f) b had (ap (own_of old s) (sym is));
@@ -287,8 +287,8 @@ module _ (p : Plain) (s : ℕ) (x : Site) (o : Option Transition) (c : CallsAt (
   asks i r had e = ap (λ (q : Whole). ask q.core x) (calls_own i had) ∙ sym e
 
   pub calls_ready : (i : Job) (a : Ask) (r : Result Ask Fault) → job_at p.jobs s ≡ Some i → r ≡ ask (core_at p.core s) x → r ≡ Ok a → Kept p
-      → Ready (machine_of p) s a (decision (machine_of p) s (own_of p s i) a)
-  calls_ready i a r had e is kept = subst (λ (q : Whole). Ready (machine_of p) s a (decision (machine_of p) s q a)) (calls_own i had)
+      → CanCarryOut (machine_of p) s a (decision (machine_of p) s (own_of p s i) a)
+  calls_ready i a r had e is kept = subst (λ (q : Whole). CanCarryOut (machine_of p) s a (decision (machine_of p) s q a)) (calls_own i had)
       (plain_ready p s x a o kept.tidy kept.forest kept.consoled c (asks i r had e ∙ is))
 
   pub calls_act : (new : Plain) (i : Job) (a : Ask) (r : Result Ask Fault) (b : Bool) → job_at p.jobs s ≡ Some i → r ≡ ask (core_at p.core s) x → r ≡ Ok a
@@ -297,9 +297,9 @@ module _ (p : Plain) (s : ℕ) (x : Site) (o : Option Transition) (c : CallsAt (
       (sym (c.is ∙ (λ t. by_ask (machine_of p) s (calls_own i had t) ((asks i r had e ∙ is) t)))) h
 
   pub calls_fault : (new : Plain) (i : Job) (f : Fault) (r : Result Ask Fault) → job_at p.jobs s ≡ Some i → r ≡ ask (core_at p.core s) x → r ≡ Err f
-      → Steps p new (alone (in_job (machine_of p) s (faulted f))) → Makes true o p new
+      → Steps p new (quiet_step (in_job (machine_of p) s (faulted f))) → Makes true o p new
   calls_fault new i f r had e is h = record {
-    transition = alone (in_job (machine_of p) s (faulted f));
+    transition = quiet_step (in_job (machine_of p) s (faulted f));
     is = c.is ∙ ap (by_ask (machine_of p) s c.own) (asks i r had e ∙ is);
     steps = h;
   }

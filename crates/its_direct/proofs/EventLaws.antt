@@ -24,7 +24,7 @@ use Rattle.its_plain.specs.OperatorSymbols.{symbol_kept}
 use Rattle.its_plain.specs.OperatorVersion.{versioned}
 use Rattle.its_plain.specs.Own.{names_of}
 use Rattle.its_direct.specs.Clock.{Clocks}
-use Rattle.its_direct.specs.Events.{place_of, Speaks, Says, Told, answered}
+use Rattle.its_direct.specs.Events.{spot_place, Speaks, Says, Told, answered}
 use Rattle.its_direct.specs.Filing.{Leads}
 use Rattle.its_word.specs.Refusals.{reason_of}
 use Rattle.its_direct.specs.Lines.{Operates, Looks, Loads, Stands, Keeps}
@@ -40,15 +40,15 @@ use Rattle.its_direct.proofs.TouchLaws.{none_touched}
 
 -- lines after which the next one is at the same place
 abbrev Settled : Event → Type 0
-Settled e = (x : Spot) → place_after (place_of x) e ≡ place_of x
+Settled e = (x : Spot) → place_after (spot_place x) e ≡ spot_place x
 
 settled : (e : Event) → place_after places.Plain e ≡ places.Plain → place_after places.Load e ≡ places.Load → place_after places.File e ≡ places.File → Settled e
 settled e plain load file spots.Plain = plain
 settled e plain load file (spots.Load s) = load
 settled e plain load file (spots.File names) = file
 
-stands_at : (e : Event) (old new : Plain) → Settled e → new.place ≡ old.place → place_of new.place ≡ place_after (place_of old.place) e
-stands_at e old new at same = ap place_of same ∙ sym (at old.place)
+stands_at : (e : Event) (old new : Plain) → Settled e → new.place ≡ old.place → spot_place new.place ≡ place_after (spot_place old.place) e
+stands_at e old new at same = ap spot_place same ∙ sym (at old.place)
 
 -- lines that disturb a job, and show nothing
 told_operates : (e : Event) (old new : Plain) (s : ℕ) (r : Result Machine Reason) (x : Result (Unit {0}) Refusal) → ((b : Block) → Speaks old.place b → lined (machine_of old) b e ≡ Done (disturbs s b r)) → Says e Nothing [] → Settled e
@@ -131,7 +131,7 @@ told_file old new d x y (Ok u) done refused = λ b at. record {
   comes = Done (Does (machine_of new) [] nobody (record b { file = names_of d x y }));
   is = ap (λ r. Done (quietly (record b { file = names_of d x y }) r)) done.is;
   obeys = (refl, done.touched, subst (λ p. Speaks p (record b { file = names_of d x y })) (sym done.place) refl, refl);
-  leads = ap place_of done.place;
+  leads = ap spot_place done.place;
 }
 told_file old new d x y (Err z) done refused = λ b at. ap (λ r. Done (quietly (record b { file = names_of d x y }) r)) refused
 
@@ -195,7 +195,7 @@ told_load old new u j s console done = λ b at. record {
   comes = Done (Does (machine_of new) (printed.Loaded s ∷ []) (only s) (record b { slot = s }));
   is = ap (λ r. Done (by_load b r)) done.is;
   obeys = (refl, done.touched, subst (λ p. Speaks p (record b { slot = s })) (sym done.place) refl, refl);
-  leads = ap place_of done.place;
+  leads = ap spot_place done.place;
 }
 
 pub told_load_refused : (old new : Plain) (u j : ℕ) (console : Option ℕ) (z : Refusal) → loaded (machine_of old) u j console ≡ Err (reason_of z) → Told (events.Load u j console) old new (Err z)
@@ -244,7 +244,7 @@ told_go old mid new s a e done placed = λ b at. record {
   comes = Done (Does (machine_of mid) [] (only s) b);
   is = ap (λ (k : ℕ). Done (disturbs k b (on_registers (machine_of old) k (started a)))) (at_load old s b e at) ∙ ap (λ y. Done (disturbs s b y)) done.is;
   obeys = (placed_machine mid new spots.Plain placed, (λ k. ap (λ (p : Plain). is_touched p k) placed ∙ done.touched k), subst (λ p. Speaks p b) (sym (ap (λ (p : Plain). p.place) placed)) tt, refl);
-  leads = ap (λ (p : Plain). place_of p.place) placed;
+  leads = ap (λ (p : Plain). spot_place p.place) placed;
 }
 
 pub told_go_refused : (old new : Plain) (s a : ℕ) (z : Refusal) → old.place ≡ spots.Load s → on_registers (machine_of old) s (started a) ≡ Err (reason_of z) → Told (events.Go a) old new (Err z)
@@ -261,7 +261,7 @@ told_end old new done = λ b at. record {
   comes = Done (Does (machine_of old) [] nobody b);
   is = refl;
   obeys = (ok_is (machine_of old) (machine_of new) (Ok (machine_of old)) refl done.is, done.touched, subst (λ p. Speaks p b) (sym done.place) tt, refl);
-  leads = ap place_of done.place;
+  leads = ap spot_place done.place;
 }
 
 -- VERSION
@@ -285,7 +285,7 @@ module _ (old new : Plain) (e : new ≡ record old { touched = no_slots }) where
   at_same : (b : Block) → Speaks old.place b → Speaks new.place b
   at_same b at = subst (λ p. Speaks p b) (sym (ap (λ (p : Plain). p.place) e)) at
 
-  same_place : (x : Event) → Settled x → place_of new.place ≡ place_after (place_of old.place) x
+  same_place : (x : Event) → Settled x → spot_place new.place ≡ place_after (spot_place old.place) x
   same_place x at = stands_at x old new at (ap (λ (p : Plain). p.place) e)
 
   pub told_nothing : Told events.Nothing old new (Ok Nothing)

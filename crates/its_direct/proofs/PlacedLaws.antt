@@ -20,7 +20,7 @@ use Rattle.its_plain.specs.OperatorJobs.{loaded, loaded_in}
 use Rattle.its_plain.specs.OperatorLines.{Lined, Done, Peeks, by_load, lined, operate}
 use Rattle.its_plain.specs.Own.{names_of}
 use Rattle.its_plain.proofs.CallLineLaws.{SlotKept, Stays, Made, LineKeepsBy, line_keeps}
-use Rattle.its_direct.specs.Events.{MayStand, SpotFits, Speaks, place_of}
+use Rattle.its_direct.specs.Events.{MayStand, SpotFits, Speaks, spot_place}
 use Rattle.its_direct.specs.declared.plain.Spot.{Spot}
 use Rattle.its_direct.specs.declared.plain.Spot.TheVariants as spots
 
@@ -160,12 +160,12 @@ line_placed m b place events.EndFile at h = tt
 line_placed m b place e at h = subst (λ (p : Place). PlacedBy (place_after p e) (lined m b e)) (sym at) (plain_placed (lined m b e))
 
 -- a place, and a block of which it speaks
-pub placed_block : (m : Machine) (x : Spot) (b : Block) → Speaks x b → SpotFits m x → Placed m b (place_of x)
+pub placed_block : (m : Machine) (x : Spot) (b : Block) → Speaks x b → SpotFits m x → Placed m b (spot_place x)
 placed_block m spots.Plain b at h = tt
 placed_block m (spots.Load s) b at h = subst (λ k. (k < slots) × (is_some (m.jobs k) ≡ true)) (sym at) h
 placed_block m (spots.File names) b at h = subst (λ k. has_file k m.files ≡ true) (sym at) h
 
-pub spot_placed : (m : Machine) (x : Spot) (b : Block) (p : Place) → place_of x ≡ p → Speaks x b → Placed m b p → SpotFits m x
+pub spot_placed : (m : Machine) (x : Spot) (b : Block) (p : Place) → spot_place x ≡ p → Speaks x b → Placed m b p → SpotFits m x
 spot_placed m spots.Plain b p is at h = tt
 spot_placed m (spots.Load s) b p is at h =
     let here : Placed m b places.Load = subst (Placed m b) (sym is) h in subst (λ k. (k < slots) × (is_some (m.jobs k) ≡ true)) at here

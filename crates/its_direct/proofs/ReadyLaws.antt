@@ -41,7 +41,7 @@ use Rattle.its_stepped.proofs.OwnLaws.{spared, job_kept}
 use Rattle.its_stepped.proofs.UnwindLaws.{most_few}
 use Rattle.its_machine.specs.Can.{HasJob}
 use Rattle.its_direct.specs.Plain.{machine_of, Tidy}
-use Rattle.its_direct.specs.Ready.{HeldFits, held_in, GoesOn, core_behind, Ready}
+use Rattle.its_direct.specs.Ready.{HeldFits, held_in, GoesOn, core_behind, CanCarryOut}
 use Rattle.its_direct.specs.Steps.{CallsAt}
 use Rattle.its_direct.specs.declared.plain.Plain.{Plain}
 use Rattle.its_machine.proofs.CanLaws.{Beside, nothing, all_can, DecisionCan}
@@ -129,7 +129,7 @@ module _ (m : Machine) (r : Option ℕ) (j : ℕ) (q : Whole) (cs : List Change)
 
 -- a decision that does its duty
 ready_by : (m : Machine) (r : Option ℕ) (j : ℕ) (q : Whole) (s : Site) (a : Ask) (d : Decision) → m.jobs j ≡ Some q → DecisionCan free d j m → Duty (beginning m nobody r) j q s a 0 d → LeavesAddress d
-    → Ready m j a d
+    → CanCarryOut m j a d
 ready_by m r j q s a (Waits w) here can duty leaves = tt
 ready_by m r j q s a (Goes cs h vs) here can duty leaves = (
   record { can = all_can free cs.items j m can; job = spared_has m r j q cs.items here duty.spare },
@@ -145,7 +145,7 @@ ready_by m r j q s a (Gone cs) here can duty leaves = all_can nothing cs.items j
 console_few : (m : Machine) (j : ℕ) (q : Whole) → m.jobs j ≡ Some q → Consoled m → IfSome q.job.console (λ c. c < 8)
 console_few m j q here c = subst (λ (o : Option Whole). IfSome o (λ p. IfSome p.job.console (λ c. c < 8))) here (c.each j)
 
-pub ready : (m : Machine) (j : ℕ) (q : Whole) (s : Site) (a : Ask) → Forest m → Consoled m → m.jobs j ≡ Some q → q.job.pc < 2 ^ 18 → Stands q.core q.job s a → Ready m j a (decision m j q a)
+pub ready : (m : Machine) (j : ℕ) (q : Whole) (s : Site) (a : Ask) → Forest m → Consoled m → m.jobs j ≡ Some q → q.job.pc < 2 ^ 18 → Stands q.core q.job s a → CanCarryOut m j a (decision m j q a)
 ready m j q s a forest consoled here placed st =
     let r = page_for (reserves a) in
     ready_by m r j q s a (decision m j q a) here (decision_can free m j q a forest here (granted q a) (console_few m j q here consoled))
@@ -160,7 +160,7 @@ pub addressed : (p : Plain) → Tidy p → Addressed (machine_of p)
 addressed p tidy = record { each = λ k. placed_at p k (job_at p.jobs k) refl (tidy.addressed k) }
 
 pub plain_ready : (p : Plain) (j : ℕ) (s : Site) (a : Ask) (o : Option Transition) → Tidy p → Forest (machine_of p) → Consoled (machine_of p)
-    → (c : CallsAt (machine_of p) j s o) → ask c.own.core s ≡ Ok a → Ready (machine_of p) j a (decision (machine_of p) j c.own a)
+    → (c : CallsAt (machine_of p) j s o) → ask c.own.core s ≡ Ok a → CanCarryOut (machine_of p) j a (decision (machine_of p) j c.own a)
 plain_ready p j s a o tidy forest consoled c e =
     ready (machine_of p) j c.own s a forest consoled c.had (subst (λ (w : Option Whole). IfSome w (λ q. q.job.pc < 2 ^ 18)) c.had ((addressed p tidy).each j))
     (record { unit_is = c.unit; ask_is = e })

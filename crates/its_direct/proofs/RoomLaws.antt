@@ -167,12 +167,12 @@ made_page c d a (suc n) h here others =
 abbrev has : Core → ℕ → Bool
 has c x = nat_lt x 16 || is_there c (x / 1024)
 
-pub record Ready (c : Core) (a n : ℕ) : Type 0 where
+pub record AreaReady (c : Core) (a n : ℕ) : Type 0 where
   pub can : (x : ℕ) → a ≤ x → x < a + n → can_store c x ≡ has c x
   pub word : (x : ℕ) → a ≤ x → x < a + n → is_some (word_at c x) ≡ has c x
   pub places : length c.pages ≡ 256
 
-ready_less : (c : Core) (a n : ℕ) → Ready c a (suc n) → Ready c (a + 1) n
+ready_less : (c : Core) (a n : ℕ) → AreaReady c a (suc n) → AreaReady c (a + 1) n
 ready_less c a n h = record { can = λ x lo hi. h.can x (omega arith) (omega arith); word = λ x lo hi. h.word x (omega arith) (omega arith); places = h.places }
 
 some_page : (p : Option Page) (i w : ℕ) → is_some (page_stored p i w) ≡ is_some p
@@ -188,7 +188,7 @@ places_stored c b w = elim (cases_Bool (nat_lt b 16)) [
   | inr t ↦ ap (λ d. length d.pages) (store_page c b w t) ∙ length-set c.pages (b / 1024) _
 ]
 
-ready_stored : (c : Core) (a b n w : ℕ) → Ready c a n → Ready (store c b w) a n
+ready_stored : (c : Core) (a b n w : ℕ) → AreaReady c a n → AreaReady (store c b w) a n
 ready_stored c a b n w h = record {
   can = λ x lo hi. can_store-store c b x w ∙ h.can x lo hi ∙ ap (λ y. nat_lt x 16 || y) (sym (there_stored c b w (x / 1024)));
   word = λ x lo hi. is_some-store c b x w ∙ h.word x lo hi ∙ ap (λ y. nat_lt x 16 || y) (sym (there_stored c b w (x / 1024)));
@@ -234,7 +234,7 @@ module _ (c : Core) (k : ℕ) (places : length c.pages ≡ 256) (few : k < 256) 
   has_there : (x : ℕ) → x / 1024 ≢ k → has (paged c k) x ≡ has c x
   has_there x ne = ap (λ p. nat_lt x 16 || is_some p) (page_there (x / 1024) ne)
 
-  ready_paged : (a n : ℕ) → 16 ≤ a → Ready c a n → Ready (paged c k) a n
+  ready_paged : (a n : ℕ) → 16 ≤ a → AreaReady c a n → AreaReady (paged c k) a n
   ready_paged a n l h = record {
     can = λ x lo hi. elim (cases_eq (x / 1024) k) [
       | inl e ↦ can_here x (omega arith) e ∙ sym (has_here x (omega arith) e)
@@ -287,7 +287,7 @@ module _ (m : Machine) (s : ℕ) (q : Whole) (is : m.jobs s ≡ Some q) (slot : 
   record Goes (a w n : ℕ) : Type 0 where
     core : Core
     loaded : word_loaded m s a w ≡ Ok (with_core_of m s q core)
-    ready : Ready core (a + 1) n
+    ready : AreaReady core (a + 1) n
     sum : mapped (with_core_of m s q core) + pages_made core (a + 1) n ≡ mapped m + pages_made q.core a (suc n)
     few : mapped (with_core_of m s q core) ≤ most_pages
 
@@ -295,7 +295,7 @@ module _ (m : Machine) (s : ℕ) (q : Whole) (is : m.jobs s ≡ Some q) (slot : 
     loaded : word_loaded m s a w ≡ Err Full
     many : most_pages < mapped m + pages_made q.core a (suc n)
 
-  module _ (a w n : ℕ) (ready : Ready q.core a (suc n)) (few : mapped m ≤ most_pages) where
+  module _ (a w n : ℕ) (ready : AreaReady q.core a (suc n)) (few : mapped m ≤ most_pages) where
     sum_here : has q.core a ≡ true → pages_made (store q.core a w) (a + 1) n ≡ pages_made q.core a (suc n)
     sum_here t = elim (cases_Bool (nat_lt a 16)) [
       | inl l ↦ sym (made_acc q.core (store q.core a w) a n (ltb-true a 16 l) (there_stored q.core a w))
@@ -375,7 +375,7 @@ module _ (m : Machine) (s : ℕ) (q : Whole) (is : m.jobs s ≡ Some q) (slot : 
     ]
 
 -- the words one by one
-pub room_of : (s a : ℕ) (ws : List ℕ) (m : Machine) (q : Whole) → m.jobs s ≡ Some q → s < slots → Ready q.core a (length ws) → a + length ws ≤ 2 ^ 18 → mapped m ≤ most_pages
+pub room_of : (s a : ℕ) (ws : List ℕ) (m : Machine) (q : Whole) → m.jobs s ≡ Some q → s < slots → AreaReady q.core a (length ws) → a + length ws ≤ 2 ^ 18 → mapped m ≤ most_pages
     → Within most_pages (mapped m + pages_made q.core a (length ws)) (words_stored m s a ws)
 room_of s a [] m q is slot ready end few = let e = made_none q.core a in omega arith
 room_of s a (w ∷ ws) m q is slot ready end few = elim (word_step m s q is slot a w (length ws) ready few (omega arith)) [
@@ -419,5 +419,5 @@ can_has c x whole free = by_word (is_some (word_at c x)) (can_store c x) free (w
     by_word false true h f = sym (f refl)
     by_word false false h f = refl
 
-pub ready_whole : (c : Core) (a n : ℕ) → IsWhole c → any_barred c a n ≡ false → Ready c a n
+pub ready_whole : (c : Core) (a n : ℕ) → IsWhole c → any_barred c a n ≡ false → AreaReady c a n
 ready_whole c a n whole free = record { can = λ x lo hi. can_has c x whole (spared c a n x free lo hi); word = λ x lo hi. word_has c x whole; places = whole.pages }

@@ -4,7 +4,7 @@ use Rattle.std.proofs.Common.{arith, ap, sym, subst, ◌∙◌, inl, inr}
 use Rattle.std.proofs.lemmas.Bool.{cases_eq, and_right}
 use Rattle.its_word.specs.Core.{Core}
 use Rattle.its_word.specs.declared.jobs.Job.{Job}
-use Rattle.its_plain.specs.CallStep.{alone, becomes, faulted, step, transition}
+use Rattle.its_plain.specs.CallStep.{quiet_step, becomes, faulted, step, transition}
 use Rattle.its_plain.specs.Change.{in_job, on_slot}
 use Rattle.its_plain.specs.Interrupt.{deliverable}
 use Rattle.its_plain.specs.Job.{bit_of, with_pending}
@@ -71,7 +71,7 @@ own_here m j q l r = λ t. record q { core = sym r.core t; job = sym r.job t }
 
 -- one unit of it
 record OneMore (m : Machine) (j : ℕ) (k : Left) : Type 0 where
-  is : transition m j ≡ Some (alone (in_job m j (with_left k)))
+  is : transition m j ≡ Some (quiet_step (in_job m j (with_left k)))
   going : k.job.stopped ≡ false
 
 module _ (m : Machine) (j : ℕ) (q : Whole) (l : Left) (r : Runs m j q l) (quiet : deliverable l.job ≡ false) where
@@ -96,7 +96,7 @@ module _ (m : Machine) (j : ℕ) (q : Whole) (l : Left) (r : Runs m j q l) (quie
       subst (OneMore m j) is (record {
         is =
             transition_unit m j q (bare_outcome (Faulted f)) r.had runs_here quiet_here (unit_here (Faulted f) u)
-            ∙ ap (λ n. Some (alone n)) (written_alike m j q (faulted f) (with_left (left l.core (with_pending l.job (bit_of f)))) r.had (fault_here f));
+            ∙ ap (λ n. Some (quiet_step n)) (written_alike m j q (faulted f) (with_left (left l.core (with_pending l.job (bit_of f)))) r.had (fault_here f));
         going = r.going;
       })
     where
@@ -164,7 +164,7 @@ pub one_stepped : (old new : Plain) (s n : ℕ) → Series n (machine_of old) s 
 one_stepped old new s n made one jobs touched place =
     let h : Series 1 (machine_of old) s (machine_of new) = subst (λ k. Series k (machine_of old) s (machine_of new)) one made in
     record {
-      transition = alone h.0;
+      transition = quiet_step h.0;
       is = h.1;
       steps = record {
         machine = h.3;
@@ -196,7 +196,7 @@ holds_on m n j h e = record { forest = forest_steps m n j h.forest e; alarmed = 
 
 holds_after : (j k : ℕ) (m o : Machine) → Series k m j o → Holds m → Holds o
 holds_after j zero m o e h = subst Holds (sym e) h
-holds_after j (suc k) m o s h = holds_after j k s.0 o s.3 (holds_on m s.0 j h (step_by m j (Some (alone s.0)) s.1))
+holds_after j (suc k) m o s h = holds_after j k s.0 o s.3 (holds_on m s.0 j h (step_by m j (Some (quiet_step s.0)) s.1))
 
 pub series_kept : (old new : Plain) (s k : ℕ) → old.place ≡ spots.Plain → Kept old → Series k (machine_of old) s (machine_of new) → new.place ≡ old.place → Tidy new → Kept new
 series_kept old new s k outside kept made place tidy =

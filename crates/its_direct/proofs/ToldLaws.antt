@@ -16,7 +16,7 @@ use Rattle.its_stepped.proofs.AlarmLaws.{alarmed_starts, line_alarmed}
 use Rattle.its_stepped.proofs.ConsoledLaws.{consoled_starts}
 use Rattle.its_stepped.proofs.ForestLaws.{forest_starts}
 use Rattle.its_stepped.proofs.WrittenLaws.{line_forest}
-use Rattle.its_direct.specs.Events.{SpotFits, Kept, MayStand, place_of, Speaks, Obeys, Told, JobsStay}
+use Rattle.its_direct.specs.Events.{SpotFits, Kept, MayStand, spot_place, Speaks, Obeys, Told, JobsStay}
 use Rattle.its_direct.specs.Plain.{machine_of, Tidy}
 use Rattle.its_direct.specs.declared.events.Answer.{Answer}
 use Rattle.its_direct.specs.declared.plain.Plain.{Plain}
@@ -50,17 +50,17 @@ speaks_at (spots.Load s) = refl
 speaks_at (spots.File names) = refl
 
 -- what an event leaves that was obeyed
-obeyed_kept : (e : Event) (a : Answer) (old new : Plain) (b : Block) (l : Lined) → EventFits 2 e → MayStand (place_of old.place) e → Speaks old.place b → place_of new.place ≡ place_after (place_of old.place) e
+obeyed_kept : (e : Event) (a : Answer) (old new : Plain) (b : Block) (l : Lined) → EventFits 2 e → MayStand (spot_place old.place) e → Speaks old.place b → spot_place new.place ≡ place_after (spot_place old.place) e
     → lined (machine_of old) b e ≡ l → Obeys e a old new l → Kept old → Tidy new → Kept new
 obeyed_kept e a old new b (Done (Does n out touched c)) ranged stands speaks leads is o kept tidy = record {
   tidy = tidy;
   forest = subst Forest (sym o.0) (line_forest (machine_of old) n b c e out touched kept.forest is);
   alarmed = subst Alarmed (sym o.0) (line_alarmed (machine_of old) n b c e out touched kept.forest kept.alarmed is);
   consoled = subst Consoled (sym o.0) (line_consoled 2 (machine_of old) n b c e out touched ranged kept.consoled is);
-  placed = spot_placed (machine_of new) new.place c (place_after (place_of old.place) e) leads o.2
-      (subst (λ (m : Machine). Placed m c (place_after (place_of old.place) e)) (sym o.0)
-      (subst (PlacedBy (place_after (place_of old.place) e)) is
-      (line_placed (machine_of old) b (place_of old.place) e stands (placed_block (machine_of old) old.place b speaks kept.placed))));
+  placed = spot_placed (machine_of new) new.place c (place_after (spot_place old.place) e) leads o.2
+      (subst (λ (m : Machine). Placed m c (place_after (spot_place old.place) e)) (sym o.0)
+      (subst (PlacedBy (place_after (spot_place old.place) e)) is
+      (line_placed (machine_of old) b (spot_place old.place) e stands (placed_block (machine_of old) old.place b speaks kept.placed))));
 }
 obeyed_kept e a old new b (Done (Refuses r)) ranged stands speaks leads is o kept tidy = absurd o
 obeyed_kept e a old new b (Done (Ticks s k)) ranged stands speaks leads is o kept tidy = absurd o
@@ -87,13 +87,13 @@ obeyed_jobs e a old new b (Peeks s) is o k h = sym (ap (λ (m : Machine). m.jobs
 obeyed_jobs e a old new b _ is o k h = absurd o
 
 -- what holds after an event, obeyed or refused
-pub told_kept : (e : Event) (old new : Plain) (r : Result Answer Refusal) → EventFits 2 e → MayStand (place_of old.place) e → Told e old new r → OnErr r (new ≡ old) → Tidy new → Kept old → Kept new
+pub told_kept : (e : Event) (old new : Plain) (r : Result Answer Refusal) → EventFits 2 e → MayStand (spot_place old.place) e → Told e old new r → OnErr r (new ≡ old) → Tidy new → Kept old → Kept new
 told_kept e old new (Ok a) ranged stands told same tidy kept =
     let o = told (block_at old.place) (speaks_at old.place) in
     obeyed_kept e a old new (block_at old.place) o.comes ranged stands (speaks_at old.place) o.leads o.is o.obeys kept tidy
 told_kept e old new (Err z) ranged stands told same tidy kept = subst Kept (sym same) kept
 
-pub told_place : (e : Event) (old new : Plain) (r : Result Answer Refusal) → Told e old new r → IfOk r (λ a. place_of new.place ≡ place_after (place_of old.place) e)
+pub told_place : (e : Event) (old new : Plain) (r : Result Answer Refusal) → Told e old new r → IfOk r (λ a. spot_place new.place ≡ place_after (spot_place old.place) e)
 told_place e old new (Ok a) told = (told (block_at old.place) (speaks_at old.place)).leads
 told_place e old new (Err z) told = tt
 

@@ -11,7 +11,7 @@ use Rattle.its_word.specs.declared.jobs.Job.{Job}
 use Rattle.its_core.specs.Cores.{Cores, core_at}
 use Rattle.its_files.specs.Files.{Store}
 use Rattle.its_jobs.specs.Table.{IsTree, Table, job_at, superior_at, superior_in}
-use Rattle.its_plain.specs.CallStep.{alone, becomes, delivery, informs, informed_slots, transition, transition_of, unless_stopped, is_made}
+use Rattle.its_plain.specs.CallStep.{quiet_step, becomes, delivery, informs, informed_slots, transition, transition_of, unless_stopped, is_made}
 use Rattle.its_plain.specs.Change.{effect, effects, in_job, on_slot, with_inf}
 use Rattle.its_plain.specs.Footprint.{among}
 use Rattle.its_plain.specs.Interrupt.{Delivered, deliverable, delivered}
@@ -55,9 +55,9 @@ becomes_raw s c d superior a i k h = λ t. record { core = d; job = bare k; supe
 -- a step of one job alone
 pub stepped_alone : (old put new : Plain) (s : ℕ) (c : Core) (i k : Job) (f : Whole → Whole) → SlotBecomes old put s c (Some k) → job_at old.jobs s ≡ Some i
     → f (own_of old s i) ≡ raw_job old.files c k (superior_at old.jobs s) (alarm_at old.alarms.items s)
-    → transition (machine_of old) s ≡ Some (alone (in_job (machine_of old) s f)) → new ≡ record put { touched = no_slots } → SteppedBy old new (transition (machine_of old) s)
+    → transition (machine_of old) s ≡ Some (quiet_step (in_job (machine_of old) s f)) → new ≡ record put { touched = no_slots } → SteppedBy old new (transition (machine_of old) s)
 stepped_alone old put new s c i k f b had is row e = record {
-  transition = alone (in_job (machine_of old) s f);
+  transition = quiet_step (in_job (machine_of old) s f);
   is = row;
   steps = record {
     machine = touched_machine put new no_slots e ∙ slot_machine old put s c i k f b had is;

@@ -8,7 +8,7 @@ use Rattle.its_word.specs.declared.access.Fault.{Fault}
 use Rattle.its_word.specs.declared.calls.Arg.{Arg}
 use Rattle.its_word.specs.declared.calls.Arg.TheVariants.{Input, Output, ErrorAt, Control}
 use Rattle.its_word.specs.declared.calls.Ask.{Ask}
-use Rattle.its_plain.specs.Decode.{input_of, output_of, error_at_of, control_of, operand_of, value_of, place_of, row_named, error_by, exceeds, name_of, words_of}
+use Rattle.its_plain.specs.Decode.{input_of, output_of, error_at_of, control_of, operand_of, value_of, held_place, row_named, error_by, exceeds, name_of, words_of}
 use Rattle.its_plain.specs.Traced.{Traced}
 use Rattle.its_direct.specs.declared.sorting.Parts.{Parts}
 
@@ -49,15 +49,15 @@ first_error None y = Some y
 -- one more
 abbrev pub with_argument : Core → Arg → Parts → Parts
 with_argument c (Input s) p = record p {
-  inputs = record { items = p.inputs.items ++ record { value = value_of c s; place = place_of s } ∷ [] };
-  operand = record { items = p.operand.items ++ cons_option (place_of s) [] };
+  inputs = record { items = p.inputs.items ++ record { value = value_of c s; place = held_place s } ∷ [] };
+  operand = record { items = p.operand.items ++ cons_option (held_place s) [] };
 }
 with_argument c (Output a) p = record p { outputs = record { items = p.outputs.items ++ a ∷ [] } }
 with_argument c (ErrorAt a) p = record p { errors = p.errors + 1; error = first_error p.error a }
 with_argument c (Control s) p = record p {
   controls = p.controls + 1;
   control = first_error p.control (value_of c s);
-  operand = record { items = p.operand.items ++ cons_option (place_of s) [] };
+  operand = record { items = p.operand.items ++ cons_option (held_place s) [] };
 }
 
 abbrev pub sorted_by : Core → Result (ArrayVec Arg) Fault → Result Parts Fault

@@ -43,10 +43,10 @@ pub record Kept (p : Plain) : Type 0 where
   pub placed : SpotFits (machine_of p) p.place
 
 -- the place of a line of a session, and what a block of lines is about there
-abbrev pub place_of : Spot → Place
-place_of spots.Plain = places.Plain
-place_of (spots.Load s) = places.Load
-place_of (spots.File names) = places.File
+abbrev pub spot_place : Spot → Place
+spot_place spots.Plain = places.Plain
+spot_place (spots.Load s) = places.Load
+spot_place (spots.File names) = places.File
 
 abbrev pub Speaks : Spot → Block → Type 0
 Speaks spots.Plain b = Unit {0}
@@ -93,7 +93,7 @@ pub record Obeyed (e : Event) (a : Answer) (old new : Plain) (b : Block) : Type 
   pub comes : Lined
   pub is : lined (machine_of old) b e ≡ comes
   pub obeys : Obeys e a old new comes
-  pub leads : place_of new.place ≡ place_after (place_of old.place) e
+  pub leads : spot_place new.place ≡ place_after (spot_place old.place) e
 
 -- an event was obeyed, or it was refused
 abbrev pub Told : Event → Plain → Plain → Result Answer Refusal → Type 0

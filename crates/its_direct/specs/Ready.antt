@@ -46,8 +46,8 @@ abbrev pub core_behind : Machine → ℕ → List Change → Core
 core_behind m j cs = core_of ((effects cs j m).jobs j)
 
 -- the decision of slot j's call can be carried out: its changes, and after them its stores and its registers
-abbrev pub Ready : Machine → ℕ → Ask → Decision → Type 0
-Ready m j a (Waits r) = Unit {0}
-Ready m j a (Goes cs h vs) = Carries m j cs.items × GoesOn (core_behind m j cs.items) a h vs.items
-Ready m j a (Ends cs ss e) = Carries m j cs.items × (first_fault (core_behind m j cs.items) ss.items ≡ None) × (e.pc < 2 ^ 18)
-Ready m j a (Gone cs) = CanMakeAll cs.items j (effect (Remove j) j m)
+abbrev pub CanCarryOut : Machine → ℕ → Ask → Decision → Type 0
+CanCarryOut m j a (Waits r) = Unit {0}
+CanCarryOut m j a (Goes cs h vs) = Carries m j cs.items × GoesOn (core_behind m j cs.items) a h vs.items
+CanCarryOut m j a (Ends cs ss e) = Carries m j cs.items × (first_fault (core_behind m j cs.items) ss.items ≡ None) × (e.pc < 2 ^ 18)
+CanCarryOut m j a (Gone cs) = CanMakeAll cs.items j (effect (Remove j) j m)

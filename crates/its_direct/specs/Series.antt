@@ -1,7 +1,7 @@
 -- Steps of one job, one after another, that are its own alone.
 -- No promise rests on this.
 use Rattle.std.specs.Prelude.{◌≡◌, ◌&&◌, ℕ, zero, suc, Bool, false, not, Option, Some, None, is_some}
-use Rattle.its_plain.specs.CallStep.{alone, transition}
+use Rattle.its_plain.specs.CallStep.{quiet_step, transition}
 use Rattle.its_plain.specs.Machine.{Whole, Machine}
 use Rattle.pdp_exec.specs.Units.{after_unit, left}
 
@@ -10,7 +10,7 @@ use Rattle.pdp_exec.specs.Units.{after_unit, left}
 abbrev pub Series : ℕ → Machine → ℕ → Machine → Type 0
 Series zero m j o = o ≡ m
 Series (suc n) m j o =
-    (p : Machine) × (transition m j ≡ Some (alone p)) × ((k : ℕ) → is_some (p.jobs k) ≡ is_some (m.jobs k)) × Series n p j o
+    (p : Machine) × (transition m j ≡ Some (quiet_step p)) × ((k : ℕ) → is_some (p.jobs k) ≡ is_some (m.jobs k)) × Series n p j o
 
 -- a unit of the job of a slot is due: it runs, no interrupt is deliverable, and its unit is no call
 abbrev pub is_due : Option Whole → Bool

@@ -8,7 +8,7 @@ ghost use Rattle.its_session.specs.Fits.{EventFits};
 ghost use Rattle.its_plain.specs.Own.{names_of};
 ghost use Rattle.its_direct.specs.Plain.{machine_of, Tidy};
 ghost use Rattle.its_direct.specs.declared.plain.Spot.TheVariants as spots;
-ghost use Rattle.its_direct.specs.Events.{answered, place_of, IsTold, JobsStay, Kept, MayStand, SpotFits, Told};
+ghost use Rattle.its_direct.specs.Events.{answered, spot_place, IsTold, JobsStay, Kept, MayStand, SpotFits, Told};
 
 use super::plain::{Plain, Spot};
 use arrayvec::ArrayVec;
@@ -33,11 +33,11 @@ impl Plain {
     pub fn event(&mut self, event: &Event) -> Result<Answer, Refusal>
         requires told { IsTold event.now }
         requires fits { EventFits 2 event.now }
-        requires stands { MayStand (place_of self.old.place) event.now }
+        requires stands { MayStand (spot_place self.old.place) event.now }
         requires kept { Kept self.old }
         ensures told { Told event.now self.old self.new result }
         ensures same { OnErr result (self.new ≡ self.old) }
-        ensures place { IfOk result (λ _. place_of self.new.place ≡ place_after (place_of self.old.place) event.now) }
+        ensures place { IfOk result (λ _. spot_place self.new.place ≡ place_after (spot_place self.old.place) event.now) }
         ensures jobs { JobsStay self.old self.new }
         ensures kept { Kept self.new }
     {
@@ -49,7 +49,7 @@ impl Plain {
     fn tell_event(&mut self, event: &Event) -> Result<Answer, Refusal>
         requires told { IsTold event.now }
         requires fits { EventFits 2 event.now }
-        requires stands { MayStand (place_of self.old.place) event.now }
+        requires stands { MayStand (spot_place self.old.place) event.now }
         requires kept { Kept self.old }
         ensures told { Told event.now self.old self.new result }
         ensures same { OnErr result (self.new ≡ self.old) }
@@ -99,7 +99,7 @@ impl Plain {
 
     /// An a/ line.
     fn tell_words(&mut self, a: u32, words: &ArrayVec<Word, 16>) -> Result<Answer, Refusal>
-        requires place { place_of self.old.place ≡ places.Load }
+        requires place { spot_place self.old.place ≡ places.Load }
         requires placed { SpotFits (machine_of self.old) self.old.place }
         requires some { 1 ≤ length words.now.items }
         requires end { a + length words.now.items ≤ 2 ^ 18 }
@@ -114,7 +114,7 @@ impl Plain {
 
     /// RO.
     fn tell_read_only(&mut self, page: u8) -> Result<Answer, Refusal>
-        requires place { place_of self.old.place ≡ places.Load }
+        requires place { spot_place self.old.place ≡ places.Load }
         requires placed { SpotFits (machine_of self.old) self.old.place }
         requires tidy { Tidy self.old }
         ensures told { Told (told.ReadOnly page) self.old self.new result }
@@ -127,7 +127,7 @@ impl Plain {
 
     /// SYM.
     fn tell_symbol(&mut self, name: Word, a: u32) -> Result<Answer, Refusal>
-        requires place { place_of self.old.place ≡ places.Load }
+        requires place { spot_place self.old.place ≡ places.Load }
         requires placed { SpotFits (machine_of self.old) self.old.place }
         requires tidy { Tidy self.old }
         ensures told { Told (told.Symbol name a) self.old self.new result }
@@ -140,7 +140,7 @@ impl Plain {
 
     /// Words of a FILE block.
     fn tell_append(&mut self, words: &ArrayVec<Word, 16>) -> Result<Answer, Refusal>
-        requires place { place_of self.old.place ≡ places.File }
+        requires place { spot_place self.old.place ≡ places.File }
         requires tidy { Tidy self.old }
         ensures told { Told (told.Append words.now) self.old self.new result }
         ensures same { OnErr result (self.new ≡ self.old) }
@@ -190,7 +190,7 @@ impl Plain {
     /// GO, after which the LOAD block has ended.
     #[tactic(auto, using(crate::proofs::LoadLaws::placed_tidy))]
     fn tell_go(&mut self, a: u32) -> Result<Answer, Refusal>
-        requires place { place_of self.old.place ≡ places.Load }
+        requires place { spot_place self.old.place ≡ places.Load }
         requires placed { SpotFits (machine_of self.old) self.old.place }
         requires address { a < 2 ^ 18 }
         requires tidy { Tidy self.old }
@@ -262,7 +262,7 @@ impl Plain {
 
     /// The slot of the job whose LOAD block the next line is in.
     fn block_slot(&self) -> u8
-        requires place { place_of self.now.place ≡ places.Load }
+        requires place { spot_place self.now.place ≡ places.Load }
         requires placed { SpotFits (machine_of self.now) self.now.place }
         ensures place { self.now.place ≡ spots.Load result }
         ensures slot { result < slots }
@@ -276,7 +276,7 @@ impl Plain {
 
     /// The directory and the names of the file whose FILE block the next line is in.
     fn block_file(&self) -> (Word, Word, Word)
-        requires place { place_of self.now.place ≡ places.File }
+        requires place { spot_place self.now.place ≡ places.File }
         ensures { self.now.place ≡ spots.File (names_of result.0 result.1 result.2) }
     {
         match self.place {

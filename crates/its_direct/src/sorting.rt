@@ -3,7 +3,7 @@ ghost use Rattle.std.specs.Prelude.{◌≡◌, ◌<◌, ◌+◌, ◌++◌, [], l
 ghost use Rattle.std.specs.List.{cons_option};
 ghost use Rattle.its_core.specs.Cores.{core_at};
 ghost use Rattle.its_word.specs.Limits.{slots};
-ghost use Rattle.its_plain.specs.Decode.{place_of, value_of};
+ghost use Rattle.its_plain.specs.Decode.{held_place, value_of};
 ghost use Rattle.its_direct.specs.Asking.{first_error, no_parts, with_argument};
 
 use arrayvec::ArrayVec;
@@ -114,7 +114,7 @@ fn value(core: &Core, slot: u8, s: &Source) -> Word
 
 /// The place of a source's word.
 fn place(s: &Source) -> Option<u32>
-    ensures { result ≡ place_of s.now }
+    ensures { result ≡ held_place s.now }
 {
     match s {
         Source::Held(p) => Some(p.number()),

@@ -1,7 +1,7 @@
 ghost use Rattle.std.specs.Prelude.{◌≡◌};
 ghost use Rattle.its_session.specs.Events.{place_after};
 ghost use Rattle.its_session.specs.Fits.{EventFits};
-ghost use Rattle.its_direct.specs.Events.{IsTold, Kept, MayStand, place_of};
+ghost use Rattle.its_direct.specs.Events.{IsTold, Kept, MayStand, spot_place};
 
 use super::Plain;
 use its_word::{Event, Word};
@@ -25,9 +25,9 @@ const PROGRAM: [(u32, u64); 9] = [
 fn tell(rt: &impl Abort, p: &mut Plain, event: &Event)
     requires told { IsTold event.now }
     requires fits { EventFits 2 event.now }
-    requires stands { MayStand (place_of p.old.place) event.now }
+    requires stands { MayStand (spot_place p.old.place) event.now }
     requires kept { Kept p.old }
-    ensures place { place_of p.new.place ≡ place_after (place_of p.old.place) event.now }
+    ensures place { spot_place p.new.place ≡ place_after (spot_place p.old.place) event.now }
     ensures kept { Kept p.new }
 {
     let told = p.event(event);

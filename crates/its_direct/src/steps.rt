@@ -5,7 +5,7 @@ ghost use Rattle.its_word.specs.Limits.{slots};
 ghost use Rattle.its_core.specs.Cores.{core_at};
 ghost use Rattle.its_jobs.specs.Table.{job_at};
 ghost use Rattle.its_plain.specs.Arguments.{debts, input, revalued, store_of};
-ghost use Rattle.its_plain.specs.CallStep.{acted, alone, by_ask, decision, deposited, faulted, moved, transition, with_held};
+ghost use Rattle.its_plain.specs.CallStep.{acted, quiet_step, by_ask, decision, deposited, faulted, moved, transition, with_held};
 ghost use Rattle.its_plain.specs.Change.{effects, in_job};
 ghost use Rattle.its_plain.specs.Decide.{reach};
 ghost use Rattle.its_plain.specs.Footprint.{among};
@@ -16,7 +16,7 @@ ghost use Rattle.its_decide.specs.Seen.{machine_seen, raw_with};
 ghost use Rattle.its_direct.specs.Effects.{Becomes};
 ghost use Rattle.its_direct.specs.Events.{Kept};
 ghost use Rattle.its_direct.specs.Plain.{machine_of, is_touched, Tidy};
-ghost use Rattle.its_direct.specs.Ready.{Carries, GoesOn, HeldFits, Ready, core_behind};
+ghost use Rattle.its_direct.specs.Ready.{Carries, GoesOn, HeldFits, CanCarryOut, core_behind};
 ghost use Rattle.its_direct.specs.Steps.{Acts, CallsAt, Lent, LosesOnly, Makes, Steps, marked_by, own_of};
 
 use super::plain::{Plain, Spot};
@@ -99,7 +99,7 @@ impl Plain {
         requires slot { slot < slots }
         requires job { job_at self.old.jobs slot ≡ Some job }
         requires tidy { Tidy self.old }
-        ensures row { Steps self.old self.new (alone (in_job (machine_of self.old) slot (faulted fault))) }
+        ensures row { Steps self.old self.new (quiet_step (in_job (machine_of self.old) slot (faulted fault))) }
         ensures tidy { Tidy self.new }
     {
         let after = Job {
@@ -114,7 +114,7 @@ impl Plain {
     fn act(&mut self, slot: u8, job: &Job, ask: &Ask) -> bool
         requires slot { slot < slots }
         requires job { job_at self.old.jobs slot ≡ Some job.now }
-        requires ready { Ready (machine_of self.old) slot ask.now (decision (machine_of self.old) slot (own_of self.old slot job.now) ask.now) }
+        requires ready { CanCarryOut (machine_of self.old) slot ask.now (decision (machine_of self.old) slot (own_of self.old slot job.now) ask.now) }
         requires kept { Kept self.old }
         ensures row { Makes result (by_ask (machine_of self.old) slot (own_of self.old slot job.now) (Ok ask.now)) self.old self.new }
         ensures tidy { Tidy self.new }
@@ -194,7 +194,7 @@ impl Plain {
     #[tactic(auto, unfolding(its_plain::specs::CallStep::acted))]
     fn carry_out(&mut self, slot: u8, ask: &Ask, decision: Decision) -> bool
         requires slot { slot < slots }
-        requires ready { Ready (machine_of self.old) slot ask.now decision }
+        requires ready { CanCarryOut (machine_of self.old) slot ask.now decision }
         requires tidy { Tidy self.old }
         ensures row { Acts result (acted (machine_of self.old) slot ask.now [] decision) self.old self.new }
         ensures tidy { Tidy self.new }

@@ -145,7 +145,7 @@ pub(crate) fn free_number(entries: &[Option<Entry>]) -> u32
 
 /// The place of a number among some.
 #[tactic(auto, using(crate::proofs::OrderLaws::count_more, crate::proofs::OrderLaws::count_none, crate::proofs::OrderLaws::count_end))]
-fn place_of(order: &[u32], id: u32) -> Option<usize>
+fn position_of(order: &[u32], id: u32) -> Option<usize>
     ensures at { IfSome result (λ k. slice_get order.now k ≡ Some id) }
     ensures none { result ≡ None → count id order.now ≡ 0 }
 {
@@ -163,7 +163,7 @@ pub(crate) fn take_out(order: &mut ArrayVec<u32, 256>, id: u32)
     requires { count id order.old.items ≤ 1 }
     ensures { order.new.items ≡ without id order.old.items }
 {
-    if let Some(k) = place_of(order.as_slice(), id) {
+    if let Some(k) = position_of(order.as_slice(), id) {
         order.remove(k);
     }
 }

@@ -23,7 +23,7 @@ use Rattle.its_frame.specs.declared.variable.Variable.{Variable}
 use Rattle.its_plain.specs.Arguments.{input, has_input, place_of_input}
 use Rattle.its_frame.specs.Variables.{variable_named}
 use Rattle.its_plain.specs.CallBasic.{negated, sleep_tests, sleep, dismissed_by, dismiss_at, dismiss, Party, Oneself, Nobody, Channel, by_oneself, by_superior, channel_at, is_oneself, party_on, party, set_own, own_variable, set_other, value_of_other, other_variable, usrvar_of, usrvar, told_superior, is_negative, longest_period, alarm_of, realt, is_shut, ioc}
-use Rattle.its_plain.specs.CallTty.{console_of, has_console, is_other, input_waits, output_waits, first_typed, shown_byte, opens_on, open_tests, opens, iot_in, iot_out, siot_in, siot_out, can_take, is_holder, lands, ttylnd_of, ttylnd}
+use Rattle.its_plain.specs.CallTty.{view_console, has_console, is_other, input_waits, output_waits, first_typed, shown_byte, opens_on, open_tests, opens, iot_in, iot_out, siot_in, siot_out, can_take, is_holder, lands, ttylnd_of, ttylnd}
 use Rattle.its_plain.specs.CallLink.{words_in, is_end_closed, is_dry, is_ended, is_crowded, is_unread, link_named, can_open, joins, makes_link, opens_end, link_tests, opens_link, closes_end, iot_receive, iot_receives, iot_sends, iot_linked, siot_receive, siot_receives, siot_send, siot_sends, siot_linked, first_word}
 use Rattle.its_plain.specs.Transfer.{store_tests, read_tests, word_of, iot_ends, siot_tests, siot_by, next_pointer}
 use Rattle.its_plain.specs.Change.{channel_in, effect}
@@ -156,7 +156,7 @@ below_eight : (o : Option ℕ) → IfSome o (λ c. c < 8) → unwrap_or o 0 < 8
 below_eight (Some c) h = h
 below_eight None h = omega arith
 
-pub console_below : (x : View) (m : Machine) (j : ℕ) → Sees x m j → console_of x < 8
+pub console_below : (x : View) (m : Machine) (j : ℕ) → Sees x m j → view_console x < 8
 console_below x m j s = below_eight x.own.job.console s.own
 
 has_room : (x : View) (m : Machine) (j i : ℕ) → Sees x m j → output_waits x i ≡ false → length (m.consoles i).output < most_waiting
@@ -283,7 +283,7 @@ siot_by_can v j m x a words ended d h =
 -- TTYLND
 lands_can : (v : Beside) (j : ℕ) (m : Machine) (x : View) (a : Ask) (may : Bool) (error k : ℕ) → Sees x m j → Can v j m (lands x a may error k)
 lands_can v j m x a may error k s =
-    first_holds (Can v j m) (not (has_console x) ⇒ fails x a 0o5 ∷ not may ⇒ fails x a error ∷ []) (finishes x (changes.Hold (console_of x) k ∷ []) [])
+    first_holds (Can v j m) (not (has_console x) ⇒ fails x a 0o5 ∷ not may ⇒ fails x a error ∷ []) (finishes x (changes.Hold (view_console x) k ∷ []) [])
     (λ t. tt, (λ t. tt, tt)) (λ t. (console_below x m j s, tt))
 
 pub ttylnd_can : (v : Beside) (j : ℕ) (m : Machine) (x : View) (a : Ask) → Sees x m j → Can v j m (ttylnd x a)
@@ -291,8 +291,8 @@ unfolding ttylnd
 ttylnd_can v j m x a s = go (party x (input a 0))
   where
     go : (p : Party) → Can v j m (ttylnd_of x a p)
-    go Oneself = lands_can v j m x a (can_take x (x.holders (console_of x))) 0o13 x.slot s
-    go (Channel (On k write at)) = lands_can v j m x a (is_holder x (x.holders (console_of x))) 0o5 k s
+    go Oneself = lands_can v j m x a (can_take x (x.holders (view_console x))) 0o13 x.slot s
+    go (Channel (On k write at)) = lands_can v j m x a (is_holder x (x.holders (view_console x))) 0o5 k s
     go _ = tt
 
 -- a call that changes nothing but the word of its output

@@ -11,7 +11,7 @@ use Rattle.its_plain.specs.CallBasic.{channel_at, ioc}
 use Rattle.its_plain.specs.CallDevice.{open_by, open_call, shuts, close_on, close_call, iot_on, iot_call, siot_on, siot_call}
 use Rattle.its_plain.specs.CallFile.{disk_device, channels_in, is_full, words_of, iot_read, siot_read, siot_write}
 use Rattle.its_plain.specs.CallLink.{link_device}
-use Rattle.its_plain.specs.CallTty.{console_of, siot_in, siot_out}
+use Rattle.its_plain.specs.CallTty.{view_console, siot_in, siot_out}
 use Rattle.its_plain.specs.Transfer.{store_tests, read_tests, word_of, iot_ends, next_pointer}
 use Rattle.its_plain.specs.CallUsr.{usr_device, other_core, at_end, siot_peeks, siot_pokes}
 use Rattle.its_plain.specs.Change.{effect}
@@ -47,8 +47,8 @@ close_on_can v j m x a (Linked l write) s u e = closes_end_can v j m x a l write
 iot_on_can : (v : Beside) (j : ℕ) (m : Machine) (x : View) (a : Ask) (e : ℕ) (c : Chan) → Sees x m j → (is_disk c ≡ true → v.files) → Finds v x m j a (Some Iot) → channel_at x.own.channels (input a 0) ≡ c
     → Can v j m (iot_on x e (input a 0) c)
 iot_on_can v j m x a e Shut s u f is = tt
-iot_on_can v j m x a e TtyIn s u f is = iot_in_can v j m x e (console_of x) (console_below x m j s)
-iot_on_can v j m x a e TtyOut s u f is = iot_out_can v j m x e (console_of x) (console_below x m j s) s
+iot_on_can v j m x a e TtyIn s u f is = iot_in_can v j m x e (view_console x) (console_below x m j s)
+iot_on_can v j m x a e TtyOut s u f is = iot_out_can v j m x e (view_console x) (console_below x m j s) s
 iot_on_can v j m x a e (Reads names at) s u f is =
     let n = input a 0 in
     first_holds (Can v j m) (store_tests x e) (iot_read x e n at (slice_get (words_of x names) at)) (λ t. tt, (λ t. tt, tt))
@@ -67,10 +67,10 @@ siot_on_can : (v : Beside) (j : ℕ) (m : Machine) (x : View) (a : Ask) (c : Cha
 siot_on_can v j m x a Shut s u f is = tt
 siot_on_can v j m x a TtyIn s u f is =
     let next = next_pointer (input a 1) in
-    siot_by_can v j m x a false false (siot_in x a next (input a 2) (console_of x)) (λ e. siot_in_can v j m x a next (input a 2) (console_of x) (console_below x m j s))
+    siot_by_can v j m x a false false (siot_in x a next (input a 2) (view_console x)) (λ e. siot_in_can v j m x a next (input a 2) (view_console x) (console_below x m j s))
 siot_on_can v j m x a TtyOut s u f is =
     let next = next_pointer (input a 1) in
-    siot_by_can v j m x a false false (siot_out x a next (input a 2) (console_of x)) (λ e. siot_out_can v j m x a next (input a 2) (console_of x) (console_below x m j s) s)
+    siot_by_can v j m x a false false (siot_out x a next (input a 2) (view_console x)) (λ e. siot_out_can v j m x a next (input a 2) (view_console x) (console_below x m j s) s)
 siot_on_can v j m x a (Reads names at) s u f is =
     let n = input a 0 in
     let o = slice_get (words_of x names) at in

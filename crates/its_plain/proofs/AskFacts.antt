@@ -21,7 +21,7 @@ use Rattle.its_word.specs.declared.calls.Source.{Source}
 use Rattle.its_word.specs.declared.calls.Source.TheVariants.{Held, Immediate}
 use Rattle.its_frame.specs.declared.name.CallRow.{CallRow}
 use Rattle.its_plain.specs.Traced.{Located, also, gives, located}
-use Rattle.its_plain.specs.Decode.{Shape, allowed, argument, argument_at, arguments, ask, ask_of, control_of, error_at_of, error_by, exceeds, held, input_of, iot_ask, kind_of, name_of, output_of, parsed, place_of, row_named, shaped, storable, there, value_of, words_of}
+use Rattle.its_plain.specs.Decode.{Shape, allowed, argument, argument_at, arguments, ask, ask_of, control_of, error_at_of, error_by, exceeds, held, input_of, iot_ask, kind_of, name_of, output_of, parsed, held_place, row_named, shaped, storable, there, value_of, words_of}
 use Rattle.its_plain.proofs.AskLaws.{decoded_of, iot_of}
 use Rattle.its_plain.proofs.FitsLaws.{located_finds}
 use Rattle.its_plain.proofs.ReadLaws.{went}
@@ -140,7 +140,7 @@ word_there : (o : Option ℕ) → is_some o ≡ true → o ≡ Some (unwrap_or o
 word_there (Some w) h = refl
 word_there None h = cc
 
-source_word : (c : Core) (s : Source) → FineSource c s → HasWord c (record { value = value_of c s; place = place_of s })
+source_word : (c : Core) (s : Source) → FineSource c s → HasWord c (record { value = value_of c s; place = held_place s })
 source_word c (Held p) f = (f.below, word_there (word_at c p) f.there)
 source_word c (Immediate v) f = tt
 

@@ -14,7 +14,7 @@ use Rattle.its_word.specs.declared.calls.Operand.{Operand}
 use Rattle.its_word.specs.declared.calls.Site.{Site}
 use Rattle.its_word.specs.declared.calls.Source.TheVariants.{Held, Immediate}
 use Rattle.its_word.specs.declared.jobs.Job.{Job}
-use Rattle.its_plain.specs.Decode.{Shape, ask, ask_of, control_of, input_of, iot_ask, operand_of, place_of, shaped}
+use Rattle.its_plain.specs.Decode.{Shape, ask, ask_of, control_of, input_of, iot_ask, operand_of, held_place, shaped}
 use Rattle.its_plain.specs.Footprint.{Stands, times, with_inputs}
 use Rattle.its_plain.proofs.Locality.{Agree, Alike, Words}
 use Rattle.its_plain.proofs.SiteLaws.{site_same}
@@ -103,7 +103,7 @@ stored_agrees c p v reads tests t = record { words = λ q i. word_at-store_other
 
 -- the operand words are those of the inputs and those of the controls
 is_control_at : ℕ → Arg → Bool
-is_control_at p (Control s) = is_at p (place_of s)
+is_control_at p (Control s) = is_at p (held_place s)
 is_control_at p _ = false
 
 controls_at : ℕ → List Arg → ℕ

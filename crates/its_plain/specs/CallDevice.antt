@@ -10,7 +10,7 @@ use Rattle.its_plain.specs.Arguments.{input}
 use Rattle.its_plain.specs.View.{View}
 use Rattle.its_plain.specs.Tests.{finishes, fails}
 use Rattle.its_plain.specs.CallBasic.{channel_at, ioc}
-use Rattle.its_plain.specs.CallTty.{console_of, opens, iot_in, iot_out, siot_in, siot_out}
+use Rattle.its_plain.specs.CallTty.{view_console, opens, iot_in, iot_out, siot_in, siot_out}
 use Rattle.its_plain.specs.Transfer.{next_pointer, siot_by}
 use Rattle.its_plain.specs.CallFile.{disk_device, opens_disk, closes_draft, words_of, iot_reads, iot_writes, siot_reads, siot_writes}
 use Rattle.its_plain.specs.CallUsr.{usr_device, opens_usr, iot_through, siot_through}
@@ -45,8 +45,8 @@ close_call v a = close_on v a (channel_at v.own.channels (input a 0))
 -- `.IOT` of the word at e through channel n
 abbrev pub iot_on : View → ℕ → ℕ → Chan → Decision
 iot_on v e n Shut = ioc v
-iot_on v e n TtyIn = iot_in v e (console_of v)
-iot_on v e n TtyOut = iot_out v e (console_of v)
+iot_on v e n TtyIn = iot_in v e (view_console v)
+iot_on v e n TtyOut = iot_out v e (view_console v)
 iot_on v e n (Reads names at) = iot_reads v e n names at
 iot_on v e n (Writes f) = iot_writes v e n f
 iot_on v e n (On s write at) = iot_through v e n s write at
@@ -58,8 +58,8 @@ iot_call v a = iot_on v (slice_index_or a.outputs.items 0 0) (input a 0) (channe
 -- SIOT through channel n
 abbrev pub siot_on : View → Ask → ℕ → Chan → Decision
 siot_on v a n Shut = fails v a error.BAD_CHANNEL
-siot_on v a n TtyIn = siot_by v a false false (siot_in v a (next_pointer (input a 1)) (input a 2) (console_of v))
-siot_on v a n TtyOut = siot_by v a false false (siot_out v a (next_pointer (input a 1)) (input a 2) (console_of v))
+siot_on v a n TtyIn = siot_by v a false false (siot_in v a (next_pointer (input a 1)) (input a 2) (view_console v))
+siot_on v a n TtyOut = siot_by v a false false (siot_out v a (next_pointer (input a 1)) (input a 2) (view_console v))
 siot_on v a n (Reads names at) = siot_reads v a n at (slice_get (words_of v names) at)
 siot_on v a n (Writes f) = siot_writes v a n f
 siot_on v a n (On s write at) = siot_through v a n s write at

@@ -47,8 +47,8 @@ pub record Transition : Type 0 where
   pub part : Bool
 
 -- a step that moves no byte and disturbs nobody
-abbrev pub alone : Machine → Transition
-alone n = record { machine = n; moves = []; disturbs = []; part = false }
+abbrev pub quiet_step : Machine → Transition
+quiet_step n = record { machine = n; moves = []; disturbs = []; part = false }
 
 -- the result of a decision, for a call that reaches the jobs of these slots: first its changes, then the stores into the own core, then
 -- the registers. A call that waits has no step
@@ -86,15 +86,15 @@ faulted f q = with_registers (λ j. with_pending j (bit_of f)) q
 
 abbrev pub by_ask : Machine → ℕ → Whole → Result Ask Fault → Option Transition
 by_ask m j q (Ok a) = acted m j a (reach m j q a) (decision m j q a)
-by_ask m j q (Err f) = Some (alone (in_job m j (faulted f)))
+by_ask m j q (Err f) = Some (quiet_step (in_job m j (faulted f)))
 
 -- a unit that is done
 abbrev pub becomes : Core → Job → Whole → Whole
 becomes c j q = record q { core = c; job = j }
 
 abbrev pub by_unit : Machine → ℕ → Whole → Outcome → Option Transition
-by_unit m j q (Changed c k) = Some (alone (in_job m j (becomes c k)))
-by_unit m j q (Faulted f) = Some (alone (in_job m j (faulted f)))
+by_unit m j q (Changed c k) = Some (quiet_step (in_job m j (becomes c k)))
+by_unit m j q (Faulted f) = Some (quiet_step (in_job m j (faulted f)))
 by_unit m j q (Called s) = by_ask m j q (ask q.core s)
 
 -- a delivery: if a fatal bit stops the job, INF is set in its superior

@@ -20,8 +20,8 @@ use Rattle.its_plain.specs.CallBasic.{channel_at, is_shut, is_superior, Party, O
 use Rattle.its_plain.specs.Transfer.{iot_ends, read_tests, store_tests, word_of}
 
 -- the console of a job. A channel on a console is opened only if its job has one
-abbrev pub console_of : View → ℕ
-console_of v = unwrap_or v.own.job.console 0
+abbrev pub view_console : View → ℕ
+view_console v = unwrap_or v.own.job.console 0
 
 abbrev pub has_console : View → Bool
 has_console v = is_some v.own.job.console
@@ -96,7 +96,7 @@ siot_out v a next k c =
 -- FINISH channel, and LISTEN channel: they wait until all output is drained; LISTEN gives the number of input bytes
 abbrev pub finish_on : View → Ask → Chan → Decision
 finish_on v a Shut = fails v a error.BAD_CHANNEL
-finish_on v a TtyOut = first (output_left v (console_of v) ⇒ Waits (Drained (console_of v)) ∷ []) (finishes v [] [])
+finish_on v a TtyOut = first (output_left v (view_console v) ⇒ Waits (Drained (view_console v)) ∷ []) (finishes v [] [])
 finish_on v a _ = fails v a error.WRONG_DEVICE
 
 unfoldable pub finish : View → Ask → Decision
@@ -108,8 +108,8 @@ listens v a c =
 
 abbrev pub listen_on : View → Ask → Chan → Decision
 listen_on v a Shut = fails v a error.BAD_CHANNEL
-listen_on v a TtyIn = listens v a (console_of v)
-listen_on v a TtyOut = listens v a (console_of v)
+listen_on v a TtyIn = listens v a (view_console v)
+listen_on v a TtyOut = listens v a (view_console v)
 listen_on v a _ = fails v a error.WRONG_DEVICE
 
 unfoldable pub listen : View → Ask → Decision
@@ -127,12 +127,12 @@ is_holder v (Some h) = h == v.slot
 
 abbrev pub lands : View → Ask → Bool → ℕ → ℕ → Decision
 lands v a may number s =
-    first (not (has_console v) ⇒ fails v a error.WRONG_DEVICE ∷ not may ⇒ fails v a number ∷ []) (finishes v (changes.Hold (console_of v) s ∷ []) [])
+    first (not (has_console v) ⇒ fails v a error.WRONG_DEVICE ∷ not may ⇒ fails v a number ∷ []) (finishes v (changes.Hold (view_console v) s ∷ []) [])
 
 abbrev pub ttylnd_of : View → Ask → Party → Decision
-ttylnd_of v a Oneself = lands v a (can_take v (v.holders (console_of v))) error.NOT_INFERIOR v.slot
+ttylnd_of v a Oneself = lands v a (can_take v (v.holders (view_console v))) error.NOT_INFERIOR v.slot
 ttylnd_of v a Nobody = fails v a error.BAD_CHANNEL
-ttylnd_of v a (Channel (On s write at)) = lands v a (is_holder v (v.holders (console_of v))) error.WRONG_DEVICE s
+ttylnd_of v a (Channel (On s write at)) = lands v a (is_holder v (v.holders (view_console v))) error.WRONG_DEVICE s
 ttylnd_of v a (Channel c) = fails v a error.WRONG_DEVICE
 
 unfoldable pub ttylnd : View → Ask → Decision

@@ -133,13 +133,13 @@ abbrev pub value_of : Core → Source → ℕ
 value_of c (Held p) = unwrap_or (word_at c p) 0
 value_of c (Immediate v) = v
 
-abbrev pub place_of : Source → Option ℕ
-place_of (Held p) = Some p
-place_of (Immediate v) = None
+abbrev pub held_place : Source → Option ℕ
+held_place (Held p) = Some p
+held_place (Immediate v) = None
 
 -- what an argument is as an input, an output, an error address and a control; and the word that it takes its value from
 abbrev pub input_of : Core → Arg → Option Operand
-input_of c (Input s) = Some (record { value = value_of c s; place = place_of s })
+input_of c (Input s) = Some (record { value = value_of c s; place = held_place s })
 input_of c _ = None
 
 abbrev pub output_of : Arg → Option ℕ
@@ -155,8 +155,8 @@ control_of c (Control s) = Some (value_of c s)
 control_of c _ = None
 
 abbrev pub operand_of : Arg → Option ℕ
-operand_of (Input s) = place_of s
-operand_of (Control s) = place_of s
+operand_of (Input s) = held_place s
+operand_of (Control s) = held_place s
 operand_of _ = None
 
 -- the row of a call that a block can name: any but `.IOT`, which has none

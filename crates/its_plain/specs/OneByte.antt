@@ -19,7 +19,7 @@ use Rattle.its_plain.specs.Arguments.{input, revalued}
 use Rattle.its_plain.specs.Footprint.{Stands}
 use Rattle.its_plain.specs.View.{View, view}
 use Rattle.its_plain.specs.CallBasic.{channel_at}
-use Rattle.its_plain.specs.CallTty.{console_of, shown_byte}
+use Rattle.its_plain.specs.CallTty.{view_console, shown_byte}
 use Rattle.its_plain.specs.Transfer.{next_pointer}
 use Rattle.its_plain.specs.CallFile.{words_of}
 use Rattle.its_plain.specs.CallUsr.{other_core}
@@ -57,9 +57,9 @@ word_named v pointer = word_at v.own.core (right_of pointer)
 -- link the first of its words, and to a link the byte at the pointer. Nothing is moved through a closed channel
 abbrev pub Bears : View → ℕ → ℕ → Chan → List Change → Option Held → Type 0
 Bears v pointer n TtyIn cs h =
-    ComesIn pointer (slice_get (v.consoles (console_of v)).input 0) (changes.Take (console_of v) ∷ []) cs h
+    ComesIn pointer (slice_get (v.consoles (view_console v)).input 0) (changes.Take (view_console v) ∷ []) cs h
 Bears v pointer n TtyOut cs h =
-    GoesOut pointer (word_named v pointer) (λ b. changes.Put (console_of v) (shown_byte b) ∷ []) cs h
+    GoesOut pointer (word_named v pointer) (λ b. changes.Put (view_console v) (shown_byte b) ∷ []) cs h
 Bears v pointer n (Reads names at) cs h =
     ComesIn pointer (slice_get (words_of v names) at) (changes.Move n (at + 1) ∷ []) cs h
 Bears v pointer n (Writes f) cs h = GoesOut pointer (word_named v pointer) (λ b. changes.Append n b ∷ []) cs h

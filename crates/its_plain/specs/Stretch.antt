@@ -37,13 +37,13 @@ is_own j _ = false
 
 -- a stretch of a run: each moment is a step of the job of slot j that is a part of its call, or leaves its core and its
 -- PC as they are. Lines and steps of others may change everything else
-abbrev pub Fits : Bool → ℕ → Machine → Machine → Type 0
-Fits true j m n = steps_on m j ≡ true
-Fits false j m n = Untouched (m.jobs j) (n.jobs j)
+abbrev pub StretchFits : Bool → ℕ → Machine → Machine → Type 0
+StretchFits true j m n = steps_on m j ≡ true
+StretchFits false j m n = Untouched (m.jobs j) (n.jobs j)
 
 abbrev pub Stretch : ℕ → List Moment → Machine → Type 0
 Stretch j [] n = Unit {0}
-Stretch j (t ∷ ts) n = Fits (is_own j t.deed) j t.machine (machine_at ts n) × Stretch j ts n
+Stretch j (t ∷ ts) n = StretchFits (is_own j t.deed) j t.machine (machine_at ts n) × Stretch j ts n
 
 -- how many steps the job makes in it
 abbrev pub counted : Bool → ℕ → ℕ

@@ -119,7 +119,7 @@ abbrev pub both_down : ℕ → ℕ
 both_down w = pair_of (left_of w + (2 ^ 18 - 1)) (right_of w + (2 ^ 18 - 1))
 
 -- the numbers of a context are those of an instruction
-pub record Fits (x : Context) : Type 0 where
+pub record ContextFits (x : Context) : Type 0 where
   pub pc : x.pc < 2 ^ 18
   pub a : x.a < 16
   pub e : x.e < 2 ^ 18

@@ -27,7 +27,7 @@ use Rattle.its_reader.specs.Bytes.{pending}
 use Rattle.std.specs.List.{list_all}
 use Rattle.std.proofs.lemmas.List.Folds.{list_all-append}
 use Rattle.its_reader.specs.Limits.{is_short}
-use Rattle.its_reader.specs.Lines.{Opened, Ready, Facing, ahead, NextOf, Reads}
+use Rattle.its_reader.specs.Lines.{Opened, BetweenLines, Facing, ahead, NextOf, Reads}
 use Rattle.its_reader.specs.Items.{found_of, place_found, version_found, end_found, is_last, is_end, items_ahead, last_items, FoundOf, LineOf, Finds, FoundSoFar, ReadOut, AllFound, Ended, Behind}
 use Rattle.its_reader.proofs.LinesLaws.{facing, limits_by}
 
@@ -255,7 +255,7 @@ last_found (Bad r) old new read g q = q
 last_found Beyond old new read g q = q
 last_found End old new read g q = q.1
 
-all_of : (f : Found) (es : List Item) (new : Items) (left rest : Option (List ℕ)) (read : List ℕ) → Ready new.lines rest → Consumes left rest read
+all_of : (f : Found) (es : List Item) (new : Items) (left rest : Option (List ℕ)) (read : List ℕ) → BetweenLines new.lines rest → Consumes left rest read
     → Facing new.lines.ended (λ _ more. all_items true (read ++ more) ≡ es ++ last_items f) → IfSome left (λ bytes. AllFound (Ok f) es bytes read)
 unfolding events_of
 all_of f es new None rest read r c q = tt
@@ -273,7 +273,7 @@ by_end : (b : Bool) (es : List Item) (bytes read ys : List ℕ) → bytes ≡ re
 by_end true es bytes read ys c o q = inl (sym (append-nil read) ∙ ap (λ x. read ++ x) (sym (o refl)) ∙ sym c)
 by_end false es bytes read ys c o q = inr (end_read es read (q false []))
 
-pub out_of : (f : Found) (es : List Item) (old new : Items) (left mid rest : Option (List ℕ)) → Ready new.lines rest → FoundSoFar es old left mid → Finds (Ok f) old new mid rest → is_end f ≡ true
+pub out_of : (f : Found) (es : List Item) (old new : Items) (left mid rest : Option (List ℕ)) → BetweenLines new.lines rest → FoundSoFar es old left mid → Finds (Ok f) old new mid rest → is_end f ≡ true
     → IfSome left (λ bytes. ReadOut bytes rest)
 out_of f es old new None mid rest r s t g = tt
 out_of f es old new (Some bytes) mid None r s t g = absurd (Consumes-trans (Some bytes) mid None s.read t.read s.consumed t.consumed)
@@ -292,7 +292,7 @@ out_of End es old new (Some bytes) mid (Some ys) r s t g =
     record { read = s.read ++ t.read; consumed = c; out = inl (sym (append-nil (s.read ++ t.read)) ∙ ap (λ x. (s.read ++ t.read) ++ x) (sym (r.over t.found.0).1) ∙ sym c) }
 out_of _ es old new (Some bytes) mid (Some ys) r s t g = cc
 
-pub ended_by : (f : Found) (es : List Item) (old new : Items) (left mid rest : Option (List ℕ)) → is_last f ≡ true → Ready new.lines rest → FoundSoFar es old left mid → Finds (Ok f) old new mid rest → Ended (Ok f) es left rest
+pub ended_by : (f : Found) (es : List Item) (old new : Items) (left mid rest : Option (List ℕ)) → is_last f ≡ true → BetweenLines new.lines rest → FoundSoFar es old left mid → Finds (Ok f) old new mid rest → Ended (Ok f) es left rest
 ended_by f es old new left mid rest g r s t =
     let c = Consumes-trans left mid rest s.read t.read s.consumed t.consumed in
     record {
@@ -331,7 +331,7 @@ last_behind : (f : Found) (es : List Item) (left : Option (List ℕ)) (read : Li
 last_behind f es None read a = tt
 last_behind f es (Some bytes) read a = record { tail = []; all = a ∙ ap (λ x. es ++ x) (sym (append-nil (last_items f))); last = λ e. refl }
 
-line_behind : (e : Event) (es : List Item) (new : Items) (left rest : Option (List ℕ)) → is_end (Line e) ≡ false → Ready new.lines rest → FoundSoFar (es ++ Read e ∷ []) new left rest → IfSome left (λ bytes. Behind (Line e) es bytes)
+line_behind : (e : Event) (es : List Item) (new : Items) (left rest : Option (List ℕ)) → is_end (Line e) ≡ false → BetweenLines new.lines rest → FoundSoFar (es ++ Read e ∷ []) new left rest → IfSome left (λ bytes. Behind (Line e) es bytes)
 unfolding events_of
 line_behind e es new None rest g r s = tt
 line_behind e es new (Some bytes) None g r s = absurd s.consumed
@@ -345,7 +345,7 @@ line_behind e es new (Some bytes) (Some ys) g r s = record {
   last = λ l. absurd (let k : false ≡ true = sym g ∙ l in cc);
 }
 
-pub behind_by : (f : Found) (es : List Item) (old new : Items) (left mid rest : Option (List ℕ)) → Ready new.lines rest → FoundSoFar es old left mid → Finds (Ok f) old new mid rest → IfSome left (λ bytes. Behind f es bytes)
+pub behind_by : (f : Found) (es : List Item) (old new : Items) (left mid rest : Option (List ℕ)) → BetweenLines new.lines rest → FoundSoFar es old left mid → Finds (Ok f) old new mid rest → IfSome left (λ bytes. Behind f es bytes)
 behind_by f es old new left mid rest r s t = elim (cases_Bool (is_last f)) [
   | inl l ↦ last_behind f es left (ended_by f es old new left mid rest l r s t).read (ended_by f es old new left mid rest l r s t).all
   | inr l ↦ by f l t

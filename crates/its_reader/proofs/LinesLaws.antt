@@ -12,9 +12,9 @@ use Rattle.its_reader.specs.declared.buffer.Buffer.{Buffer}
 use Rattle.its_reader.specs.declared.lines.Lines.{Lines}
 use Rattle.its_reader.specs.declared.lines.Next.{Next}
 use Rattle.its_reader.specs.declared.lines.Next.TheVariants.{Line, Long, Beyond, End}
-use Rattle.its_reader.specs.Bytes.{pending, Fits, Taken, Broke}
+use Rattle.its_reader.specs.Bytes.{pending, BufferFits, Taken, Broke}
 use Rattle.its_reader.specs.Limits.{WithinLimits, is_short}
-use Rattle.its_reader.specs.Lines.{Opened, Ready, ahead, Facing, SomeLine, NextOf, Reads, Pushed, last_of, LineSo}
+use Rattle.its_reader.specs.Lines.{Opened, BetweenLines, ahead, Facing, SomeLine, NextOf, Reads, Pushed, last_of, LineSo}
 
 pub facing : (b : Bool) (P : Bool → List ℕ → Type 0) → ((whole : Bool) (more : List ℕ) → P whole more) → Facing b P
 facing false P f = f
@@ -165,7 +165,7 @@ limits_by lines (line ∷ []) bytes is short few opened =
 limits_by lines (line ∷ (next ∷ more)) bytes is short few opened = absurd opened
 
 -- after the end there is nothing
-pub reads_ended : (old new : Lines) (left : Option (List ℕ)) → Ready old left → old.ended ≡ true → new.ended ≡ true → Reads (Ok End) old new left left
+pub reads_ended : (old new : Lines) (left : Option (List ℕ)) → BetweenLines old left → old.ended ≡ true → new.ended ≡ true → Reads (Ok End) old new left left
 reads_ended old new left r e f = record {
   read = [];
   consumed = Consumes-nil left;
@@ -189,10 +189,10 @@ reads_from result old start new left rest e f r = record {
 }
 
 -- the loop leaves its state ready
-pub ready_open : (r : Lines) (left : Option (List ℕ)) → Fits r.buffer → r.ended ≡ false → Ready r left
+pub ready_open : (r : Lines) (left : Option (List ℕ)) → BufferFits r.buffer → r.ended ≡ false → BetweenLines r left
 ready_open r left f e = record { fits = f; over = λ x. absurd (let k : false ≡ true = sym e ∙ x in cc) }
 
-pub ready_over : (r now : Lines) (left mid : Option (List ℕ)) → Fits r.buffer → Taken None now.buffer r.buffer mid left → Ready r left
+pub ready_over : (r now : Lines) (left mid : Option (List ℕ)) → BufferFits r.buffer → Taken None now.buffer r.buffer mid left → BetweenLines r left
 ready_over r now left mid f t = record { fits = f; over = λ x. (t.given.1, t.end refl) }
 
 pub reads_last_by : (next : Next) (o : Option ℕ) (slice : List ℕ) (old now new : Lines) (left mid rest : Option (List ℕ)) → next ≡ last_of slice → slice ≡ new.line.items → o ≡ None → old.ended ≡ false → new.ended ≡ true

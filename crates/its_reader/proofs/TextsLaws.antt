@@ -11,7 +11,7 @@ use Rattle.its_reader.specs.declared.buffer.Buffer.{Buffer}
 use Rattle.its_reader.specs.declared.lines.Next.{Next}
 use Rattle.its_reader.specs.declared.lines.Next.TheVariants.{Line, Long, Beyond, End}
 use Rattle.its_reader.specs.declared.texts.Texts.{Texts}
-use Rattle.its_reader.specs.Bytes.{pending, Fits, Taken, Broke}
+use Rattle.its_reader.specs.Bytes.{pending, BufferFits, Taken, Broke}
 use Rattle.its_reader.specs.Lines.{Facing, SomeLine, last_of}
 use Rattle.its_session.specs.Events.{most_lines}
 use Rattle.its_reader.specs.Texts.{OpenedText, PushedText, ReadsText, ReadyTexts, TextOf, TextSo, is_inside, texts_ahead}
@@ -229,10 +229,10 @@ reads_from result old start new left rest e f r = record {
 }
 
 -- the loop leaves its state ready
-pub ready_open : (r : Texts) (left : Option (List ℕ)) → Fits r.buffer → r.ended ≡ false → ReadyTexts r left
+pub ready_open : (r : Texts) (left : Option (List ℕ)) → BufferFits r.buffer → r.ended ≡ false → ReadyTexts r left
 ready_open r left f e = record { fits = f; over = λ x. absurd (false≢true (sym e ∙ x)) }
 
-pub ready_over : (r now : Texts) (left mid : Option (List ℕ)) → Fits r.buffer → Taken None now.buffer r.buffer mid left → ReadyTexts r left
+pub ready_over : (r now : Texts) (left mid : Option (List ℕ)) → BufferFits r.buffer → Taken None now.buffer r.buffer mid left → ReadyTexts r left
 ready_over r now left mid f t = record { fits = f; over = λ x. (t.given.1, t.end refl) }
 
 -- how long it is

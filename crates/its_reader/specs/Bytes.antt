@@ -9,8 +9,8 @@ use Rattle.its_reader.specs.declared.buffer.Buffer.{Buffer}
 abbrev pub pending : Buffer → List ℕ
 pending b = drop b.start (take b.stop b.bytes)
 
-abbrev pub Fits : Buffer → Type 0
-Fits b = (b.start ≤ b.stop) × (b.stop ≤ length b.bytes) × (length b.bytes ≡ 512)
+abbrev pub BufferFits : Buffer → Type 0
+BufferFits b = (b.start ≤ b.stop) × (b.stop ≤ length b.bytes) × (length b.bytes ≡ 512)
 
 -- the first of some bytes, and those after it; none if there is none
 abbrev pub Given : Option ℕ → List ℕ → List ℕ → Type 0

@@ -7,7 +7,7 @@ use Rattle.its_session.specs.Events.{most_lines, lines_from}
 use Rattle.its_reader.specs.declared.lines.Lines.{Lines}
 use Rattle.its_reader.specs.declared.lines.Next.{Next}
 use Rattle.its_reader.specs.declared.lines.Next.TheVariants.{Line, Long, Beyond, End}
-use Rattle.its_reader.specs.Bytes.{pending, Fits}
+use Rattle.its_reader.specs.Bytes.{pending, BufferFits}
 
 -- a line that has begun is one of those that are read
 abbrev pub Begun : List ℕ → ℕ → Type 0
@@ -15,8 +15,8 @@ Begun [] n = Unit {0}
 Begun (b ∷ bs) n = n ≤ most_lines
 
 -- between two lines: once the source has ended, no byte is left
-pub record Ready (r : Lines) (left : Option (List ℕ)) : Type 0 where
-  pub fits : Fits r.buffer
+pub record BetweenLines (r : Lines) (left : Option (List ℕ)) : Type 0 where
+  pub fits : BufferFits r.buffer
   pub over : r.ended ≡ true → (pending r.buffer ≡ []) × IsAtEnd left
 
 -- the lines that are still to come, if these bytes are still to be read; `whole` says that the source ends with them

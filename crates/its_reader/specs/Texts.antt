@@ -9,12 +9,12 @@ use Rattle.its_reader.specs.TextLines.{before_lf, lines_in}
 use Rattle.its_reader.specs.declared.lines.Next.{Next}
 use Rattle.its_reader.specs.declared.lines.Next.TheVariants.{Line, Long, Beyond, End}
 use Rattle.its_reader.specs.declared.texts.Texts.{Texts}
-use Rattle.its_reader.specs.Bytes.{pending, Fits}
+use Rattle.its_reader.specs.Bytes.{pending, BufferFits}
 use Rattle.its_reader.specs.Lines.{Facing, SomeLine}
 
 -- between two lines: once the source has ended, no byte is left
 pub record ReadyTexts (r : Texts) (left : Option (List ℕ)) : Type 0 where
-  pub fits : Fits r.buffer
+  pub fits : BufferFits r.buffer
   pub over : r.ended ≡ true → (pending r.buffer ≡ []) × IsAtEnd left
 
 -- the lines that are still to come, if these bytes are still to be read

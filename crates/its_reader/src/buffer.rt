@@ -1,6 +1,6 @@
 ghost use Rattle.std.specs.Prelude.{◌≡◌, ◌≤◌, [], length};
 ghost use Rattle.its_io.specs.Bytes.{HasCause};
-ghost use Rattle.its_reader.specs.Bytes.{pending, Fits, Filled, Given, Took, Taken};
+ghost use Rattle.its_reader.specs.Bytes.{pending, BufferFits, Filled, Given, Took, Taken};
 
 use its_io::{Failed, Source};
 
@@ -15,7 +15,7 @@ pub struct Buffer {
 impl Buffer {
     /// A buffer into which nothing was read.
     pub fn new() -> Buffer
-        ensures fits { Fits result }
+        ensures fits { BufferFits result }
         ensures empty { pending result ≡ [] }
     {
         Buffer {
@@ -28,9 +28,9 @@ impl Buffer {
     /// The next byte of the source; None at its end.
     #[tactic(auto, using(crate::proofs::BufferLaws::took))]
     pub fn next<S: Source>(&mut self, src: &mut S) -> Result<Option<u8>, Failed>
-        requires fits { Fits self.old }
+        requires fits { BufferFits self.old }
         ensures took { Took result self.old self.new (S.left src.old) (S.left src.new) }
-        ensures fits { Fits self.new }
+        ensures fits { BufferFits self.new }
         ensures cause { HasCause (S.faults src.old) (S.faults src.new) result }
     {
         match self.fill(src) {
@@ -42,9 +42,9 @@ impl Buffer {
     /// Reads bytes, if all that were read are taken.
     #[tactic(auto, using(crate::proofs::BufferLaws::filled_some, crate::proofs::BufferLaws::filled_read, crate::proofs::BufferLaws::none_pending))]
     fn fill<S: Source>(&mut self, src: &mut S) -> Result<(), Failed>
-        requires fits { Fits self.old }
+        requires fits { BufferFits self.old }
         ensures filled { Filled result self.old self.new (S.left src.old) (S.left src.new) }
-        ensures fits { Fits self.new }
+        ensures fits { BufferFits self.new }
         ensures cause { HasCause (S.faults src.old) (S.faults src.new) result }
     {
         if self.start < self.stop {
@@ -59,9 +59,9 @@ impl Buffer {
     /// Takes the first of the bytes that were read; None if all are taken.
     #[tactic(auto, using(crate::proofs::BufferLaws::taken, crate::proofs::BufferLaws::none_pending))]
     fn take(&mut self) -> Option<u8>
-        requires fits { Fits self.old }
+        requires fits { BufferFits self.old }
         ensures given { Given result (pending self.old) (pending self.new) }
-        ensures fits { Fits self.new }
+        ensures fits { BufferFits self.new }
     {
         if self.start == self.stop {
             return None;

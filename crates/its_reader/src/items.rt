@@ -1,8 +1,8 @@
 ghost use Rattle.std.specs.Prelude.{◌≡◌, ◌≤◌, ◌+◌, [], false, IfOk};
 ghost use Rattle.its_io.specs.Bytes.{HasCause};
 ghost use Rattle.its_session.specs.Events.{most_lines, place_after, unread_reason, version_after};
-ghost use Rattle.its_reader.specs.Bytes.{pending, Fits};
-ghost use Rattle.its_reader.specs.Lines.{Ready};
+ghost use Rattle.its_reader.specs.Bytes.{pending, BufferFits};
+ghost use Rattle.its_reader.specs.Lines.{BetweenLines};
 ghost use Rattle.its_session.specs.Grammar.{line_event};
 ghost use Rattle.its_reader.specs.Items.{Finds, end_found, found_fits, found_of, found_stands, is_last, place_found, version_found};
 
@@ -39,7 +39,7 @@ impl Items {
     /// The items of a session of which nothing was read.
     pub fn new() -> Items
         ensures number { result.lines.number ≡ 0 }
-        ensures fits { Fits result.lines.buffer }
+        ensures fits { BufferFits result.lines.buffer }
         ensures empty { pending result.lines.buffer ≡ [] }
         ensures open { result.lines.ended ≡ false }
         ensures first { result.place ≡ Place.First }
@@ -56,13 +56,13 @@ impl Items {
     /// as CUT. Nothing is to be asked for after END or after what is no line.
     #[tactic(auto, using(crate::proofs::ItemsLaws::finds_line, crate::proofs::ItemsLaws::finds_long, crate::proofs::ItemsLaws::finds_beyond, crate::proofs::ItemsLaws::finds_end, crate::proofs::ItemsLaws::finds_broken))]
     pub fn next<S: Source>(&mut self, src: &mut S) -> Result<Found, Failed>
-        requires ready { Ready self.old.lines (S.left src.old) }
+        requires ready { BetweenLines self.old.lines (S.left src.old) }
         requires few { self.old.lines.number ≤ most_lines }
         ensures finds { Finds result self.old self.new (S.left src.old) (S.left src.new) }
         ensures fits { IfOk result (found_fits self.old.version) }
         ensures stands { IfOk result (found_stands self.old.place) }
         ensures place { IfOk result (λ f. self.new.place ≡ place_found self.old.place f) }
-        ensures ready { IfOk result (λ _. Ready self.new.lines (S.left src.new)) }
+        ensures ready { IfOk result (λ _. BetweenLines self.new.lines (S.left src.new)) }
         ensures number { self.new.lines.number ≡ self.old.lines.number + 1 }
         ensures few { IfOk result (λ f. is_last f ≡ false → self.new.lines.number ≤ most_lines) }
         ensures cause { HasCause (S.faults src.old) (S.faults src.new) result }

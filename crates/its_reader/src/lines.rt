@@ -1,8 +1,8 @@
 ghost use Rattle.std.specs.Prelude.{◌≡◌, ◌≢◌, ◌≤◌, ◌<◌, ◌+◌, [], false, Ok, length, IfOk};
 ghost use Rattle.its_io.specs.Bytes.{HasCause};
 ghost use Rattle.its_session.specs.Events.{most_lines};
-ghost use Rattle.its_reader.specs.Bytes.{pending, Fits};
-ghost use Rattle.its_reader.specs.Lines.{Ready, Reads, Pushed, last_of};
+ghost use Rattle.its_reader.specs.Bytes.{pending, BufferFits};
+ghost use Rattle.its_reader.specs.Lines.{BetweenLines, Reads, Pushed, last_of};
 
 use super::buffer::Buffer;
 use arrayvec::ArrayVec;
@@ -41,7 +41,7 @@ impl Lines {
     /// The lines of a source of which nothing was read.
     pub fn new() -> Lines
         ensures number { result.number ≡ 0 }
-        ensures fits { Fits result.buffer }
+        ensures fits { BufferFits result.buffer }
         ensures pending { pending result.buffer ≡ [] }
         ensures ended { result.ended ≡ false }
     {
@@ -57,10 +57,10 @@ impl Lines {
     /// if a line has begun.
     #[tactic(auto, using(crate::proofs::LinesLaws::reads_ended, crate::proofs::LinesLaws::reads_from))]
     pub fn next<S: Source>(&mut self, src: &mut S) -> Result<Next, Failed>
-        requires ready { Ready self.old (S.left src.old) }
+        requires ready { BetweenLines self.old (S.left src.old) }
         requires few { self.old.number ≤ most_lines }
         ensures reads { Reads result self.old self.new (S.left src.old) (S.left src.new) }
-        ensures ready { IfOk result (λ _. Ready self.new (S.left src.new)) }
+        ensures ready { IfOk result (λ _. BetweenLines self.new (S.left src.new)) }
         ensures number { self.new.number ≡ self.old.number + 1 }
         ensures few { result ≡ Ok Next.Line → self.new.number ≤ most_lines }
         ensures short { length self.new.line.items ≤ 255 }
@@ -77,12 +77,12 @@ impl Lines {
     /// Reads up to the end of a line, or of the source.
     #[tactic(auto, using(crate::proofs::LinesLaws::so_start, crate::proofs::LinesLaws::so_next, crate::proofs::LinesLaws::reads_push, crate::proofs::LinesLaws::reads_last, crate::proofs::LinesLaws::reads_broken, crate::proofs::LinesLaws::ready_open, crate::proofs::LinesLaws::ready_over))]
     fn read_on<S: Source>(&mut self, src: &mut S) -> Result<Next, Failed>
-        requires fits { Fits self.old.buffer }
+        requires fits { BufferFits self.old.buffer }
         requires empty { self.old.line.items ≡ [] }
         requires open { self.old.ended ≡ false }
         requires most { self.old.number ≤ most_lines + 1 }
         ensures reads { Reads result self.old self.new (S.left src.old) (S.left src.new) }
-        ensures ready { IfOk result (λ _. Ready self.new (S.left src.new)) }
+        ensures ready { IfOk result (λ _. BetweenLines self.new (S.left src.new)) }
         ensures number { self.new.number ≡ self.old.number }
         ensures few { result ≡ Ok Next.Line → self.new.number ≤ most_lines }
         ensures short { length self.new.line.items ≤ 255 }

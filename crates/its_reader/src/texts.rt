@@ -1,7 +1,7 @@
 ghost use Rattle.std.specs.Prelude.{◌≡◌, ◌≤◌, ◌<◌, ◌+◌, [], false, Ok, length, IfOk};
 ghost use Rattle.its_io.specs.Bytes.{HasCause};
 ghost use Rattle.its_session.specs.Events.{most_lines};
-ghost use Rattle.its_reader.specs.Bytes.{pending, Fits};
+ghost use Rattle.its_reader.specs.Bytes.{pending, BufferFits};
 ghost use Rattle.its_reader.specs.Lines.{last_of};
 ghost use Rattle.its_reader.specs.TextLines.{before_lf};
 ghost use Rattle.its_reader.specs.Texts.{PushedText, ReadsText, ReadyTexts};
@@ -29,7 +29,7 @@ pub struct Texts {
 impl Texts {
     /// The lines of a source of which nothing was read, when each has so many bytes at most before its LF.
     pub fn new(most: usize) -> Texts
-        ensures fits { Fits result.buffer }
+        ensures fits { BufferFits result.buffer }
         ensures pending { pending result.buffer ≡ [] }
         ensures number { result.number ≡ 0 }
         ensures most { result.most ≡ most }
@@ -70,7 +70,7 @@ impl Texts {
     /// Reads up to the end of a line, or of the source.
     #[tactic(auto, using(crate::proofs::TextsLaws::so_start, crate::proofs::TextsLaws::so_next, crate::proofs::TextsLaws::ready_open, crate::proofs::TextsLaws::ready_over, crate::proofs::TextsLaws::short_end, crate::proofs::TextsLaws::short_last))]
     fn read_on<S: Source>(&mut self, src: &mut S) -> Result<Next, Failed>
-        requires fits { Fits self.old.buffer }
+        requires fits { BufferFits self.old.buffer }
         requires empty { self.old.text.items ≡ [] }
         requires open { self.old.ended ≡ false }
         requires first { self.old.number ≤ most_lines + 1 }

@@ -15,7 +15,7 @@ use Rattle.its_word.specs.declared.session.Bad.TheVariants as bads
 use Rattle.its_session.specs.declared.kind.Kind.{Kind}
 use Rattle.its_session.specs.declared.kind.Kind.TheVariants as kinds
 use Rattle.its_session.specs.Fits.{EventFits, SpanFits, IsNameWord, place_of, Stands}
-use Rattle.its_session.specs.Grammar.{Field, with_fields, with_count, number, number_to, count_to, last_slot, slot, page, address, name, console, is_dash, console_or_dash, console_of, of_slot, of_span, load_line, words_line, go_line, file_line, append_line, bare_line, tick_line, run_line, type_line, drain_line, clock_line, int_line, span_line, deposit_line, slot_line, dir_line, show_line, version_line, read_only_line, symbol_line, before_slash, kind_of, may_stand, is_at, place_of_kind, version_of_kind, line_of_kind, line_of_first, is_comment, event_of_words}
+use Rattle.its_session.specs.Grammar.{Field, with_fields, with_count, number, number_to, count_to, last_slot, slot, page, address, name, console, is_dash, console_or_dash, console_given, of_slot, of_span, load_line, words_line, go_line, file_line, append_line, bare_line, tick_line, run_line, type_line, drain_line, clock_line, int_line, span_line, deposit_line, slot_line, dir_line, show_line, version_line, read_only_line, symbol_line, before_slash, kind_of, may_stand, is_at, place_of_kind, version_of_kind, line_of_kind, line_of_first, is_comment, event_of_words}
 use Rattle.its_session.proofs.NameLaws.{both}
 
 le_of : (a b : ℕ) → leb a b ≡ true → a ≤ b
@@ -105,7 +105,7 @@ is_address w f = let most : octal_value w ≤ 2 ^ 18 - 1 = at_most (2 ^ 18 - 1) 
 is_console : (w : List ℕ) → Met (console w) → octal_value w ≤ 7
 is_console w f = le_of (octal_value w) 7 f.console
 
-may_be_console : (w : List ℕ) → Met (console_or_dash w) → IfSome (console_of w) (λ k. k ≤ 7)
+may_be_console : (w : List ℕ) → Met (console_or_dash w) → IfSome (console_given w) (λ k. k ≤ 7)
 may_be_console w f = go (is_dash w) f
   where
     go : (b : Bool) → Met (if b then record { formed = true; ranged = true; console = true } else console w) → IfSome (if b then None else Some (octal_value w)) (λ k. k ≤ 7)
@@ -120,7 +120,7 @@ are_bytes (w ∷ ws) f = All-cons (λ b. b ≤ 127) (octal_value w) (map octal_v
 load_fits : (v : ℕ) (ws : List (List ℕ)) (e : Event) → load_line ws ≡ Ok e → ReadAt v places.Plain e
 unfolding load_line
 load_fits v (u ∷ j ∷ c ∷ []) e h =
-    fits_by v (name u ∷ name j ∷ console_or_dash c ∷ []) (events.Load (sixbit_of u) (sixbit_of j) (console_of c)) e (λ f. (is_name_word u f.0, is_name_word j f.1.0, may_be_console c f.1.1.0)) h
+    fits_by v (name u ∷ name j ∷ console_or_dash c ∷ []) (events.Load (sixbit_of u) (sixbit_of j) (console_given c)) e (λ f. (is_name_word u f.0, is_name_word j f.1.0, may_be_console c f.1.1.0)) h
 load_fits v _ e h = cc
 
 words_fits : (v : ℕ) (a : List ℕ) (ws : List (List ℕ)) (e : Event) → words_line a ws ≡ Ok e → ReadAt v places.Load e

@@ -73,8 +73,8 @@ is_dash w = bytes_eq w (codes "-")
 abbrev pub console_or_dash : List ℕ → Field
 console_or_dash w = if is_dash w then record { formed = true; ranged = true; console = true } else console w
 
-abbrev pub console_of : List ℕ → Option ℕ
-console_of w = if is_dash w then None else Some (octal_value w)
+abbrev pub console_given : List ℕ → Option ℕ
+console_given w = if is_dash w then None else Some (octal_value w)
 
 -- a line of 1 to so many words
 abbrev pub with_count : ℕ → List (List ℕ) → Result Event Bad → Result Event Bad
@@ -89,7 +89,7 @@ version_line _ = Err Syntax
 
 -- `LOAD u j c`
 unfoldable pub load_line : List (List ℕ) → Result Event Bad
-load_line (u ∷ j ∷ c ∷ []) = with_fields (name u ∷ name j ∷ console_or_dash c ∷ []) (events.Load (sixbit_of u) (sixbit_of j) (console_of c))
+load_line (u ∷ j ∷ c ∷ []) = with_fields (name u ∷ name j ∷ console_or_dash c ∷ []) (events.Load (sixbit_of u) (sixbit_of j) (console_given c))
 load_line _ = Err Syntax
 
 -- `a/` and 1 to 16 words, which end at the last address

@@ -1,6 +1,6 @@
 //! The rows of the table of lines: each of these reads the words that follow a first word.
 ghost use Rattle.std.specs.Prelude.{◌≡◌, if◌then◌else◌, map};
-ghost use Rattle.its_session.specs.Grammar.{append_line, bare_line, clock_line, console_of, is_dash, deposit_line, dir_line, drain_line, file_line, go_line, int_line, load_line, read_only_line, run_line, show_line, slot_line, span_line, symbol_line, tick_line, type_line, version_line, words_line};
+ghost use Rattle.its_session.specs.Grammar.{append_line, bare_line, clock_line, console_given, is_dash, deposit_line, dir_line, drain_line, file_line, go_line, int_line, load_line, read_only_line, run_line, show_line, slot_line, span_line, symbol_line, tick_line, type_line, version_line, words_line};
 ghost use Rattle.its_session.specs.Reading.{console_in};
 
 use super::fields::{at_most, bytes, console, count, name, number, numbers, page, slot};

@@ -19,7 +19,7 @@ use Rattle.its_frame.specs.declared.variable.Variable.TheVariants.{Upc}
 use Rattle.its_plain.specs.Arguments.{input, has_input, place_of_input, revalued}
 use Rattle.its_frame.specs.Variables.{variable_named}
 use Rattle.its_plain.specs.CallBasic.{dismissed_by, dismiss_at, dismiss, Party, Oneself, Channel, by_oneself, by_superior, set_own, own_variable, set_other, value_of_other, other_variable, usrvar_of, channel_at, party, usrvar}
-use Rattle.its_plain.specs.CallTty.{console_of, has_console, can_take, is_holder, lands, ttylnd_of, ttylnd}
+use Rattle.its_plain.specs.CallTty.{view_console, has_console, can_take, is_holder, lands, ttylnd_of, ttylnd}
 use Rattle.its_plain.specs.CallStep.{with_held, acted, decision, informs, step}
 use Rattle.its_plain.specs.CallUsr.{inferior_named, any_named, makes_job, opens_job, usr_tests, opens_usr, uclose_on, uclose}
 use Rattle.its_plain.specs.Change.{in_job, is_gone, left_job, removed, superiors, inferior, effect, effects}
@@ -229,7 +229,7 @@ uclose_leaves x a = go (channel_at x.own.channels (input a 0))
 
 lands_leaves : (x : View) (a : Ask) (may : Bool) (error k : ℕ) → LeavesAddress (lands x a may error k)
 lands_leaves x a may error k =
-    first_holds LeavesAddress (not (has_console x) ⇒ fails x a 0o5 ∷ not may ⇒ fails x a error ∷ []) (finishes x (changes.Hold (console_of x) k ∷ []) [])
+    first_holds LeavesAddress (not (has_console x) ⇒ fails x a 0o5 ∷ not may ⇒ fails x a error ∷ []) (finishes x (changes.Hold (view_console x) k ∷ []) [])
     (λ t. advanced_addressed 1 x.own.job, (λ t. advanced_addressed 1 x.own.job, tt)) (λ t. advanced_addressed 2 x.own.job)
 
 ttylnd_leaves : (x : View) (a : Ask) → LeavesAddress (ttylnd x a)
@@ -237,8 +237,8 @@ unfolding ttylnd
 ttylnd_leaves x a = go (party x (input a 0))
   where
     go : (p : Party) → LeavesAddress (ttylnd_of x a p)
-    go Oneself = lands_leaves x a (can_take x (x.holders (console_of x))) 0o13 x.slot
-    go (Channel (On k write at)) = lands_leaves x a (is_holder x (x.holders (console_of x))) 0o5 k
+    go Oneself = lands_leaves x a (can_take x (x.holders (view_console x))) 0o13 x.slot
+    go (Channel (On k write at)) = lands_leaves x a (is_holder x (x.holders (view_console x))) 0o5 k
     go _ = advanced_addressed 1 x.own.job
 
 apart_leaves : (x : View) (a : Ask) → x.own.job.pc < 2 ^ 18 → Apart LeavesAddress x a

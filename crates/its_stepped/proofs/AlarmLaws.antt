@@ -29,7 +29,7 @@ use Rattle.its_plain.proofs.StepLaws.{AllOf, step_has}
 use Rattle.its_stepped.specs.Alarmed.{Coming, Periodic, Alarmed}
 use Rattle.its_stepped.specs.Forest.{Forest}
 use Rattle.its_stepped.proofs.FitLaws.{decision_fits}
-use Rattle.its_stepped.proofs.ForestLaws.{forest_few, Fits, AllFit, FitsAll, informs_fit}
+use Rattle.its_stepped.proofs.ForestLaws.{forest_few, ChangeFits, AllFit, FitsAll, informs_fit}
 
 -- one job
 abbrev pub AlarmedBy : ℕ → Option Whole → Type 0
@@ -77,7 +77,7 @@ made_alarmed : (m : Machine) (j s u n : ℕ) → Alarmed m → Alarmed (with_new
 made_alarmed m j s u n a = record { each = λ k. either_alarmed m.clock (k == s) (Some (inferior j (m.jobs j) u n)) (m.jobs k) tt (a.each k) }
 
 -- a change
-effect_alarmed : (c : Change) (j : ℕ) (m : Machine) → Fits c j m → Alarmed m → Alarmed (effect c j m)
+effect_alarmed : (c : Change) (j : ℕ) (m : Machine) → ChangeFits c j m → Alarmed m → Alarmed (effect c j m)
 unfolding effect
 effect_alarmed (changes.Open n on) j m f a = job_alarmed m j _ (λ q. refl) a
 effect_alarmed (changes.Shut n) j m f a = job_alarmed m j _ (λ q. refl) a

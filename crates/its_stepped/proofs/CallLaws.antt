@@ -17,7 +17,7 @@ use Rattle.its_frame.specs.declared.name.CallName.TheVariants.{Sleep, Siot}
 use Rattle.its_plain.specs.Arguments.{input, in_footprint, debts}
 use Rattle.its_plain.specs.CallBasic.{channel_at, read_only, sleep}
 use Rattle.its_plain.specs.CallStep.{decision}
-use Rattle.its_plain.specs.CallTty.{console_of, siot_in, siot_out}
+use Rattle.its_plain.specs.CallTty.{view_console, siot_in, siot_out}
 use Rattle.its_plain.specs.Transfer.{next_pointer, siot_by}
 use Rattle.its_plain.specs.CallFile.{words_of, siot_read, siot_write}
 use Rattle.its_plain.specs.CallLink.{is_ended, siot_receive, siot_send}
@@ -128,10 +128,10 @@ unfolding view
 siot_on_stored m j q t a n i c Shut f = refl
 siot_on_stored m j q t a n i c TtyIn f =
     siot_by_stored m j q t a n false false c _ _ f
-    (λ e. siot_in_stored m j q t a (debts a n) (next_pointer (input a 1)) (input a 2) (console_of (view m j q t)) e)
+    (λ e. siot_in_stored m j q t a (debts a n) (next_pointer (input a 1)) (input a 2) (view_console (view m j q t)) e)
 siot_on_stored m j q t a n i c TtyOut f =
     siot_by_stored m j q t a n false false c _ _ f
-    (λ e. siot_out_stored m j q t a (debts a n) (next_pointer (input a 1)) (input a 2) (console_of (view m j q t)) e)
+    (λ e. siot_out_stored m j q t a (debts a n) (next_pointer (input a 1)) (input a 2) (view_console (view m j q t)) e)
 siot_on_stored m j q t a n i c (Reads r at) f =
     let o = slice_get (words_of (view m j q t) r) at in
     siot_by_stored m j q t a n true (not (is_some o)) c _ _ f (λ e. siot_read_stored m j q t (debts a n) (next_pointer (input a 1)) (input a 2) i at (unwrap_or o 0) e)

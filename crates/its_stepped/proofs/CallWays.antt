@@ -26,7 +26,7 @@ use Rattle.its_frame.specs.declared.name.CallName.{CallName}
 use Rattle.its_frame.specs.declared.name.CallName.TheVariants as calls
 use Rattle.its_plain.specs.Arguments.{input, has_input, place_of_input}
 use Rattle.its_plain.specs.CallBasic.{Oneself, party_on, party, is_oneself, channel_at, ioc, negated, is_negative, sleep_tests, sleep, dismiss, usrvar, logout, longest_period, alarm_of, realt}
-use Rattle.its_plain.specs.CallTty.{is_other, console_of, has_console, input_waits, output_waits, output_left, first_typed, shown_byte, opens_on, open_tests, opens, siot_in, siot_out, finish_on, finish, listens, listen_on, listen, ttylnd}
+use Rattle.its_plain.specs.CallTty.{is_other, view_console, has_console, input_waits, output_waits, output_left, first_typed, shown_byte, opens_on, open_tests, opens, siot_in, siot_out, finish_on, finish, listens, listen_on, listen, ttylnd}
 use Rattle.its_plain.specs.Transfer.{store_tests, read_tests, word_of, iot_ends, next_pointer, siot_tests, siot_by}
 use Rattle.its_plain.specs.CallFile.{disk_device, most_files, is_full, channels_in, has_file, is_read, words_of, names_from, is_output, opens_as, disk_tests, opens_disk, closes_draft, end_of_file, iot_read, siot_read, siot_write, end_of_core, access_to, access_on, access, fillen_on, fillen, file_tests, delete, rename}
 use Rattle.its_plain.specs.CallUsr.{usr_device, opens_usr, other_core, at_end, iot_peeks, iot_through, siot_peeks, siot_pokes, siot_through, set_word, usrmem_tests, usrmem_on, usrmem, uclose}
@@ -73,7 +73,7 @@ pub record Writable (x : View) (s : ℕ) : Type 0 where
 pub record AtConsole (x : View) (c : ℕ) : Type 0 where
   pub channel : ℕ
   pub is : OnConsole (channel_at x.own.channels channel)
-  pub own : c ≡ console_of x
+  pub own : c ≡ view_console x
   pub free : is_other x.slot (x.holders c) ≡ false
 
 pub record Closable (x : View) (n : ℕ) : Type 0 where
@@ -284,7 +284,7 @@ iot_through_ways P x a e n s true at w on =
     (λ t. w.faulting Mpv, (λ t. w.stuck, (λ t. w.stuck, tt))) (λ t. w.moved cs [] (record { channel = n; position = at; is = on }, (tt, tt)))
 
 -- a byte that is moved at the console of a job, whose channel n is on it
-moves_at : (x : View) (n : ℕ) (c : Chan) → channel_at x.own.channels n ≡ c → OnConsole c → is_other x.slot (x.holders (console_of x)) ≡ false → AtConsole x (console_of x)
+moves_at : (x : View) (n : ℕ) (c : Chan) → channel_at x.own.channels n ≡ c → OnConsole c → is_other x.slot (x.holders (view_console x)) ≡ false → AtConsole x (view_console x)
 moves_at x n c on console free = record { channel = n; is = subst OnConsole (sym on) console; own = refl; free = free }
 
 -- a word that is moved through the caller's end of a link
@@ -299,11 +299,11 @@ pub iot_ways : (P : Decision → Type 0) (x : View) (a : Ask) (e n : ℕ) (c : C
     → (CanWait c → Waiting P) → P (iot_on x e n c)
 iot_ways P x a e n Shut w on r = w.stuck
 iot_ways P x a e n TtyIn w on r =
-    let i = console_of x in
+    let i = view_console x in
     first_holds P (store_tests x e ++ (input_waits x i ⇒ Waits (Input i) ∷ [])) (iot_ends x (changes.Take i ∷ []) (record { at = e; word = first_typed x i } ∷ []))
     (λ t. w.faulting Mpv, (λ t. w.faulting Wro, (λ t. r tt (Input i), tt))) (λ t. w.moved (changes.Take i ∷ []) (record { at = e; word = first_typed x i } ∷ []) (moves_at x n TtyIn on tt (or_parts _ _ t.1.1.0).1, tt))
 iot_ways P x a e n TtyOut w on r =
-    let i = console_of x in
+    let i = view_console x in
     let change = changes.Put i (shown_byte (word_of x e)) in
     first_holds P (read_tests x e ++ (output_waits x i ⇒ Waits (Output i) ∷ [])) (iot_ends x (change ∷ []) []) (λ t. w.faulting Mpv, (λ t. r tt (Output i), tt))
     (λ t. w.moved (change ∷ []) [] (moves_at x n TtyOut on tt (or_parts _ _ t.1.0).1, tt))
@@ -374,14 +374,14 @@ pub siot_ways : (P : Decision → Type 0) (x : View) (a : Ask) (n : ℕ) (c : Ch
 siot_ways P x a n Shut w on r = w.failing 0o4
 siot_ways P x a n TtyIn w on r =
     let next = next_pointer (input a 1) in
-    let i = console_of x in
+    let i = view_console x in
     let held = Some (record { place = right_of next; byte = first_typed x i }) in
     siot_by_ways P x a false false (siot_in x a next (input a 2) i) w
     (first_holds P (store_tests x (right_of next) ++ (input_waits x i ⇒ Waits (Input i) ∷ [])) (goes (changes.Take i ∷ []) held (next ∷ (input a 2 - 1) ∷ []))
     (λ t. w.faulting Mpv, (λ t. w.faulting Wro, (λ t. r tt (Input i), tt))) (λ t. w.going (changes.Take i ∷ []) held (next ∷ (input a 2 - 1) ∷ []) (moves_at x n TtyIn on tt (or_parts _ _ t.1.1.0).1, tt)))
 siot_ways P x a n TtyOut w on r =
     let next = next_pointer (input a 1) in
-    let i = console_of x in
+    let i = view_console x in
     let change = changes.Put i (shown_byte (load_of next (word_of x (right_of next)))) in
     siot_by_ways P x a false false (siot_out x a next (input a 2) i) w
     (first_holds P (read_tests x (right_of next) ++ (output_waits x i ⇒ Waits (Output i) ∷ [])) (goes (change ∷ []) None (next ∷ (input a 2 - 1) ∷ []))
@@ -417,7 +417,7 @@ unfolding finish
 finish_ways P x a w r = go (channel_at x.own.channels (input a 0))
   where
     i : ℕ
-    i = console_of x
+    i = view_console x
 
     go : (c : Chan) → P (finish_on x a c)
     go TtyOut = first_holds P (output_left x i ⇒ Waits (Drained i) ∷ []) (finishes x [] []) (λ t. r (Drained i), tt) (λ t. w.finishing)
@@ -429,7 +429,7 @@ unfolding listen
 listen_ways P x a w r = go (channel_at x.own.channels (input a 0))
   where
     i : ℕ
-    i = console_of x
+    i = view_console x
 
     hears : P (listens x a i)
     hears =

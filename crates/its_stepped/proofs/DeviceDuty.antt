@@ -10,7 +10,7 @@ use Rattle.its_plain.specs.CallBasic.{channel_at}
 use Rattle.its_plain.specs.CallDevice.{open_by, open_call, shuts, close_on, close_call, iot_on, iot_call, siot_on, siot_call}
 use Rattle.its_plain.specs.CallFile.{disk_device, words_of}
 use Rattle.its_plain.specs.CallLink.{link_device}
-use Rattle.its_plain.specs.CallTty.{console_of}
+use Rattle.its_plain.specs.CallTty.{view_console}
 use Rattle.its_plain.specs.CallUsr.{usr_device}
 use Rattle.its_plain.specs.Decide.{call_named}
 use Rattle.its_plain.specs.Machine.{Chan, Shut, TtyIn, TtyOut, Reads, Writes, On, Linked, Machine}
@@ -60,8 +60,8 @@ close_duty m v j x s a n c e z = close_on_duty m v j x s a n (channel_at x.own.c
 iot_on_duty : (m : Machine) (v : State) (j : ℕ) (x : View) (s : Site) (a : Ask) (n e i : ℕ) (h : Chan) → Calling m v j x.own s a n → call_named a.name ≡ Some Iot → e % 2 ^ 18 ≡ e
     → ((k at : ℕ) (write : Bool) → h ≡ On k write at → Aimed v j k) → Duty v j x.own s a n (iot_on x e i h)
 iot_on_duty m v j x s a n e i Shut c is here t = nothing_duty m v j x s a n c
-iot_on_duty m v j x s a n e i TtyIn c is here t = iot_in_duty m v j x s a n e (console_of x) c is here
-iot_on_duty m v j x s a n e i TtyOut c is here t = iot_out_duty m v j x s a n e (console_of x) c is
+iot_on_duty m v j x s a n e i TtyIn c is here t = iot_in_duty m v j x s a n e (view_console x) c is here
+iot_on_duty m v j x s a n e i TtyOut c is here t = iot_out_duty m v j x s a n e (view_console x) c is
 iot_on_duty m v j x s a n e i (Reads f at) c is here t = iot_reads_duty m v j x s a n e i at f c here
 iot_on_duty m v j x s a n e i (Writes f) c is here t = iot_writes_duty m v j x s a n e i f c
 iot_on_duty m v j x s a n e i (On k true at) c is here t = iot_into_duty m v j x s a n e i k at c (t k at true refl)

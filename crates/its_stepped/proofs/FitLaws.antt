@@ -22,7 +22,7 @@ use Rattle.its_plain.specs.Arguments.{input, has_input, place_of_input}
 use Rattle.its_frame.specs.Variables.{variable_named}
 use Rattle.its_plain.specs.CallBasic.{dismissed_by, dismiss_at, dismiss, Party, Oneself, Nobody, Channel, by_oneself, by_superior, set_own, own_variable, set_other, value_of_other, other_variable, usrvar_of, party_on, party, is_oneself, usrvar, told_superior, channel_at, longest_period, alarm_of, is_superior}
 use Rattle.its_plain.specs.CallLink.{can_open}
-use Rattle.its_plain.specs.CallTty.{console_of, has_console, can_take, is_holder, lands, ttylnd_of, ttylnd}
+use Rattle.its_plain.specs.CallTty.{view_console, has_console, can_take, is_holder, lands, ttylnd_of, ttylnd}
 use Rattle.its_plain.specs.CallUsr.{has_names, inferior_named, any_named, makes_job, opens_job, usr_tests, opens_usr, uclose_on, uclose}
 use Rattle.its_plain.specs.Change.{channel_in, superior_in, superiors, console_in, inferior, effect}
 use Rattle.its_plain.specs.CallStep.{step, decision}
@@ -37,7 +37,7 @@ use Rattle.its_stepped.proofs.ChannelLaws.{at_open, free_channel}
 use Rattle.its_stepped.proofs.FrameLaws.{changed_only}
 use Rattle.its_stepped.proofs.JoinedLaws.{IsUnlinked, Opens}
 use Rattle.its_stepped.proofs.TestLaws.{by_test, first_holds}
-use Rattle.its_stepped.proofs.ForestLaws.{CanOpen, MakesInferior, Fits, AllFit, FitsAll, channel_of, inferior_stands, made_inferior, steps_where}
+use Rattle.its_stepped.proofs.ForestLaws.{CanOpen, MakesInferior, ChangeFits, AllFit, FitsAll, channel_of, inferior_stands, made_inferior, steps_where}
 use Rattle.its_stepped.proofs.CallWays.{OpensMildly, Joinable, Mild, AllStill, AllMild, Ways, Apart, call_ways}
 
 dismissed_fits : (x : View) (p w j : ℕ) (m : Machine) (r : Result Exit Fault) → FitsAll (dismissed_by x p w r) j m
@@ -126,7 +126,7 @@ join_fits x n l j write u y m see h = record {
   unopened = not_opened_by write (m.links l) (ap (can_open write) (sym (see.links l)) ∙ h.unopened);
 }
 
-mild_fits : (x : View) (c : Change) (j : ℕ) (m : Machine) → Sees x j m → Mild x c → Fits c j m
+mild_fits : (x : View) (c : Change) (j : ℕ) (m : Machine) → Sees x j m → Mild x c → ChangeFits c j m
 mild_fits x (changes.Open n on) j m see h = (opens_fit on j m h.0, free_fits x n j m Shut see h.1 tt)
 mild_fits x (changes.Shut n) j m see h = free_fits x n j m (x.own.channels n) see refl h
 mild_fits x (changes.Close n) j m see h = free_fits x n j m (Writes h.file) see (at_open x.own.channels n (Writes h.file) h.is (λ e. cc)) tt
@@ -173,7 +173,7 @@ ways_fit x a j m see = record {
 -- TTYLND: a channel on a job is on an inferior, which is a job
 lands_fits : (x : View) (a : Ask) (may : Bool) (error k j : ℕ) (m : Machine) → is_some (m.jobs k) ≡ true → FitsAll (lands x a may error k) j m
 lands_fits x a may error k j m h =
-    first_holds (λ d. FitsAll d j m) (not (has_console x) ⇒ fails x a 0o5 ∷ not may ⇒ fails x a error ∷ []) (finishes x (changes.Hold (console_of x) k ∷ []) [])
+    first_holds (λ d. FitsAll d j m) (not (has_console x) ⇒ fails x a 0o5 ∷ not may ⇒ fails x a error ∷ []) (finishes x (changes.Hold (view_console x) k ∷ []) [])
     (λ t. tt, (λ t. tt, tt)) (λ t. (h, tt))
 
 abbrev PartyOn : ℕ → Machine → Party → Type 0
@@ -197,8 +197,8 @@ unfolding ttylnd
 ttylnd_fits x a j m see = go (party x (input a 0)) (party_inferior x (input a 0) j m see)
   where
     go : (p : Party) → PartyOn j m p → FitsAll (ttylnd_of x a p) j m
-    go Oneself h = lands_fits x a (can_take x (x.holders (console_of x))) 0o13 x.slot j m (ap (λ (i : ℕ). is_some (m.jobs i)) see.slot ∙ see.job)
-    go (Channel (On k write at)) h = lands_fits x a (is_holder x (x.holders (console_of x))) 0o5 k j m (inferior_stands m k j h)
+    go Oneself h = lands_fits x a (can_take x (x.holders (view_console x))) 0o13 x.slot j m (ap (λ (i : ℕ). is_some (m.jobs i)) see.slot ∙ see.job)
+    go (Channel (On k write at)) h = lands_fits x a (is_holder x (x.holders (view_console x))) 0o5 k j m (inferior_stands m k j h)
     go _ h = tt
 
 -- OPEN of an inferior

@@ -340,21 +340,21 @@ pub record MakesInferior (s j : ℕ) (m : Machine) : Type 0 where
   pub free : m.jobs s ≡ None
   pub maker : is_some (m.jobs j) ≡ true
 
-abbrev pub Fits : Change → ℕ → Machine → Type 0
-Fits (changes.Open n on) j m = CanOpen on j m × IsUnlinked (channel_in (m.jobs j) n)
-Fits (changes.Shut n) j m = IsUnlinked (channel_in (m.jobs j) n)
-Fits (changes.Close n) j m = IsUnlinked (channel_in (m.jobs j) n)
-Fits (changes.Join n l write x y) j m = Opens l n j write m
-Fits (changes.Part n l write) j m = channel_in (m.jobs j) n ≡ Linked l write
-Fits (changes.Make s u n) j m = MakesInferior s j m
-Fits (changes.Remove s) j m = superiors m s ≡ Some j
-Fits (changes.Hold c s) j m = is_some (m.jobs s) ≡ true
-Fits (changes.Arm alarm) j m = IfSome alarm (λ a. Coming m.clock a)
-Fits _ j m = Unit {0}
+abbrev pub ChangeFits : Change → ℕ → Machine → Type 0
+ChangeFits (changes.Open n on) j m = CanOpen on j m × IsUnlinked (channel_in (m.jobs j) n)
+ChangeFits (changes.Shut n) j m = IsUnlinked (channel_in (m.jobs j) n)
+ChangeFits (changes.Close n) j m = IsUnlinked (channel_in (m.jobs j) n)
+ChangeFits (changes.Join n l write x y) j m = Opens l n j write m
+ChangeFits (changes.Part n l write) j m = channel_in (m.jobs j) n ≡ Linked l write
+ChangeFits (changes.Make s u n) j m = MakesInferior s j m
+ChangeFits (changes.Remove s) j m = superiors m s ≡ Some j
+ChangeFits (changes.Hold c s) j m = is_some (m.jobs s) ≡ true
+ChangeFits (changes.Arm alarm) j m = IfSome alarm (λ a. Coming m.clock a)
+ChangeFits _ j m = Unit {0}
 
 abbrev pub AllFit : List Change → ℕ → Machine → Type 0
 AllFit [] j m = Unit {0}
-AllFit (c ∷ cs) j m = Fits c j m × AllFit cs j (effect c j m)
+AllFit (c ∷ cs) j m = ChangeFits c j m × AllFit cs j (effect c j m)
 
 opened_keeps : (m : Machine) (j : ℕ) (on : Opened) → CanOpen on j m → KeepsOn m j (λ c. opened_on on)
 opened_keeps m j opened.TtyIn f = record { inferior = λ c h. tt; console = λ c h. f }
@@ -636,7 +636,7 @@ module _ (m : Machine) (r : ℕ) (d : Forest m) where
   }
 
 -- a change
-pub effect_forest : (c : Change) (j : ℕ) (m : Machine) → Fits c j m → Forest m → Forest (effect c j m)
+pub effect_forest : (c : Change) (j : ℕ) (m : Machine) → ChangeFits c j m → Forest m → Forest (effect c j m)
 unfolding effect
 effect_forest (changes.Open n on) j m f d =
     job_forest m j _ (channel_keeps m j n (λ c. opened_on on) (opened_keeps m j on f.0) (unlinked _ _ f.1 (opened_free on))) d

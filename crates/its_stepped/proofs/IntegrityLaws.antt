@@ -24,7 +24,7 @@ use Rattle.its_plain.specs.Arguments.{input, has_input, place_of_input}
 use Rattle.its_plain.specs.CallBasic.{ioc, dismissed_by, dismiss_at, dismiss, Oneself, by_oneself, by_superior, set_own, own_variable, set_other, value_of_other, other_variable, usrvar_of, party_on, is_oneself, usrvar, logout, told_superior, channel_at, alarm_of, is_superior}
 use Rattle.its_plain.specs.CallFile.{channels_in, channels_by, is_read}
 use Rattle.its_plain.specs.CallStep.{acted, decision, Transition, informs, step}
-use Rattle.its_plain.specs.CallTty.{console_of, has_console, can_take, is_holder, lands, ttylnd_of, ttylnd}
+use Rattle.its_plain.specs.CallTty.{view_console, has_console, can_take, is_holder, lands, ttylnd_of, ttylnd}
 use Rattle.its_plain.specs.Transfer.{iot_ends}
 use Rattle.its_plain.specs.CallUsr.{any_named, inferior_named, makes_job, opens_job, usr_tests, opens_usr, uclose_on, uclose}
 use Rattle.its_plain.specs.Change.{on_slot, in_job, channel_in, superior_in, superiors, console_in, taken_from, put_to, on_console, is_gone, chan_left, shut_on, left_job, removed, with_inf, end_closed, with_sent, with_received, on_link, effect, effects}
@@ -662,15 +662,15 @@ module _ (m : Machine) (j : ℕ) (q : Whole) (t : Option ℕ) (a : Ask) (d : For
   unfolding effect
   held_here c s = rw (eq-eqb c c refl) refl
 
-  own_console : has_console x ≡ true → console_in (m.jobs j) ≡ Some (console_of x)
+  own_console : has_console x ≡ true → console_in (m.jobs j) ≡ Some (view_console x)
   unfolding view
   own_console h = ap console_in is ∙ console_some q.job.console h
 
-  lands_may : (may : Bool) (number s : ℕ) → (has_console x ≡ true → may ≡ true → HolderMay m (effect (changes.Hold (console_of x) s) j m) j (console_of x)) → Permitted m j (lands x a may number s)
+  lands_may : (may : Bool) (number s : ℕ) → (has_console x ≡ true → may ≡ true → HolderMay m (effect (changes.Hold (view_console x) s) j m) j (view_console x)) → Permitted m j (lands x a may number s)
   lands_may may number s h =
-      first_holds (Permitted m j) (not (has_console x) ⇒ fails x a 0o5 ∷ not may ⇒ fails x a number ∷ []) (finishes x (changes.Hold (console_of x) s ∷ []) [])
+      first_holds (Permitted m j) (not (has_console x) ⇒ fails x a 0o5 ∷ not may ⇒ fails x a number ∷ []) (finishes x (changes.Hold (view_console x) s ∷ []) [])
       (λ e. ends_may m j x a 0o5, (λ e. ends_may m j x a number, tt))
-      (λ e. finish_may m j x (changes.Hold (console_of x) s ∷ []) [] (holds_may (console_of x) s (h (not-false (has_console x) e.0) (not-false may e.1.0))))
+      (λ e. finish_may m j x (changes.Hold (view_console x) s ∷ []) [] (holds_may (view_console x) s (h (not-false (has_console x) e.0) (not-false may e.1.0))))
 
   takes : (c : ℕ) (o : Option ℕ) → m.holders c ≡ o → can_take x o ≡ true → CanTake m j c
   unfolding view
@@ -694,7 +694,7 @@ module _ (m : Machine) (j : ℕ) (q : Whole) (t : Option ℕ) (a : Ask) (d : For
   ttylnd_may = go (is_oneself (input a 0)) (channel_at q.channels (input a 0)) refl
     where
       c : ℕ
-      c = console_of x
+      c = view_console x
 
       on_channel : (k : Chan) → channel_at q.channels (input a 0) ≡ k → Permitted m j (ttylnd_of x a (party_on k))
       on_channel Shut on = ends_may m j x a 0o4

@@ -23,7 +23,7 @@ use Rattle.its_plain.specs.Arguments.{input, has_input, place_of_input}
 use Rattle.its_plain.specs.CallBasic.{dismissed_by, dismiss_at, dismiss, Party, Oneself, Channel, by_oneself, by_superior, set_own, own_variable, set_other, value_of_other, other_variable, usrvar_of, party, usrvar, told_superior, channel_at}
 use Rattle.its_plain.specs.CallLink.{words_in}
 use Rattle.its_plain.specs.CallStep.{acted, decision, informs, step, Transition, moves_in, transition, moves}
-use Rattle.its_plain.specs.CallTty.{console_of, has_console, can_take, is_holder, lands, ttylnd_of, ttylnd}
+use Rattle.its_plain.specs.CallTty.{view_console, has_console, can_take, is_holder, lands, ttylnd_of, ttylnd}
 use Rattle.its_plain.specs.CallUsr.{any_named, inferior_named, makes_job, opens_job, usr_tests, opens_usr, uclose_on, uclose}
 use Rattle.its_plain.specs.Change.{superiors, is_gone, removed, standing_if, end_closed, with_sent, with_received, rest_of, ends_left, effect, effects}
 use Rattle.its_plain.specs.Course.{Letter, Moment, moment_at, machine_after, run_of}
@@ -317,7 +317,7 @@ uclose_first x a = go (channel_at x.own.channels (input a 0))
 
 lands_first : (x : View) (a : Ask) (may : Bool) (error k : ℕ) → LinksFirst (lands x a may error k)
 lands_first x a may error k =
-    first_holds LinksFirst (not (has_console x) ⇒ fails x a 0o5 ∷ not may ⇒ fails x a error ∷ []) (finishes x (changes.Hold (console_of x) k ∷ []) [])
+    first_holds LinksFirst (not (has_console x) ⇒ fails x a 0o5 ∷ not may ⇒ fails x a error ∷ []) (finishes x (changes.Hold (view_console x) k ∷ []) [])
     (λ t. tt, (λ t. tt, tt)) (λ t. tt)
 
 ttylnd_first : (x : View) (a : Ask) → LinksFirst (ttylnd x a)
@@ -325,8 +325,8 @@ unfolding ttylnd
 ttylnd_first x a = go (party x (input a 0))
   where
     go : (p : Party) → LinksFirst (ttylnd_of x a p)
-    go Oneself = lands_first x a (can_take x (x.holders (console_of x))) 0o13 x.slot
-    go (Channel (On k write at)) = lands_first x a (is_holder x (x.holders (console_of x))) 0o5 k
+    go Oneself = lands_first x a (can_take x (x.holders (view_console x))) 0o13 x.slot
+    go (Channel (On k write at)) = lands_first x a (is_holder x (x.holders (view_console x))) 0o5 k
     go _ = tt
 
 apart_first : (x : View) (a : Ask) → Apart LinksFirst x a

@@ -25,7 +25,7 @@ use Rattle.its_plain.specs.CallBasic.{channel_at}
 use Rattle.its_plain.specs.CallFile.{is_full, channels_in, words_of, siot_read, siot_reads, siot_write}
 use Rattle.its_plain.specs.CallStep.{with_held, moved, acted, decision, unless_stopped, step, Transition, transition_of, transition}
 use Rattle.its_plain.specs.CallLink.{words_in, is_end_closed, is_dry, is_ended, is_crowded, is_unread, first_word, siot_receive, siot_send}
-use Rattle.its_plain.specs.CallTty.{console_of, is_empty, is_other, input_waits, output_waits, first_typed, shown_byte, siot_in, siot_out}
+use Rattle.its_plain.specs.CallTty.{view_console, is_empty, is_other, input_waits, output_waits, first_typed, shown_byte, siot_in, siot_out}
 use Rattle.its_plain.specs.Transfer.{store_tests, read_tests, next_pointer, siot_tests, siot_by}
 use Rattle.its_plain.specs.CallDevice.{siot_on, siot_call}
 use Rattle.its_plain.specs.Change.{in_job, poke, effect, effects}
@@ -113,12 +113,12 @@ abbrev Moved : Machine → Machine → ℕ → Whole → Site → Ask → Decisi
 Moved m n j q s a d = Duty (no_state m) j q s a 0 d → Acted m n j a (reach m j q a) d → ByteBy m j q s a d n
 
 -- what the tests of SIOT leave: pointer and count are words of their own, and the count is not 0
-record Ready (a : Ask) : Type 0 where
+record TestedSiot (a : Ask) : Type 0 where
   pointer : input (rest_of_transfer a) 1 ≡ next_pointer (input a 1)
   counted : input a 2 ≢ 0
 
 -- one byte is moved, by changes after which the job has these channels
-goes_on : (m n : Machine) (j : ℕ) (q : Whole) (s : Site) (a : Ask) (cs : List Change) (h : Option Held) (to : ℕ → Chan) → Ready a
+goes_on : (m n : Machine) (j : ℕ) (q : Whole) (s : Site) (a : Ask) (cs : List Change) (h : Option Held) (to : ℕ → Chan) → TestedSiot a
     → (AllSpare cs j (no_state m) → (effects cs j m).jobs j ≡ Some (record q { channels = to }))
     → Bears (view m j q (target q a)) (next_pointer (input a 1)) (input a 0) (channel_at q.channels (input a 0)) cs h → Moved m n j q s a (goes cs h (new_arguments a))
 unfolding acted
@@ -157,13 +157,13 @@ first_waits (b ∷ bs) h = refl
 first_waits [] h = absurd cc
 
 -- a byte comes from a console, or goes to one
-in_moved : (m n : Machine) (j : ℕ) (q : Whole) (s : Site) (a : Ask) → m.jobs j ≡ Some q → channel_at q.channels (input a 0) ≡ TtyIn → Ready a
-    → Moved m n j q s a (siot_in (view m j q (target q a)) a (next_pointer (input a 1)) (input a 2) (console_of (view m j q (target q a))))
+in_moved : (m n : Machine) (j : ℕ) (q : Whole) (s : Site) (a : Ask) → m.jobs j ≡ Some q → channel_at q.channels (input a 0) ≡ TtyIn → TestedSiot a
+    → Moved m n j q s a (siot_in (view m j q (target q a)) a (next_pointer (input a 1)) (input a 2) (view_console (view m j q (target q a))))
 unfolding acted effect
 in_moved m n j q s a is on t =
     let x : View = view m j q (target q a) in
     let w : ℕ = next_pointer (input a 1) in
-    let i : ℕ = console_of x in
+    let i : ℕ = view_console x in
     let c : Change = changes.Take i in
     let b : Held = record { place = right_of w; byte = first_typed x i } in
     first_holds (Moved m n j q s a) (store_tests x (right_of w) ++ (input_waits x i ⇒ Waits (Input i) ∷ [])) (goes (c ∷ []) (Some b) (new_arguments a))
@@ -173,13 +173,13 @@ in_moved m n j q s a is on t =
     goes_on m n j q s a (c ∷ []) (Some b) q.channels t (λ spare. is)
     (subst (λ (k : Chan). Bears x w (input a 0) k (c ∷ []) (Some b)) (sym on) (comes_in w (slice_get (x.consoles i).input 0) (c ∷ []) there)))
 
-out_moved : (m n : Machine) (j : ℕ) (q : Whole) (s : Site) (a : Ask) → m.jobs j ≡ Some q → channel_at q.channels (input a 0) ≡ TtyOut → Ready a
-    → Moved m n j q s a (siot_out (view m j q (target q a)) a (next_pointer (input a 1)) (input a 2) (console_of (view m j q (target q a))))
+out_moved : (m n : Machine) (j : ℕ) (q : Whole) (s : Site) (a : Ask) → m.jobs j ≡ Some q → channel_at q.channels (input a 0) ≡ TtyOut → TestedSiot a
+    → Moved m n j q s a (siot_out (view m j q (target q a)) a (next_pointer (input a 1)) (input a 2) (view_console (view m j q (target q a))))
 unfolding acted effect
 out_moved m n j q s a is on t =
     let x : View = view m j q (target q a) in
     let w : ℕ = next_pointer (input a 1) in
-    let i : ℕ = console_of x in
+    let i : ℕ = view_console x in
     let puts : ℕ → List Change = λ b. changes.Put i (shown_byte b) ∷ [] in
     first_holds (Moved m n j q s a) (read_tests x (right_of w) ++ (output_waits x i ⇒ Waits (Output i) ∷ [])) (goes (puts (byte_at x w)) None (new_arguments a))
     (λ t d r. refl, (λ t d r. absurd cc, tt))
@@ -193,7 +193,7 @@ not_empty true true h e = cc
 not_empty true false h e = cc
 
 receive_moved : (m n : Machine) (j : ℕ) (q : Whole) (s : Site) (a : Ask) (l : ℕ) → m.jobs j ≡ Some q
-    → channel_at q.channels (input a 0) ≡ Linked l false → is_ended ((view m j q (target q a)).links l) ≡ false → Ready a
+    → channel_at q.channels (input a 0) ≡ Linked l false → is_ended ((view m j q (target q a)).links l) ≡ false → TestedSiot a
     → Moved m n j q s a (siot_receive (view m j q (target q a)) (next_pointer (input a 1)) (input a 2) l)
 unfolding acted effect
 receive_moved m n j q s a l is on more t =
@@ -211,7 +211,7 @@ receive_moved m n j q s a l is on more t =
     (subst (λ (k : Chan). Bears x w (input a 0) k (c ∷ []) (Some b)) (sym on) (comes_in w o (c ∷ []) there)))
 
 send_moved : (m n : Machine) (j : ℕ) (q : Whole) (s : Site) (a : Ask) (l : ℕ) → m.jobs j ≡ Some q
-    → channel_at q.channels (input a 0) ≡ Linked l true → Ready a
+    → channel_at q.channels (input a 0) ≡ Linked l true → TestedSiot a
     → Moved m n j q s a (siot_send (view m j q (target q a)) a (next_pointer (input a 1)) (input a 2) l)
 unfolding acted effect
 send_moved m n j q s a l is on t =
@@ -231,7 +231,7 @@ next_position q i at = changed q.channels i (at_position (at + 1) (q.channels i)
 
 read_moved : (m n : Machine) (j : ℕ) (q : Whole) (s : Site) (a : Ask) (h : Chan) (at word : ℕ) → m.jobs j ≡ Some q → channel_at q.channels (input a 0) ≡ h
     → (let w = next_pointer (input a 1) in Bears (view m j q (target q a)) w (input a 0) h (changes.Move (input a 0) (at + 1) ∷ []) (Some (record { place = right_of w; byte = word })))
-    → Ready a → Moved m n j q s a (siot_read (view m j q (target q a)) (next_pointer (input a 1)) (input a 2) (input a 0) at word)
+    → TestedSiot a → Moved m n j q s a (siot_read (view m j q (target q a)) (next_pointer (input a 1)) (input a 2) (input a 0) at word)
 unfolding effect
 read_moved m n j q s a h at word is on borne t =
     let x : View = view m j q (target q a) in
@@ -243,7 +243,7 @@ read_moved m n j q s a h at word is on borne t =
     (λ p. goes_on m n j q s a (c ∷ []) (Some b) (next_position q i at) t (λ spare. (job_only m.jobs j q (on_channel i (at_position (at + 1))) is).here)
     (subst (λ (k : Chan). Bears x w i k (c ∷ []) (Some b)) (sym on) borne))
 
-write_moved : (m n : Machine) (j : ℕ) (q : Whole) (s : Site) (a : Ask) (f : File) → m.jobs j ≡ Some q → channel_at q.channels (input a 0) ≡ Writes f → Ready a
+write_moved : (m n : Machine) (j : ℕ) (q : Whole) (s : Site) (a : Ask) (f : File) → m.jobs j ≡ Some q → channel_at q.channels (input a 0) ≡ Writes f → TestedSiot a
     → Moved m n j q s a (siot_write (view m j q (target q a)) a (next_pointer (input a 1)) (input a 2) (input a 0) f)
 unfolding effect
 write_moved m n j q s a f is on t =
@@ -257,7 +257,7 @@ write_moved m n j q s a f is on t =
     (subst (λ (k : Chan). Bears x w i k (puts (byte_at x w)) None) (sym on) (goes_out w (word_named x w) puts p.0)))
 
 peeks_moved : (m n : Machine) (j : ℕ) (q : Whole) (s : Site) (a : Ask) (k at : ℕ) (o : Option ℕ) → m.jobs j ≡ Some q → channel_at q.channels (input a 0) ≡ On k false at
-    → word_at (other_core (view m j q (target q a))) at ≡ o → Ready a
+    → word_at (other_core (view m j q (target q a))) at ≡ o → TestedSiot a
     → Moved m n j q s a (siot_peeks (view m j q (target q a)) a (next_pointer (input a 1)) (input a 2) (input a 0) at o)
 peeks_moved m n j q s a k at (Some word) is on got t =
     let w : ℕ = next_pointer (input a 1) in
@@ -276,7 +276,7 @@ poked_there m j k at word i q is other =
     let n : Machine = in_job m k (with_stores (poke at word ∷ [])) in
     (job_only n.jobs j q (on_channel i (at_position (at + 1))) (on_slot_other m.jobs k j (with_stores (poke at word ∷ [])) (λ e. other (sym e)) ∙ is)).here
 
-poke_moved : (m n : Machine) (j : ℕ) (q : Whole) (s : Site) (a : Ask) (k at : ℕ) → m.jobs j ≡ Some q → channel_at q.channels (input a 0) ≡ On k true at → Ready a
+poke_moved : (m n : Machine) (j : ℕ) (q : Whole) (s : Site) (a : Ask) (k at : ℕ) → m.jobs j ≡ Some q → channel_at q.channels (input a 0) ≡ On k true at → TestedSiot a
     → Moved m n j q s a (siot_pokes (view m j q (target q a)) a (next_pointer (input a 1)) (input a 2) (input a 0) k at)
 poke_moved m n j q s a k at is on t =
     let x : View = view m j q (target q a) in
@@ -291,7 +291,7 @@ poke_moved m n j q s a k at is on t =
 
 -- after the tests of SIOT
 by_moved : (m n : Machine) (j : ℕ) (q : Whole) (s : Site) (a : Ask) (words ended : Bool) (d : Decision) → length a.inputs.items ≡ 3
-    → (ended ≡ false → Ready a → Moved m n j q s a d) → Moved m n j q s a (siot_by (view m j q (target q a)) a words ended d)
+    → (ended ≡ false → TestedSiot a → Moved m n j q s a d) → Moved m n j q s a (siot_by (view m j q (target q a)) a words ended d)
 by_moved m n j q s a words ended d three h =
     first_holds (Moved m n j q s a) (siot_tests (view m j q (target q a)) a (input a 1) (input a 2) words ended) d
     (λ t d r. refl, (λ t d r. refl, (λ t d r. refl, (λ t d r. refl, (λ t d r. refl, (λ t d r. refl, (λ t d r. refl, (λ t d r. refl, tt))))))))
@@ -318,10 +318,10 @@ on_moved : (m n : Machine) (j : ℕ) (q : Whole) (s : Site) (a : Ask) (h : Chan)
 on_moved m n j q s a Shut is on three = λ d r. refl
 on_moved m n j q s a TtyIn is on three =
     let x : View = view m j q (target q a) in
-    by_moved m n j q s a false false (siot_in x a (next_pointer (input a 1)) (input a 2) (console_of x)) three (λ l. in_moved m n j q s a is on)
+    by_moved m n j q s a false false (siot_in x a (next_pointer (input a 1)) (input a 2) (view_console x)) three (λ l. in_moved m n j q s a is on)
 on_moved m n j q s a TtyOut is on three =
     let x : View = view m j q (target q a) in
-    by_moved m n j q s a false false (siot_out x a (next_pointer (input a 1)) (input a 2) (console_of x)) three (λ l. out_moved m n j q s a is on)
+    by_moved m n j q s a false false (siot_out x a (next_pointer (input a 1)) (input a 2) (view_console x)) three (λ l. out_moved m n j q s a is on)
 on_moved m n j q s a (Reads names at) is on three =
     reads_moved m n j q s a names at (slice_get (words_of (view m j q (target q a)) names) at) is on refl three
 on_moved m n j q s a (Writes file) is on three =

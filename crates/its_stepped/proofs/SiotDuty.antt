@@ -22,7 +22,7 @@ use Rattle.its_frame.specs.declared.name.CallName.TheVariants.{Siot}
 use Rattle.its_plain.specs.Arguments.{store_of, stores_of, valued, input, place_in, place_of_input, in_footprint, is_shared, debts, revalued}
 use Rattle.its_plain.specs.CallBasic.{shared_place, read_only}
 use Rattle.its_plain.specs.CallStep.{with_held}
-use Rattle.its_plain.specs.CallTty.{console_of, input_waits, output_waits, first_typed, shown_byte, siot_in, siot_out}
+use Rattle.its_plain.specs.CallTty.{view_console, input_waits, output_waits, first_typed, shown_byte, siot_in, siot_out}
 use Rattle.its_plain.specs.Transfer.{store_tests, read_tests, word_of, is_indexed, next_pointer, siot_tests, siot_by}
 use Rattle.its_plain.specs.CallFile.{is_full, channels_in, siot_read, siot_reads, siot_write, siot_writes}
 use Rattle.its_plain.specs.Decide.{call_named}
@@ -245,17 +245,17 @@ siot_by_duty m v j x s a n words ended moves c e z h =
 
 -- a console
 pub siot_in_duty : (d : Decoding) (m : Machine) (v : State) (j : ℕ) (x : View) (s : Site) (a : Ask) (n : ℕ) → Calling m v j x.own s a n → call_named a.name ≡ Some Siot → a.fail ≡ 0
-    → let moves = siot_in x a (next_pointer (input a 1)) (input a 2) (console_of x) in Duty v j x.own s a n (siot_by x a false false moves)
+    → let moves = siot_in x a (next_pointer (input a 1)) (input a 2) (view_console x) in Duty v j x.own s a n (siot_by x a false false moves)
 siot_in_duty d m v j x s a n c e z =
-    let i = console_of x in
+    let i = view_console x in
     siot_by_duty m v j x s a n false false (siot_in x a (next_pointer (input a 1)) (input a 2) i) c e z
     (λ t sized out. siot_stores d m v j x s a n (input_waits x i ⇒ Waits (Input i) ∷ []) (changes.Take i ∷ []) (next_pointer (input a 1)) (first_typed x i) (input a 2 - 1) c e t sized out (tt, tt) (tt, tt)
     refl (λ t. named_waits m v j x s a n Siot c e refl tt, tt))
 
 pub siot_out_duty : (d : Decoding) (m : Machine) (v : State) (j : ℕ) (x : View) (s : Site) (a : Ask) (n : ℕ) → Calling m v j x.own s a n → call_named a.name ≡ Some Siot → a.fail ≡ 0
-    → let moves = siot_out x a (next_pointer (input a 1)) (input a 2) (console_of x) in Duty v j x.own s a n (siot_by x a false false moves)
+    → let moves = siot_out x a (next_pointer (input a 1)) (input a 2) (view_console x) in Duty v j x.own s a n (siot_by x a false false moves)
 siot_out_duty d m v j x s a n c e z =
-    let i = console_of x in
+    let i = view_console x in
     siot_by_duty m v j x s a n false false (siot_out x a (next_pointer (input a 1)) (input a 2) i) c e z
     (λ t sized out. siot_loads d m v j x s a n (output_waits x i ⇒ Waits (Output i) ∷ []) (changes.Put i (shown_byte (load_of (next_pointer (input a 1)) (word_of x (right_of (next_pointer (input a 1)))))) ∷ [])
     (next_pointer (input a 1)) (input a 2 - 1) c e t sized (tt, tt) (tt, tt) refl (λ t. named_waits m v j x s a n Siot c e refl tt, tt))

@@ -29,7 +29,7 @@ use Rattle.its_plain.specs.Machine.{Whole, Machine, changed}
 use Rattle.its_plain.specs.OneByte.{rest_of_transfer, ByteBy}
 use Rattle.its_plain.specs.Operator.{Block, no_block, Operated, Refuses, Does, Ticks, Quits, disturbs}
 use Rattle.its_plain.specs.OperatorJobs.{interrupted, stopped, continued, on_job, with_registers, on_registers, examined, state_shown}
-use Rattle.its_plain.specs.Stretch.{Untouched, machine_at, is_own, Fits, Stretch, counted, parts_in, incremented, rest_after, ByteOf, InOrder_by, InOrder, StandsAt, Transferred, end_of, begin_of, Stretches}
+use Rattle.its_plain.specs.Stretch.{Untouched, machine_at, is_own, StretchFits, Stretch, counted, parts_in, incremented, rest_after, ByteOf, InOrder_by, InOrder, StandsAt, Transferred, end_of, begin_of, Stretches}
 use Rattle.its_stepped.specs.Forest.{Forest}
 use Rattle.its_stepped.proofs.DecodingLaws.{input_word, siot_inputs}
 use Rattle.its_stepped.proofs.CourseLaws.{Linked, EachMoment, run_course, linked_middle}
@@ -143,7 +143,7 @@ one_more j s a k n One Each three one some h = record {
 
 -- a moment, and those after it
 moment_moves : (b : Bool) (m n last : Machine) (j : ℕ) (s : Site) (a : Ask) (k : ℕ) (next : Ask → Type 0) → Forest m → (b ≡ true → n ≡ after_step m j) → StandsAt m j s a
-    → call_named a.name ≡ Some Siot → Fits b j m n → ((r : Ask) → StandsAt n j s r → call_named r.name ≡ Some Siot → Moves j s r k last (next r))
+    → call_named a.name ≡ Some Siot → StretchFits b j m n → ((r : Ask) → StandsAt n j s r → call_named r.name ≡ Some Siot → Moves j s r k last (next r))
     → Moves j s a (counted b k) last (InOrder_by b m j s a n next)
 moment_moves false m n last j s a k next forest leads st e fits h = h a (untouched m n j s a st fits) e
 moment_moves true m n last j s a k next forest leads st e fits h =

@@ -13,7 +13,7 @@ use Rattle.its_frame.specs.declared.name.CallName.{CallName}
 use Rattle.its_frame.specs.declared.name.CallName.TheVariants.{Iot}
 use Rattle.its_plain.specs.Arguments.{input}
 use Rattle.its_plain.specs.CallBasic.{Party, Oneself, Nobody, Channel, party}
-use Rattle.its_plain.specs.CallTty.{console_of, has_console, input_waits, output_waits, first_typed, shown_byte, opens_on, open_tests, opens, iot_in, iot_out, can_take, is_holder, lands, ttylnd_of, ttylnd}
+use Rattle.its_plain.specs.CallTty.{view_console, has_console, input_waits, output_waits, first_typed, shown_byte, opens_on, open_tests, opens, iot_in, iot_out, can_take, is_holder, lands, ttylnd_of, ttylnd}
 use Rattle.its_plain.specs.Transfer.{store_tests, read_tests, word_of, iot_ends}
 use Rattle.its_plain.specs.Decide.{call_named}
 use Rattle.its_plain.specs.Machine.{Shut, TtyIn, TtyOut, Reads, Writes, On, Machine}
@@ -64,14 +64,14 @@ iot_out_duty m v j x s a n e i c is =
 lands_duty : (m : Machine) (v : State) (j : ℕ) (x : View) (s : Site) (a : Ask) (n : ℕ) (may : Bool) (error k : ℕ) → Calling m v j x.own s a n
     → Duty v j x.own s a n (lands x a may error k)
 lands_duty m v j x s a n may error k c =
-    first_holds (Duty v j x.own s a n) (not (has_console x) ⇒ fails x a 0o5 ∷ not may ⇒ fails x a error ∷ []) (finishes x (changes.Hold (console_of x) k ∷ []) [])
+    first_holds (Duty v j x.own s a n) (not (has_console x) ⇒ fails x a 0o5 ∷ not may ⇒ fails x a error ∷ []) (finishes x (changes.Hold (view_console x) k ∷ []) [])
     (λ t. fails_duty m v j x s a n 0o5 c, (λ t. fails_duty m v j x s a n error c, tt))
-    (λ t. ending_duty m v j x.own s a n (changes.Hold (console_of x) k ∷ []) [] c (tt, tt) (tt, tt) refl tt (omega arith))
+    (λ t. ending_duty m v j x.own s a n (changes.Hold (view_console x) k ∷ []) [] c (tt, tt) (tt, tt) refl tt (omega arith))
 
 ttylnd_of_duty : (m : Machine) (v : State) (j : ℕ) (x : View) (s : Site) (a : Ask) (n : ℕ) (p : Party) → Calling m v j x.own s a n → Duty v j x.own s a n (ttylnd_of x a p)
-ttylnd_of_duty m v j x s a n Oneself c = lands_duty m v j x s a n (can_take x (x.holders (console_of x))) 0o13 x.slot c
+ttylnd_of_duty m v j x s a n Oneself c = lands_duty m v j x s a n (can_take x (x.holders (view_console x))) 0o13 x.slot c
 ttylnd_of_duty m v j x s a n Nobody c = fails_duty m v j x s a n 0o4 c
-ttylnd_of_duty m v j x s a n (Channel (On k write at)) c = lands_duty m v j x s a n (is_holder x (x.holders (console_of x))) 0o5 k c
+ttylnd_of_duty m v j x s a n (Channel (On k write at)) c = lands_duty m v j x s a n (is_holder x (x.holders (view_console x))) 0o5 k c
 ttylnd_of_duty m v j x s a n _ c = fails_duty m v j x s a n 0o5 c
 
 pub ttylnd_duty : (m : Machine) (v : State) (j : ℕ) (x : View) (s : Site) (a : Ask) (n : ℕ) → Calling m v j x.own s a n → Duty v j x.own s a n (ttylnd x a)

@@ -21,7 +21,7 @@ use Rattle.its_plain.specs.Arguments.{input, place_of_input}
 use Rattle.its_word.specs.Links.{most_linked}
 use Rattle.its_plain.specs.CallBasic.{channel_at, ioc, is_negative, negated, longest_sleep, shared_place, read_only, sleep}
 use Rattle.its_plain.specs.CallLink.{words_in, is_end_closed, is_dry, is_ended, is_crowded, is_unread, first_word, iot_receive, iot_receives, iot_sends, siot_receive, siot_receives, siot_send, siot_sends}
-use Rattle.its_plain.specs.CallTty.{is_empty, console_of, input_waits, output_waits, output_left, siot_in, siot_out, iot_in, iot_out, first_typed, shown_byte, finish_on, finish, listens, listen_on, listen}
+use Rattle.its_plain.specs.CallTty.{is_empty, view_console, input_waits, output_waits, output_left, siot_in, siot_out, iot_in, iot_out, first_typed, shown_byte, finish_on, finish, listens, listen_on, listen}
 use Rattle.its_plain.specs.Transfer.{store_tests, read_tests, iot_ends, siot_tests, siot_by, next_pointer, word_of}
 use Rattle.its_plain.specs.CallDevice.{iot_on, iot_call, siot_on, siot_call}
 use Rattle.its_plain.specs.CallStep.{decision}
@@ -164,13 +164,13 @@ sleep_again v a r e =
     subst (Again v a (Some Sleep)) p.0 (record { reason = refl; holds = p.1; again = λ u same held. sleep_waits (own_as v u) a held })
 
 -- a byte from a console or to one
-in_on : (v u : View) (a : Ask) (e i : ℕ) (c : Chan) (same : i ≡ console_of v) → of_transfer i c ≡ Some (waits.Input i) → iot_in u e (console_of u) ≡ Waits (waits.Input i) → iot_on u e (input a 0) c ≡ Waits (waits.Input i)
+in_on : (v u : View) (a : Ask) (e i : ℕ) (c : Chan) (same : i ≡ view_console v) → of_transfer i c ≡ Some (waits.Input i) → iot_in u e (view_console u) ≡ Waits (waits.Input i) → iot_on u e (input a 0) c ≡ Waits (waits.Input i)
 in_on v u a e i TtyIn same o is = is
 in_on v u a e i (Linked l true) same o is = absurd (cc)
 in_on v u a e i (Linked l false) same o is = absurd (cc)
 in_on v u a e i _ same o is = absurd (cc)
 
-out_on : (v u : View) (a : Ask) (e i : ℕ) (c : Chan) → of_transfer i c ≡ Some (waits.Output i) → iot_out u e (console_of u) ≡ Waits (waits.Output i) → iot_on u e (input a 0) c ≡ Waits (waits.Output i)
+out_on : (v u : View) (a : Ask) (e i : ℕ) (c : Chan) → of_transfer i c ≡ Some (waits.Output i) → iot_out u e (view_console u) ≡ Waits (waits.Output i) → iot_on u e (input a 0) c ≡ Waits (waits.Output i)
 out_on v u a e i TtyOut o is = is
 out_on v u a e i (Linked l true) o is = absurd (cc)
 out_on v u a e i (Linked l false) o is = absurd (cc)
@@ -216,7 +216,7 @@ iot_by : (v : View) (a : Ask) (r : Wait) (c : Chan) → channel_at v.own.channel
 unfolding iot_call
 iot_by v a r TtyIn is ready e d =
     let p = slice_index_or a.outputs.items 0 0 in
-    let i = console_of v in
+    let i = view_console v in
     let w = last_waits (store_tests v p) (input_waits v i) (waits.Input i) r (iot_ends v (changes.Take i ∷ []) (record { at = p; word = first_typed v i } ∷ [])) (tt, (tt, tt)) tt e in
     subst (Again v a (Some Iot)) w.same (record {
       reason = ap (of_transfer i) is;
@@ -226,7 +226,7 @@ iot_by v a r TtyIn is ready e d =
     })
 iot_by v a r TtyOut is ready e d =
     let p = slice_index_or a.outputs.items 0 0 in
-    let i = console_of v in
+    let i = view_console v in
     let w = last_waits (read_tests v p) (output_waits v i) (waits.Output i) r (iot_ends v (changes.Put i (shown_byte (word_of v p)) ∷ []) []) (tt, tt) tt e in
     subst (Again v a (Some Iot)) w.same (record {
       reason = ap (of_transfer i) is;
@@ -236,7 +236,7 @@ iot_by v a r TtyOut is ready e d =
     })
 iot_by v a r (Linked l false) is ready e d =
     let p = slice_index_or a.outputs.items 0 0 in
-    let i = console_of v in
+    let i = view_console v in
     let w = last_waits (store_tests v p) (is_dry (v.links l)) (waits.Empty l) r (iot_receive v p l (words_in (v.links l))) (tt, (tt, tt))
     (received v p l (words_in (v.links l))) e in
     subst (Again v a (Some Iot)) w.same (record {
@@ -247,7 +247,7 @@ iot_by v a r (Linked l false) is ready e d =
     })
 iot_by v a r (Linked l true) is ready e d =
     let p = slice_index_or a.outputs.items 0 0 in
-    let i = console_of v in
+    let i = view_console v in
     let w = last_waits (read_tests v p ++ (is_unread (v.links l) ⇒ ioc v ∷ [])) (is_crowded (v.links l)) (waits.Room l) r
     (iot_ends v (changes.Send l (word_of v p) ∷ []) []) (tt, (tt, tt)) tt e in
     subst (Again v a (Some Iot)) w.same (record {
@@ -268,13 +268,13 @@ unfolding iot_call
 iot_again v a r e = iot_by v a r (channel_at v.own.channels (input a 0)) refl (iot_ready v a) e e
 
 -- SIOT
-siot_in_on : (u : View) (a : Ask) (i : ℕ) (c : Chan) → of_transfer i c ≡ Some (waits.Input i) → siot_by u a false false (siot_in u a (next_pointer (input a 1)) (input a 2) (console_of u)) ≡ Waits (waits.Input i) → siot_on u a (input a 0) c ≡ Waits (waits.Input i)
+siot_in_on : (u : View) (a : Ask) (i : ℕ) (c : Chan) → of_transfer i c ≡ Some (waits.Input i) → siot_by u a false false (siot_in u a (next_pointer (input a 1)) (input a 2) (view_console u)) ≡ Waits (waits.Input i) → siot_on u a (input a 0) c ≡ Waits (waits.Input i)
 siot_in_on u a i TtyIn o is = is
 siot_in_on u a i (Linked l true) o is = absurd cc
 siot_in_on u a i (Linked l false) o is = absurd cc
 siot_in_on u a i _ o is = absurd cc
 
-siot_out_on : (u : View) (a : Ask) (i : ℕ) (c : Chan) → of_transfer i c ≡ Some (waits.Output i) → siot_by u a false false (siot_out u a (next_pointer (input a 1)) (input a 2) (console_of u)) ≡ Waits (waits.Output i) → siot_on u a (input a 0) c ≡ Waits (waits.Output i)
+siot_out_on : (u : View) (a : Ask) (i : ℕ) (c : Chan) → of_transfer i c ≡ Some (waits.Output i) → siot_by u a false false (siot_out u a (next_pointer (input a 1)) (input a 2) (view_console u)) ≡ Waits (waits.Output i) → siot_on u a (input a 0) c ≡ Waits (waits.Output i)
 siot_out_on u a i TtyOut o is = is
 siot_out_on u a i (Linked l true) o is = absurd cc
 siot_out_on u a i (Linked l false) o is = absurd cc
@@ -298,7 +298,7 @@ siot_by_channel : (v : View) (a : Ask) (r : Wait) (c : Chan) → channel_at v.ow
 unfolding siot_call
 siot_by_channel v a r TtyIn is ready e d =
     let n = next_pointer (input a 1) in
-    let i = console_of v in
+    let i = view_console v in
     let ts = siot_tests v a (input a 1) (input a 2) false false in
     let moves = siot_in v a n (input a 2) i in
     let past = passed ts moves r (tt, (tt, (tt, (tt, (tt, (tt, (tt, (tt, tt)))))))) e in
@@ -312,7 +312,7 @@ siot_by_channel v a r TtyIn is ready e d =
     })
 siot_by_channel v a r TtyOut is ready e d =
     let n = next_pointer (input a 1) in
-    let i = console_of v in
+    let i = view_console v in
     let ts = siot_tests v a (input a 1) (input a 2) false false in
     let moves = siot_out v a n (input a 2) i in
     let past = passed ts moves r (tt, (tt, (tt, (tt, (tt, (tt, (tt, (tt, tt)))))))) e in
@@ -326,7 +326,7 @@ siot_by_channel v a r TtyOut is ready e d =
     })
 siot_by_channel v a r (Linked l false) is ready e d =
     let n = next_pointer (input a 1) in
-    let i = console_of v in
+    let i = view_console v in
     let ts = siot_tests v a (input a 1) (input a 2) false (is_ended (v.links l)) in
     let moves = siot_receive v n (input a 2) l in
     let past = passed ts moves r (tt, (tt, (tt, (tt, (tt, (tt, (tt, (tt, tt)))))))) e in
@@ -348,7 +348,7 @@ siot_by_channel v a r (Linked l false) is ready e d =
     })
 siot_by_channel v a r (Linked l true) is ready e d =
     let n = next_pointer (input a 1) in
-    let i = console_of v in
+    let i = view_console v in
     let ts = siot_tests v a (input a 1) (input a 2) false false in
     let moves = siot_send v a n (input a 2) l in
     let past = passed ts moves r (tt, (tt, (tt, (tt, (tt, (tt, (tt, (tt, tt)))))))) e in
@@ -382,7 +382,7 @@ finish_as u a i _ o is = absurd cc
 finish_by : (v : View) (a : Ask) (r : Wait) (c : Chan) → channel_at v.own.channels (input a 0) ≡ c → finish_on v a c ≡ Waits r → Again v a (Some Finish) r
 unfolding finish
 finish_by v a r TtyOut is e =
-    let i = console_of v in
+    let i = view_console v in
     let w = last_waits [] (output_left v i) (waits.Drained i) r (finishes v [] []) tt tt e in
     subst (Again v a (Some Finish)) w.same (record {
       reason = ap (of_finish i) is;
@@ -395,15 +395,15 @@ finish_again : (v : View) (a : Ask) (r : Wait) → decided_by v a (Some Finish) 
 unfolding finish
 finish_again v a r e = finish_by v a r (channel_at v.own.channels (input a 0)) refl e
 
-listen_as : (u : View) (a : Ask) (i : ℕ) (c : Chan) → of_listen i c ≡ Some (waits.Drained i) → listens u a (console_of u) ≡ Waits (waits.Drained i) → listen_on u a c ≡ Waits (waits.Drained i)
+listen_as : (u : View) (a : Ask) (i : ℕ) (c : Chan) → of_listen i c ≡ Some (waits.Drained i) → listens u a (view_console u) ≡ Waits (waits.Drained i) → listen_on u a c ≡ Waits (waits.Drained i)
 listen_as u a i TtyOut o is = is
 listen_as u a i TtyIn o is = is
 listen_as u a i _ o is = absurd (cc)
 
-listens_again : (v : View) (a : Ask) (r : Wait) → of_listen (console_of v) (channel_at v.own.channels (input a 0)) ≡ Some (waits.Drained (console_of v)) → listens v a (console_of v) ≡ Waits r → Again v a (Some Listen) r
+listens_again : (v : View) (a : Ask) (r : Wait) → of_listen (view_console v) (channel_at v.own.channels (input a 0)) ≡ Some (waits.Drained (view_console v)) → listens v a (view_console v) ≡ Waits r → Again v a (Some Listen) r
 unfolding listen
 listens_again v a r is e =
-    let i = console_of v in
+    let i = view_console v in
     let w = last_waits [] (output_left v i) (waits.Drained i) r (finishes v [] (out a.outputs.items (length (v.consoles i).input))) tt tt e in
     subst (Again v a (Some Listen)) w.same (record {
       reason = is;
@@ -413,8 +413,8 @@ listens_again v a r is e =
     })
 
 listen_by : (v : View) (a : Ask) (r : Wait) (c : Chan) → channel_at v.own.channels (input a 0) ≡ c → listen_on v a c ≡ Waits r → Again v a (Some Listen) r
-listen_by v a r TtyOut is e = listens_again v a r (ap (of_listen (console_of v)) is) e
-listen_by v a r TtyIn is e = listens_again v a r (ap (of_listen (console_of v)) is) e
+listen_by v a r TtyOut is e = listens_again v a r (ap (of_listen (view_console v)) is) e
+listen_by v a r TtyIn is e = listens_again v a r (ap (of_listen (view_console v)) is) e
 listen_by v a r _ is e = absurd (cc)
 
 listen_again : (v : View) (a : Ask) (r : Wait) → decided_by v a (Some Listen) ≡ Waits r → Again v a (Some Listen) r

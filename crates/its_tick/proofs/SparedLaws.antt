@@ -18,7 +18,7 @@ use Rattle.its_stepped.specs.Forest.{OnInferior, Forest}
 use Rattle.its_stepped.specs.Quiet.{Reached, Quiet, AllQuiet}
 use Rattle.its_stepped.specs.State.{State, plain}
 use Rattle.its_stepped.proofs.EffectLaws.{superiors_plain, effect_plain, effect_others}
-use Rattle.its_stepped.proofs.ForestLaws.{Fits, AllFit, forest_raw, effect_forest, gone_forest}
+use Rattle.its_stepped.proofs.ForestLaws.{ChangeFits, AllFit, forest_raw, effect_forest, gone_forest}
 use Rattle.its_stepped.proofs.FrameLaws.{changed_only, on_slot_other}
 
 -- the superior of a job that is removed is removed too, except for that of the root
@@ -77,7 +77,7 @@ unfolding effect_on effect removed
 removed_same j u v s k f h apart forest e ne fr =
     job_stays v.raw s k (forest_raw v forest) (stays_there u v j s k f h e ne fr) (subst (λ (sup : ℕ → Option ℕ). sup s ≢ Some k) (superiors_plain v) apart)
 
-effect_same : (c : Change) (j : ℕ) (u v : State) (k : ℕ) (f : Frame) → Quiet c j u → Fits c j (plain v) → Forest (plain v) → u.raw ≡ v.raw → k ≢ j → u.frames k ≡ Some f
+effect_same : (c : Change) (j : ℕ) (u v : State) (k : ℕ) (f : Frame) → Quiet c j u → ChangeFits c j (plain v) → Forest (plain v) → u.raw ≡ v.raw → k ≢ j → u.frames k ≡ Some f
     → (effect_on c j v).raw.jobs k ≡ v.raw.jobs k
 unfolding effect_on effect
 effect_same (changes.Take c) j u v k f h fits forest e ne fr = refl

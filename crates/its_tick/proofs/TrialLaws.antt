@@ -10,7 +10,7 @@ use Rattle.its_commit.specs.Pages.{pages_carried}
 use Rattle.its_pclsr.specs.Pages.{pages_unwound}
 use Rattle.its_tick.specs.Pages.{pages_tried, pages_in}
 use Rattle.its_tick.proofs.FramesLaws.{tried_pages}
-use Rattle.its_commit.specs.Carried.{standing_of, pace_of, Ready}
+use Rattle.its_commit.specs.Carried.{standing_of, pace_of, CanCommit}
 use Rattle.its_commit.proofs.TriesLaws.{Cleared, Tries, prepared, cleared, tries, job_there, ready_there}
 use Rattle.its_plain.specs.CallStep.{decision}
 use Rattle.its_plain.specs.Decide.{reach}
@@ -143,7 +143,7 @@ module _ (old mid : World) (s : ℕ) (kept : Kept old) (e : is_some (standing_of
       tries (state_of old) (state_of mid) s c.job c.call d kept.sound kept.forest c.calls.raw (raw_consoled (state_of old) s c.job (record { each = kept.consoled }) c.calls.raw) c.calls.stands (clear_call old s c.call c.job c.calls clear) (ready_is c)
       (of_call mid s (λ f q. d ≡ decision (state_of mid).raw s q f.ask) c.call c.job (still c) h)
 
-  pub mid_ready : (d : Decision) → Decides mid s d → IfSome (standing_of (frame_at mid.frames.items s)) (λ f. Ready (state_of mid) s f d)
+  pub mid_ready : (d : Decision) → Decides mid s d → IfSome (standing_of (frame_at mid.frames.items s)) (λ f. CanCommit (state_of mid) s f d)
   mid_ready d h = let c = caller old s kept.sound e in ready_there old mid s c.job c.call d (found_tries c d h)
 
   pub trial_made : (new : World) (d : Decision) (p : Pace) → Decides mid s d → IfSome (standing_of (frame_at mid.frames.items s)) (λ f. state_of new ≡ committed (state_of mid) s f.site f.ask f.owes d)

@@ -34,7 +34,7 @@ use Rattle.its_stepped.proofs.TriedLaws.{waits_unreached}
 use Rattle.its_stepped.proofs.ViewLaws.{reach_plain}
 use Rattle.its_stepped.proofs.WaitLaws.{Goes_on}
 use Rattle.its_world.specs.Rings.{ring_of}
-use Rattle.its_world.specs.Filed.{doors_of, place_of, Blocked}
+use Rattle.its_world.specs.Filed.{doors_of, wait_list_of, Blocked}
 use Rattle.its_world.specs.World.{alarm_at, frame_at, raw_at, state_of}
 use Rattle.its_world.specs.declared.world.World.{World}
 use Rattle.its_world.proofs.StateLaws.{raw_job, raw_some}
@@ -113,7 +113,7 @@ record Rung (w : World) (s : ℕ) : Type 0 where
 
 rung : (w : World) (s : ℕ) → Kept w → Blocked w s → Rung w s
 rung w s kept b =
-    let x : Placed w s b.ring = placed w s b.ring kept.sound (stands_there w.rings.lists s b.ring (place_of w s) (kept.tidy.ringed.each s) b.here) in
+    let x : Placed w s b.ring = placed w s b.ring kept.sound (stands_there w.rings.lists s b.ring (wait_list_of w s) (kept.tidy.ringed.each s) b.here) in
     let h = held_place x.reason (held_up (doors_of w) s (input x.frame.ask 0) x.reason) b.ring x.within x.at b.within in
     let q : Whole = raw_job w.files (core_at w.core s) x.job (superior_at w.jobs s) (alarm_at w.alarms.items s) in
     let k = sound_at (state_of w) s q (frames.Waiting x.frame) kept.sound (raw_is w s x.job x.in_job) (frame_is w s ∙ x.in_frame) in
@@ -160,7 +160,7 @@ waits_by w s f (Some j) kept job fr e =
     (subst (λ (o : Option Whole). IfSome o (λ p. tick_in (state_of w) s p (Some (frames.Waiting f)) ≡ tick_in (state_of w) s q (Some (frames.Waiting f)))) (sym (raw_some w s j job)) refl) in
     let d = tried_waits (state_of w) (prepared_for (state_of w) s own f.ask) s f.site f.ask f.owes (decision (plain (state_of w)) s own f.ask) (ap (λ t. t.pace) (sym row) ∙ e) in
     let p = waits_place w s j f d.0 kept.sound kept.forest job fr d.1 (housed_at w s j kept.consoled job) in
-    record { ring = ring_of d.0; within = ring_within d.0 p.1; here = stands_here w.rings.lists s (ring_of d.0) (place_of w s) (kept.tidy.ringed.each s) p.0 }
+    record { ring = ring_of d.0; within = ring_within d.0 p.1; here = stands_here w.rings.lists s (ring_of d.0) (wait_list_of w s) (kept.tidy.ringed.each s) p.0 }
 waits_by w s f None kept job fr e = let n = sym (frame_none w s kept.sound job) ∙ fr in absurd cc
 
 pub waits_blocked : (w : World) (s : ℕ) → Kept w → is_waiting (frame_at w.frames.items s) ≡ true → (tick (state_of w) s).pace ≡ Waited → Blocked w s

@@ -36,7 +36,7 @@ use Rattle.its_stepped.proofs.JoinedLaws.{link_stands}
 use Rattle.its_stepped.proofs.WaitLaws.{blocked_so}
 use Rattle.its_world.specs.World.{chan_of, alarm_at, frame_at, state_of}
 use Rattle.its_world.specs.Rings.{IsWaitRing, ring_of, awake_of, post_of, awake_head, is_within, Within, place_at, mark, StandsIn}
-use Rattle.its_world.specs.Filed.{kind_of, channel_of, wait_reason, if_within, place_for, place_by, doors_of, place_of, Ringed}
+use Rattle.its_world.specs.Filed.{kind_of, channel_of, wait_reason, if_within, place_for, place_by, doors_of, wait_list_of, Ringed}
 use Rattle.its_world.specs.declared.world.World.{World}
 use Rattle.its_world.proofs.PlaceLaws.{within_is, is_within_so}
 use Rattle.its_world.proofs.StateLaws.{raw_job, raw_some, raw_none}
@@ -182,8 +182,8 @@ doors_plain : (w : World) → doors (plain (state_of w)) ≡ doors_of w
 unfolding plain state_of
 doors_plain w = refl
 
-place_waiting : (w : World) (s : ℕ) (f : Waiting) (o : Option Job) → job_at w.jobs s ≡ o → frame_at w.frames.items s ≡ Some (frames.Waiting f) → place_of w s ≡ place_for (doors_of w) s (input f.ask 0) (wait_reason o f.ask)
-unfolding place_of
+place_waiting : (w : World) (s : ℕ) (f : Waiting) (o : Option Job) → job_at w.jobs s ≡ o → frame_at w.frames.items s ≡ Some (frames.Waiting f) → wait_list_of w s ≡ place_for (doors_of w) s (input f.ask 0) (wait_reason o f.ask)
+unfolding wait_list_of
 place_waiting w s f o job fr = λ t. place_by (doors_of w) s (job t) (fr t)
 
 pub sound_at : (w : State) (j : ℕ) (q : Whole) (f : Frame) → Sound w → w.raw.jobs j ≡ Some q → w.frames j ≡ Some f → SoundFrame q f (w.reserved j)
@@ -238,8 +238,8 @@ pub frame_none : (w : World) (k : ℕ) → Sound (state_of w) → job_at w.jobs 
 frame_none w k sound none =
     sym (frame_is w k) ∙ (subst (λ (o : Option Whole). SoundBy o ((state_of w).frames k) ((state_of w).reserved k)) (raw_is_none w k none) (sound.each k).by).0
 
-pub placed : (w : World) (k g : ℕ) → Sound (state_of w) → place_of w k ≡ Some g → Placed w k g
-unfolding place_of
+pub placed : (w : World) (k g : ℕ) → Sound (state_of w) → wait_list_of w k ≡ Some g → Placed w k g
+unfolding wait_list_of
 placed w k g sound e = placed_by w k g (job_at w.jobs k) (frame_at w.frames.items k) refl refl (frame_none w k sound) e
 
 -- the job of the plain machine in a slot that has a frame
@@ -319,7 +319,7 @@ link_fits w s j f n forest job fr l write on =
 -- the list to which a slot belongs whose call waits
 pub waits_place : (w : World) (s : ℕ) (j : Job) (f : Waiting) (r : Wait) → Sound (state_of w) → Forest (plain (state_of w)) → job_at w.jobs s ≡ Some j → frame_at w.frames.items s ≡ Some (frames.Waiting f)
     → decision (plain (state_of w)) s (seen (Some (frames.Waiting f)) (raw_job w.files (core_at w.core s) j (superior_at w.jobs s) (alarm_at w.alarms.items s))) f.ask ≡ Waits r
-    → IfSome j.console (λ c. c < 8) → (place_of w s ≡ Some (ring_of r)) × Within r
+    → IfSome j.console (λ c. c < 8) → (wait_list_of w s ≡ Some (ring_of r)) × Within r
 waits_place w s j f r sound forest job fr d housed =
     let q : Whole = raw_job w.files (core_at w.core s) j (superior_at w.jobs s) (alarm_at w.alarms.items s) in
     let k = sound_at (state_of w) s q (frames.Waiting f) sound (raw_is w s j job) (frame_is w s ∙ fr) in
@@ -360,17 +360,17 @@ waits_of w k r sound l x =
 
 -- a slot that waits for a reason belongs in its ring
 waits_at : (w : World) (k : ℕ) (f : Waiting) (p : Whole) (r : Wait) (o : Option Job) → Sound (state_of w) → Forest (plain (state_of w)) → AllHoused w → job_at w.jobs k ≡ o → frame_at w.frames.items k ≡ Some (frames.Waiting f)
-    → (plain (state_of w)).jobs k ≡ Some p → decision (plain (state_of w)) k p f.ask ≡ Waits r → place_of w k ≡ Some (ring_of r)
+    → (plain (state_of w)).jobs k ≡ Some p → decision (plain (state_of w)) k p f.ask ≡ Waits r → wait_list_of w k ≡ Some (ring_of r)
 waits_at w k f p r (Some j) sound forest consoled job fr there d =
     let same = some_same ((plain (state_of w)).jobs k) _ _ there (plain_job w k j f job fr) in
     (waits_place w k j f r sound forest job fr (ap (λ q. decision (plain (state_of w)) k q f.ask) (sym same) ∙ d) (housed_at w k j consoled job)).0
 waits_at w k f p r None sound forest consoled job fr there d = let n = sym (plain_none (state_of w) k (raw_is_none w k job)) ∙ there in absurd cc
 
-waits_placed : (w : World) (k : ℕ) (r : Wait) → Sound (state_of w) → Forest (plain (state_of w)) → AllHoused w → WaitsFor (state_of w) k r → place_of w k ≡ Some (ring_of r)
+waits_placed : (w : World) (k : ℕ) (r : Wait) → Sound (state_of w) → Forest (plain (state_of w)) → AllHoused w → WaitsFor (state_of w) k r → wait_list_of w k ≡ Some (ring_of r)
 waits_placed w k r sound forest consoled x = waits_at w k x.frame x.job r (job_at w.jobs k) sound forest consoled refl (sym (frame_is w k) ∙ x.in_frame) x.there x.waits
 
 -- a slot that is on an Awake list can go on
-can_of : (w : World) (k : ℕ) (d : Device) → Sound (state_of w) → Forest (plain (state_of w)) → AllHoused w → IsPost d → place_of w k ≡ Some (awake_head d) → Placed w k (awake_head d) → CanGoOn (state_of w) k d
+can_of : (w : World) (k : ℕ) (d : Device) → Sound (state_of w) → Forest (plain (state_of w)) → AllHoused w → IsPost d → wait_list_of w k ≡ Some (awake_head d) → Placed w k (awake_head d) → CanGoOn (state_of w) k d
 can_of w k d sound forest consoled l e x =
     let q : Whole = raw_job w.files (core_at w.core k) x.job (superior_at w.jobs k) (alarm_at w.alarms.items k) in
     record {
@@ -383,13 +383,13 @@ can_of w k d sound forest consoled l e x =
       here = awake_place x.reason (held_up (doors_of w) k (input x.frame.ask 0) x.reason) d x.within l x.at;
       ready = λ r h.
           let p = waits_place w k x.job x.frame r sound forest x.in_job x.in_frame h (housed_at w k x.job consoled x.in_job) in
-          let same : ring_of r ≡ awake_head d = some_same (place_of w k) _ _ p.0 e in
+          let same : ring_of r ≡ awake_head d = some_same (wait_list_of w k) _ _ p.0 e in
           past d l (subst IsWaitRing same (ring_within r p.1));
     }
 
 -- a slot that waits at a console or a link and can go on belongs in the Awake list there
 can_at : (w : World) (k : ℕ) (d : Device) (x : CanGoOn (state_of w) k d) (o : Option Job) → Sound (state_of w) → IsPost d → job_at w.jobs k ≡ o → frame_at w.frames.items k ≡ Some (frames.Waiting x.frame)
-    → place_of w k ≡ Some (awake_head d)
+    → wait_list_of w k ≡ Some (awake_head d)
 can_at w k d x (Some j) sound l job fr =
     let q : Whole = raw_job w.files (core_at w.core k) j (superior_at w.jobs k) (alarm_at w.alarms.items k) in
     let f = x.frame in
@@ -409,27 +409,27 @@ can_at w k d x None sound l job fr = let n = sym (plain_none (state_of w) k (raw
 -- all lists
 awake_holds : (w : World) (d : Device) → Sound (state_of w) → Forest (plain (state_of w)) → AllHoused w → Ringed w → IsPost d → HoldsJust (list_at w.rings.lists (awake_head d)) (λ k. CanGoOn (state_of w) k d)
 awake_holds w d sound forest consoled ringed l = record {
-  once = λ k. stands_once w.rings.lists k (awake_head d) (place_of w k) (ringed.each k);
+  once = λ k. stands_once w.rings.lists k (awake_head d) (wait_list_of w k) (ringed.each k);
   just = λ k. (
     (λ here.
-        let e = stands_there w.rings.lists k (awake_head d) (place_of w k) (ringed.each k) here in
+        let e = stands_there w.rings.lists k (awake_head d) (wait_list_of w k) (ringed.each k) here in
         can_of w k d sound forest consoled l e (placed w k (awake_head d) sound e)),
-    (λ x. stands_here w.rings.lists k (awake_head d) (place_of w k) (ringed.each k) (can_at w k d x (job_at w.jobs k) sound l refl (sym (frame_is w k) ∙ x.in_frame))),
+    (λ x. stands_here w.rings.lists k (awake_head d) (wait_list_of w k) (ringed.each k) (can_at w k d x (job_at w.jobs k) sound l refl (sym (frame_is w k) ∙ x.in_frame))),
   );
 }
 
 pub rings_hold : (w : World) → Sound (state_of w) → Forest (plain (state_of w)) → AllHoused w → Ringed w → WaitRings w
 rings_hold w sound forest consoled ringed = record {
   rings = λ r l. record {
-    once = λ k. stands_once w.rings.lists k (ring_of r) (place_of w k) (ringed.each k);
+    once = λ k. stands_once w.rings.lists k (ring_of r) (wait_list_of w k) (ringed.each k);
     just = λ k. (
-      (λ here. waits_of w k r sound l (placed w k (ring_of r) sound (stands_there w.rings.lists k (ring_of r) (place_of w k) (ringed.each k) here))),
-      (λ x. stands_here w.rings.lists k (ring_of r) (place_of w k) (ringed.each k) (waits_placed w k r sound forest consoled x)),
+      (λ here. waits_of w k r sound l (placed w k (ring_of r) sound (stands_there w.rings.lists k (ring_of r) (wait_list_of w k) (ringed.each k) here))),
+      (λ x. stands_here w.rings.lists k (ring_of r) (wait_list_of w k) (ringed.each k) (waits_placed w k r sound forest consoled x)),
     );
   };
   at_consoles = λ c l. awake_holds w (AtConsole c) sound forest consoled ringed l;
   at_links = λ n l. awake_holds w (AtLink n) sound forest consoled ringed l;
-  one = λ k g h here there. some_same (place_of w k) _ _ (stands_there w.rings.lists k g (place_of w k) (ringed.each k) here) (stands_there w.rings.lists k h (place_of w k) (ringed.each k) there);
+  one = λ k g h here there. some_same (wait_list_of w k) _ _ (stands_there w.rings.lists k g (wait_list_of w k) (ringed.each k) here) (stands_there w.rings.lists k h (wait_list_of w k) (ringed.each k) there);
 }
 
 -- a world of which all the rest holds is kept

@@ -15,7 +15,7 @@ use Rattle.its_reader.specs.declared.items.Found.TheVariants.{Line, Bad}
 use Rattle.its_reader.specs.declared.items.Found.TheVariants as founds
 use Rattle.its_reader.specs.declared.items.Items.{Items}
 use Rattle.its_reader.specs.Bytes.{pending}
-use Rattle.its_reader.specs.Lines.{Ready}
+use Rattle.its_reader.specs.Lines.{BetweenLines}
 use Rattle.its_reader.specs.Items.{is_last, is_end, last_items, Finds, FoundSoFar, AllFound}
 use Rattle.its_reader.proofs.ItemsLaws as reader
 use Rattle.its_top.specs.declared.checking.Checked.{Checked}
@@ -70,7 +70,7 @@ passes_end (Bad r) n l p = absurd p
 passes_end founds.Beyond n l p = absurd p
 passes_end founds.End n l p = refl
 
-pub check_over : (c : Checked) (f : Found) (n k : ℕ) (r r' : Items) (left mid rest : Option (List ℕ)) → k ≡ n → Ready r'.lines rest → CheckSoFar r k left mid → Finds (Ok f) r r' mid rest → CheckedBy (Some c) n f
+pub check_over : (c : Checked) (f : Found) (n k : ℕ) (r r' : Items) (left mid rest : Option (List ℕ)) → k ≡ n → BetweenLines r'.lines rest → CheckSoFar r k left mid → Finds (Ok f) r r' mid rest → CheckedBy (Some c) n f
     → Finding (Ok c) left rest
 check_over c f n k r r' left mid rest e y s t h =
     let d = reader.ended_by f s.items r r' left mid rest h.0 y s.found t in

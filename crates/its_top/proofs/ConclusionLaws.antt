@@ -15,7 +15,7 @@ use Rattle.its_reader.specs.declared.items.Found.{Found}
 use Rattle.its_reader.specs.declared.items.Found.TheVariants as founds
 use Rattle.its_reader.specs.declared.items.Items.{Items}
 use Rattle.its_reader.specs.Bytes.{pending}
-use Rattle.its_reader.specs.Lines.{Ready}
+use Rattle.its_reader.specs.Lines.{BetweenLines}
 use Rattle.its_reader.specs.Items.{is_last, is_end, last_items, Finds, FoundSoFar, ReadOut, AllFound, Behind}
 use Rattle.its_reader.proofs.ItemsLaws as reader
 use Rattle.its_plain.specs.Machine.{no_machine}
@@ -172,11 +172,11 @@ told_over flow n v b i f es (Some bytes) read v1 w s o h =
     (finished_after (status_of flow) _ _ v1 w (ap (λ x. said (stepped x)) h.all ∙ s (last_items f ++ h.tail)) (o h.tail h.last))
 
 told_input : (flow : Flow) (n : ℕ) (v v' : State) (b b' : Block) (i i' : ℕ) (f : Found) (es : List Item) (w : List ℕ) (r r' : Items) (left mid rest : Option (List ℕ)) → goes_on flow ≡ false → TakenBy flow n v b i f v' b' i' w
-    → Ready r'.lines rest → FoundSoFar es r left mid → Finds (Ok f) r r' mid rest → status_of flow ≡ statuses.Done → IfSome left (λ bytes. ReadOut bytes rest)
+    → BetweenLines r'.lines rest → FoundSoFar es r left mid → Finds (Ok f) r r' mid rest → status_of flow ≡ statuses.Done → IfSome left (λ bytes. ReadOut bytes rest)
 told_input flows.Ended n v v' b b' i i' f es w r r' left mid rest g t y s k e = reader.out_of f es r r' left mid rest y s k t.0
 told_input _ n v v' b b' i i' f es w r r' left mid rest g t y s k e = cc
 
-over_by : (flow : Flow) (f : Found) (n : ℕ) (v v' : State) (b b' : Block) (i i' : ℕ) (r r' : Items) (left mid rest old out new : Option (List ℕ)) → goes_on flow ≡ false → Ready r'.lines rest → SoFar r n v b i left mid old out
+over_by : (flow : Flow) (f : Found) (n : ℕ) (v v' : State) (b b' : Block) (i i' : ℕ) (r r' : Items) (left mid rest old out new : Option (List ℕ)) → goes_on flow ≡ false → BetweenLines r'.lines rest → SoFar r n v b i left mid old out
     → Finds (Ok f) r r' mid rest → Takes flow n v b i f v' b' i' out new → Session (status_of flow) left rest old new
 over_by flow f n v v' b b' i i' r r' left mid rest old out new g y s t w = record {
   read = s.found.read ++ t.read;
@@ -188,7 +188,7 @@ over_by flow f n v v' b b' i i' r r' left mid rest old out new g y s t w = recor
   input = told_input flow n v v' b b' i i' f s.items w.wrote r r' left mid rest g w.taken y s.found t;
 }
 
-pub session_over : (st : Status) (flow : Flow) (f : Found) (n k : ℕ) (v v' : State) (b b' : Block) (i i' : ℕ) (r r' : Items) (left mid rest old out new : Option (List ℕ)) → st ≡ status_of flow → goes_on flow ≡ false → k ≡ n → Ready r'.lines rest
+pub session_over : (st : Status) (flow : Flow) (f : Found) (n k : ℕ) (v v' : State) (b b' : Block) (i i' : ℕ) (r r' : Items) (left mid rest old out new : Option (List ℕ)) → st ≡ status_of flow → goes_on flow ≡ false → k ≡ n → BetweenLines r'.lines rest
     → SoFar r k v b i left mid old out → Finds (Ok f) r r' mid rest → Takes flow n v b i f v' b' i' out new → Session st left rest old new
 session_over st flow f n k v v' b b' i i' r r' left mid rest old out new h g e y s t w =
     subst (λ x. Session x left rest old new) (sym h) (over_by flow f n v v' b b' i i' r r' left mid rest old out new g y (subst (λ x. SoFar r x v b i left mid old out) e s) t w)

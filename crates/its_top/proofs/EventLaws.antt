@@ -22,7 +22,7 @@ use Rattle.its_top.specs.declared.shown.Reply.TheVariants as replies
 use Rattle.its_top.specs.declared.shown.Shown.{Shown}
 use Rattle.its_top.specs.declared.shown.Shown.TheVariants as shows
 use Rattle.its_top.specs.Telling.{Says, said, after, saying, goes_on_after}
-use Rattle.its_top.specs.Performing.{lines_of, Ready, Performed}
+use Rattle.its_top.specs.Performing.{lines_of, CanShow, Performed}
 
 pub text_append : (a b : List Line) → text (a ++ b) ≡ text a ++ text b
 unfolding text
@@ -60,7 +60,7 @@ goes_unless m b events.End h = absurd (h (end_goes m b))
 goes_unless m b _ h = refl
 
 pub does : (v c : State) (m : Machine) (b b' : Block) (e : Event) (s : Shown) (ps : List Pace) (w : World) (touched : ℕ → Bool)
-    → Comes v b e c (Done (Does m (lines_of s ps w) touched b')) → state_of w ≡ with_raw c m → Ready s w → Performed (Ok s) v b e ps w b'
+    → Comes v b e c (Done (Does m (lines_of s ps w) touched b')) → state_of w ≡ with_raw c m → CanShow s w → Performed (Ok s) v b e ps w b'
 does v c m b b' e s ps w touched h k f =
     let o : Lined = Done (Does m (lines_of s ps w) touched b') in
     record {

@@ -44,11 +44,11 @@ lines_of (shows.Files d n) ps w = listing d (files_in d (state_of w).raw.files)
 lines_of (shows.File id d x y) ps w = shown_lines d x y (words_at w.files id)
 
 -- words that are typed out begin at an address; the files that are shown exist, and no part of a close is pending
-abbrev pub Ready : Shown → World → Type 0
-Ready (shows.Listed s a words) w = a < 2 ^ 18
-Ready (shows.Files d n) w = (w.files.mark ≡ None) × (n ≡ length (files_in d (state_of w).raw.files))
-Ready (shows.File id d x y) w = (w.files.mark ≡ None) × (is_file (entry_at w.files id) ≡ true)
-Ready s w = Unit {0}
+abbrev pub CanShow : Shown → World → Type 0
+CanShow (shows.Listed s a words) w = a < 2 ^ 18
+CanShow (shows.Files d n) w = (w.files.mark ≡ None) × (n ≡ length (files_in d (state_of w).raw.files))
+CanShow (shows.File id d x y) w = (w.files.mark ≡ None) × (is_file (entry_at w.files id) ≡ true)
+CanShow s w = Unit {0}
 
 -- the lines of line n of a session that ends with it, and its flow
 abbrev pub lines_over : ℕ → Over → List Line
@@ -83,7 +83,7 @@ GoesBy (Err (overs.Refused r)) e = Unit {0}
 pub record Performed (r : Result Shown Over) (v : State) (b : Block) (e : Event) (ps : List Pace) (w : World) (b' : Block) : Type 0 where
   pub tells : (n : ℕ) (next : State → Block → Told) → line_told n v b e next ≡ telling (lines_shown n r ps w) (told_behind r (next (state_of w) b'))
   pub goes : GoesBy r e
-  pub ready : IfOk r (λ s. Ready s w)
+  pub ready : IfOk r (λ s. CanShow s w)
 
 -- the result of an event whose call answers nothing
 abbrev pub quiet : {T : Type 0} → Result T Refusal → Result Shown Over

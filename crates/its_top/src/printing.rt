@@ -6,7 +6,7 @@ ghost use Rattle.its_print.specs.Printing.{text_of_line, text};
 ghost use Rattle.its_print.specs.Runs.{paces_in};
 ghost use Rattle.its_top.specs.Causes.{FlowCause};
 ghost use Rattle.its_top.specs.Answer.{Tells};
-ghost use Rattle.its_top.specs.Performing.{Ready, line_of, lines_of, lines_over, lines_shown, flow_of, flow_over};
+ghost use Rattle.its_top.specs.Performing.{CanShow, line_of, lines_of, lines_over, lines_shown, flow_of, flow_over};
 
 use super::filing::{print_files, print_words_of};
 use super::flow::Flow;
@@ -33,7 +33,7 @@ pub fn print<K: Sink>(
 ) -> Flow
     requires sound { Kept m.old.world }
     requires letters { length (paces_in runs.now.items) ≤ 512 }
-    requires ready { IfOk performed.now (λ s. Ready s m.old.world) }
+    requires ready { IfOk performed.now (λ s. CanShow s m.old.world) }
     ensures told { Tells result (flow_of performed.now) (text (lines_shown number performed.now (paces_in runs.now.items) m.old.world)) (K.written out.old) (K.written out.new) }
     ensures state { state_of m.new.world ≡ state_of m.old.world }
     ensures sound { Kept m.new.world }
@@ -62,7 +62,7 @@ fn print_over<K: Sink>(over: Over, number: u32, out: &mut K) -> Flow
 fn print_shown<K: Sink>(m: &mut Monitor, shown: &Shown, runs: &Runs, out: &mut K) -> Flow
     requires sound { Kept m.old.world }
     requires letters { length (paces_in runs.now.items) ≤ 512 }
-    requires ready { Ready shown.now m.old.world }
+    requires ready { CanShow shown.now m.old.world }
     ensures told { Tells result Flow.On (text (lines_of shown.now (paces_in runs.now.items) m.old.world)) (K.written out.old) (K.written out.new) }
     ensures state { state_of m.new.world ≡ state_of m.old.world }
     ensures sound { Kept m.new.world }

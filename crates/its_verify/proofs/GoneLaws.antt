@@ -18,7 +18,7 @@ use Rattle.its_reader.specs.declared.items.Found.TheVariants.{Line, Bad, Beyond,
 use Rattle.its_reader.specs.declared.items.Items.{Items}
 use Rattle.its_reader.specs.Bytes.{pending}
 use Rattle.its_reader.specs.Items.{Finds, found_fits, found_stands, is_last, place_found}
-use Rattle.its_reader.specs.Lines.{Ready}
+use Rattle.its_reader.specs.Lines.{BetweenLines}
 use Rattle.its_plain.specs.Operator.{Block, no_block}
 use Rattle.its_plain.specs.Transcript.{Walk}
 use Rattle.its_plain.specs.Turns.{ticks_asked, turns_asked}
@@ -146,7 +146,7 @@ line_split : (e : Event) (before after : List Item) → before ≡ item_then (Ok
 line_split events.End before after is = record { behind = []; is = is; on = λ h. absurd (false≢true (sym h)) }
 line_split e before after is = record { behind = after; is = is; on = λ h. refl }
 
-pub found_split : (f : Found) (old new : Items) (left rest : Option (List ℕ)) → Finds (Ok f) old new left rest → Ready new.lines rest → IsTold left → Split f (items_of old left) (items_of new rest)
+pub found_split : (f : Found) (old new : Items) (left rest : Option (List ℕ)) → Finds (Ok f) old new left rest → BetweenLines new.lines rest → IsTold left → Split f (items_of old left) (items_of new rest)
 found_split (Line e) old new left rest finds ready t = line_split e (items_of old left) (items_of new rest) (found_line old new left rest e finds ready t).0
 found_split (Bad r) old new left rest finds ready t = record { behind = []; is = found_bad old new left rest r finds ready t; on = λ h. absurd (false≢true (sym h)) }
 found_split Beyond old new left rest finds ready t = record { behind = []; is = found_beyond old new left rest finds ready t; on = λ h. absurd (false≢true (sym h)) }
@@ -181,7 +181,7 @@ gone_then f old now judge r q session after left mid so split number =
     subst (λ (j : Ruling). PassesOn old.reader now.reader left mid judge j) (found_next now so.block r.lines.number q.lines.number _ _ split.is number) so.goes
 
 pub gone_next : (o : Result (Option Outcome) Failed) (f : Found) (old now new : Verifier) (judge : Ruling) (r q : Items) (session after : List ℕ) (left mid rest : Option (List ℕ)) → o ≡ Ok None
-    → GoneSo old now judge r (Some session) left mid → Finds (Ok f) r q (Some session) (Some after) → Ready q.lines (Some after) → q.lines.number ≡ r.lines.number + 1 → is_last f ≡ false
+    → GoneSo old now judge r (Some session) left mid → Finds (Ok f) r q (Some session) (Some after) → BetweenLines q.lines (Some after) → q.lines.number ≡ r.lines.number + 1 → is_last f ≡ false
     → ItemSays o now new mid rest q.lines.number f → GoneSo old new judge q (Some after) left rest
 gone_next o f old now new judge r q session after left mid rest is so finds ready number going says =
     let split = found_split f r q (Some session) (Some after) finds ready tt in
@@ -197,7 +197,7 @@ gone_next o f old now new judge r q session after left mid rest is so finds read
     }
 
 pub gone_over : (o : Result (Option Outcome) Failed) (x : Outcome) (f : Found) (old now new : Verifier) (judge : Ruling) (r q : Items) (session after : List ℕ) (left mid rest : Option (List ℕ)) → o ≡ Ok (Some x)
-    → GoneSo old now judge r (Some session) left mid → Finds (Ok f) r q (Some session) (Some after) → Ready q.lines (Some after) → q.lines.number ≡ r.lines.number + 1
+    → GoneSo old now judge r (Some session) left mid → Finds (Ok f) r q (Some session) (Some after) → BetweenLines q.lines (Some after) → q.lines.number ≡ r.lines.number + 1
     → ItemSays o now new mid rest q.lines.number f → Concludes (Ok x) old.reader left rest judge
 gone_over o x f old now new judge r q session after left mid rest is so finds ready number says =
     let split = found_split f r q (Some session) (Some after) finds ready tt in
@@ -205,7 +205,7 @@ gone_over o x f old now new judge r q session after left mid rest is so finds re
     (subst (λ y. ItemSays y now new mid rest q.lines.number f) is says so.block so.speaks split.behind)
 
 pub gone_fails : (o : Result (Option Outcome) Failed) (x : Failed) (f : Found) (old now new : Verifier) (judge : Ruling) (r q : Items) (session after : List ℕ) (left mid rest : Option (List ℕ)) → o ≡ Err x
-    → GoneSo old now judge r (Some session) left mid → Finds (Ok f) r q (Some session) (Some after) → Ready q.lines (Some after) → q.lines.number ≡ r.lines.number + 1
+    → GoneSo old now judge r (Some session) left mid → Finds (Ok f) r q (Some session) (Some after) → BetweenLines q.lines (Some after) → q.lines.number ≡ r.lines.number + 1
     → ItemSays o now new mid rest q.lines.number f → Concludes (Err x) old.reader left rest judge
 gone_fails o x f old now new judge r q session after left mid rest is so finds ready number says =
     let split = found_split f r q (Some session) (Some after) finds ready tt in

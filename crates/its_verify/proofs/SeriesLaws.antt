@@ -5,7 +5,7 @@ use Rattle.std.proofs.lemmas.Bool.{cases_eq, eq-eqb, false≢true, ne_eqb}
 use Rattle.std.proofs.lemmas.List.{get_or-set_same, get_or-set_other}
 use Rattle.its_word.specs.declared.calls.Pace.{Pace}
 use Rattle.its_word.specs.declared.calls.Pace.TheVariants.{Step}
-use Rattle.its_plain.specs.CallStep.{alone, disturbed, transition, makes}
+use Rattle.its_plain.specs.CallStep.{quiet_step, disturbed, transition, makes}
 use Rattle.its_plain.specs.Licence.{Dots, dots_after}
 use Rattle.its_plain.specs.Machine.{Machine}
 use Rattle.its_plain.specs.Operator.{Block}
@@ -44,16 +44,16 @@ unmade None None h = refl
 unmade None (Some x) h = absurd (false≢true (sym h))
 unmade (Some x) p h = refl
 
-alone_dots : (m p : Machine) (d : Dots) (i : ℕ) → transition m i ≡ Some (alone p) → ((k : ℕ) → is_some (p.jobs k) ≡ is_some (m.jobs k)) → dots_after m d i Step ≡ cleared d i
+alone_dots : (m p : Machine) (d : Dots) (i : ℕ) → transition m i ≡ Some (quiet_step p) → ((k : ℕ) → is_some (p.jobs k) ≡ is_some (m.jobs k)) → dots_after m d i Step ≡ cleared d i
 alone_dots m p d i is jobs = same_dots (dots_after m d i Step) (cleared d i)
-    (λ x. or_false (x == i) (disturbed m i x) (makes m i x) (d x) (disturbed_is m i x (alone p) is) (makes_is m i x (alone p) is ∙ unmade (m.jobs x) (p.jobs x) (jobs x)))
+    (λ x. or_false (x == i) (disturbed m i x) (makes m i x) (d x) (disturbed_is m i x (quiet_step p) is) (makes_is m i x (quiet_step p) is ∙ unmade (m.jobs x) (p.jobs x) (jobs x)))
 
 abbrev walk_at : Machine → Dots → Block → ℕ → Walk
 walk_at m d b n = record { machine = m; dots = d; block = b; line = n }
 
-one_paced : (m p : Machine) (d : Dots) (b : Block) (n i : ℕ) (ps : List Pace) → transition m i ≡ Some (alone p) → ((k : ℕ) → is_some (p.jobs k) ≡ is_some (m.jobs k)) → paced (walk_at m d b n) i (Step ∷ ps) ≡ paced (walk_at p (cleared d i) b n) i ps
+one_paced : (m p : Machine) (d : Dots) (b : Block) (n i : ℕ) (ps : List Pace) → transition m i ≡ Some (quiet_step p) → ((k : ℕ) → is_some (p.jobs k) ≡ is_some (m.jobs k)) → paced (walk_at m d b n) i (Step ∷ ps) ≡ paced (walk_at p (cleared d i) b n) i ps
 one_paced m p d b n i ps is jobs =
-    ap (option_and_then (λ (x : Machine). paced (after_letter (walk_at m d b n) i Step x) i ps)) (step_is m i (alone p) is)
+    ap (option_and_then (λ (x : Machine). paced (after_letter (walk_at m d b n) i Step x) i ps)) (step_is m i (quiet_step p) is)
     ∙ ap (λ (e : Dots). paced (walk_at p e b n) i ps) (alone_dots m p d i is jobs)
 
 series_paced : (k : ℕ) (m o : Machine) (d : Dots) (b : Block) (n i : ℕ) (ps : List Pace) → Series k m i o → paced (walk_at m d b n) i (replicate k Step ++ ps) ≡ paced (walk_at o (cleared_by k d i) b n) i ps

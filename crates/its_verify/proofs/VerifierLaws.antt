@@ -12,7 +12,7 @@ use Rattle.its_session.specs.Events.{place_after}
 use Rattle.its_plain.specs.Operator.{Block}
 use Rattle.its_plain.specs.Transcript.{Walk}
 use Rattle.its_plain.specs.Turns.{runs, turn_after}
-use Rattle.its_direct.specs.Events.{MayStand, place_of}
+use Rattle.its_direct.specs.Events.{MayStand, spot_place}
 use Rattle.its_direct.specs.Plain.{machine_of}
 use Rattle.its_direct.specs.declared.plain.Spot.{Spot}
 use Rattle.its_direct.specs.declared.plain.Spot.TheVariants as spots
@@ -28,15 +28,15 @@ use Rattle.its_verify.specs.declared.verifier.Verifier.{Verifier}
 use Rattle.its_verify.proofs.TranscriptReaderLaws.{fails_here, at_line_on, lacks_says, led_forward, nothing_on, read_no, read_says, says_then, strict_ticks}
 
 -- TICK and RUN are outside any block of lines
-plain_spot : (x : Spot) → place_of x ≡ places.Plain → x ≡ spots.Plain
+plain_spot : (x : Spot) → spot_place x ≡ places.Plain → x ≡ spots.Plain
 plain_spot spots.Plain e = refl
 plain_spot (spots.Load s) e = cc
 plain_spot (spots.File names) e = cc
 
-pub outside_tick : (x : Spot) (s n : ℕ) → MayStand (place_of x) (events.Tick s n) → x ≡ spots.Plain
+pub outside_tick : (x : Spot) (s n : ℕ) → MayStand (spot_place x) (events.Tick s n) → x ≡ spots.Plain
 outside_tick x s n at = plain_spot x at
 
-pub runs_outside : (p : Place) (x : Spot) (e : Event) → MayStand p e → place_of x ≡ place_after p e → RunsOutside e x
+pub runs_outside : (p : Place) (x : Spot) (e : Event) → MayStand p e → spot_place x ≡ place_after p e → RunsOutside e x
 runs_outside p x (events.Run n q) at leads = plain_spot x (leads ∙ ap (λ (y : Place). place_after y (events.Run n q)) at)
 runs_outside p x _ at leads = tt
 

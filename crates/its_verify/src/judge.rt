@@ -5,7 +5,7 @@ ghost use Rattle.its_session.specs.Events.{place_after};
 ghost use Rattle.its_session.specs.Fits.{EventFits};
 ghost use Rattle.its_plain.specs.Machine.{no_machine};
 ghost use Rattle.its_direct.specs.Plain.{machine_of};
-ghost use Rattle.its_direct.specs.Events.{IsTold, MayStand, Told, place_of};
+ghost use Rattle.its_direct.specs.Events.{IsTold, MayStand, Told, spot_place};
 ghost use Rattle.its_print.specs.Runs.{paces_in};
 ghost use Rattle.its_plain.specs.Turns.{is_running, turn_after};
 ghost use Rattle.its_verify.specs.JudgeState.{AllLed, dots_of, Forgets, LedIf, RunLed, RunsLed, Sure};
@@ -53,12 +53,12 @@ impl Judge {
         requires going { self.old.ended ≡ false }
         requires told { IsTold event.now }
         requires fits { EventFits 2 event.now }
-        requires stands { MayStand (place_of self.old.plain.place) event.now }
+        requires stands { MayStand (spot_place self.old.plain.place) event.now }
         requires sure { Sure self.old }
         ensures told { Told event.now self.old.plain self.new.plain result }
         ensures dots { OnOk result (Forgets self.new.plain self.old.dots self.new.dots) }
         ensures same { OnErr result (self.new ≡ self.old) }
-        ensures place { OnOk result (place_of self.new.plain.place ≡ place_after (place_of self.old.plain.place) event.now) }
+        ensures place { OnOk result (spot_place self.new.plain.place ≡ place_after (spot_place self.old.plain.place) event.now) }
         ensures going { self.new.ended ≡ false }
         ensures sure { Sure self.new }
     {

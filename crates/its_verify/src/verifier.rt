@@ -8,7 +8,7 @@ ghost use Rattle.its_session.specs.Fits.{EventFits};
 ghost use Rattle.its_plain.specs.Operator.{Block};
 ghost use Rattle.its_plain.specs.Transcript.{Walk};
 ghost use Rattle.its_direct.specs.Plain.{machine_of};
-ghost use Rattle.its_direct.specs.Events.{IsTold, MayStand, place_of};
+ghost use Rattle.its_direct.specs.Events.{IsTold, MayStand, spot_place};
 ghost use Rattle.its_verify.specs.Going.{is_end};
 ghost use Rattle.its_verify.specs.Showing.{is_peek_event};
 
@@ -102,13 +102,13 @@ impl Verifier {
         event: &Event,
     ) -> Result<Option<Outcome>, Failed>
         requires fits { EventFits 2 event.now }
-        requires stands { MayStand (place_of self.old.judge.plain.place) event.now }
+        requires stands { MayStand (spot_place self.old.judge.plain.place) event.now }
         requires at_item { AtItem self.old (S.left src.old) }
         ensures says { LineSays result self.old self.new (S.left src.old) (S.left src.new) number event.now }
         ensures out { ReadsOutIf result (S.left src.old) (S.left src.new) }
         ensures stays { StaysAtItem result self.new (S.left src.new) }
         ensures last { self.new.last ≡ self.old.last }
-        ensures place { result ≡ Ok None → place_of self.new.judge.plain.place ≡ place_after (place_of self.old.judge.plain.place) event.now }
+        ensures place { result ≡ Ok None → spot_place self.new.judge.plain.place ≡ place_after (spot_place self.old.judge.plain.place) event.now }
         ensures going { result ≡ Ok None → is_end event.now ≡ false }
         ensures cause { HasCause (S.faults src.old) (S.faults src.new) result }
     {
@@ -157,13 +157,13 @@ impl Verifier {
     ) -> Result<Option<Outcome>, Failed>
         requires told { IsTold event.now }
         requires fits { EventFits 2 event.now }
-        requires stands { MayStand (place_of self.old.judge.plain.place) event.now }
+        requires stands { MayStand (spot_place self.old.judge.plain.place) event.now }
         requires at_item { AtItem self.old (S.left src.old) }
         ensures says { LineSays result self.old self.new (S.left src.old) (S.left src.new) number event.now }
         ensures out { ReadsOutIf result (S.left src.old) (S.left src.new) }
         ensures stays { StaysAtItem result self.new (S.left src.new) }
         ensures last { self.new.last ≡ self.old.last }
-        ensures place { result ≡ Ok None → place_of self.new.judge.plain.place ≡ place_after (place_of self.old.judge.plain.place) event.now }
+        ensures place { result ≡ Ok None → spot_place self.new.judge.plain.place ≡ place_after (spot_place self.old.judge.plain.place) event.now }
         ensures cause { HasCause (S.faults src.old) (S.faults src.new) result }
     {
         match self.judge.event(event) {

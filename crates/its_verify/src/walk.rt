@@ -8,7 +8,7 @@ ghost use Rattle.its_session.specs.Fits.{EventFits};
 ghost use Rattle.its_plain.specs.Operator.{Block, no_block};
 ghost use Rattle.its_plain.specs.Transcript.{Walk};
 ghost use Rattle.its_plain.specs.Turns.{ticks_asked, turns_asked};
-ghost use Rattle.its_direct.specs.Events.{MayStand, place_of};
+ghost use Rattle.its_direct.specs.Events.{MayStand, spot_place};
 ghost use Rattle.its_verify.specs.Finds.{Found as IsFound, Judges, ReadsOut};
 
 use super::judge::Judge;
@@ -125,12 +125,12 @@ impl Verifier {
         found: &Found,
     ) -> Result<Option<Outcome>, Failed>
         requires fits { found_fits 2 found.now }
-        requires stands { FoundStands (place_of self.old.judge.plain.place) found.now }
+        requires stands { FoundStands (spot_place self.old.judge.plain.place) found.now }
         requires at_item { AtItem self.old (S.left src.old) }
         ensures says { ItemSays result self.old self.new (S.left src.old) (S.left src.new) number found.now }
         ensures out { ReadsOutIf result (S.left src.old) (S.left src.new) }
         ensures stays { StaysAtItem result self.new (S.left src.new) }
-        ensures place { result ≡ Ok None → place_of self.new.judge.plain.place ≡ place_found (place_of self.old.judge.plain.place) found.now }
+        ensures place { result ≡ Ok None → spot_place self.new.judge.plain.place ≡ place_found (spot_place self.old.judge.plain.place) found.now }
         ensures going { result ≡ Ok None → is_last found.now ≡ false }
         ensures cause { HasCause (S.faults src.old) (S.faults src.new) result }
     {
@@ -150,12 +150,12 @@ impl Verifier {
         event: &Event,
     ) -> Result<Option<Outcome>, Failed>
         requires fits { EventFits 2 event.now }
-        requires stands { MayStand (place_of self.old.judge.plain.place) event.now }
+        requires stands { MayStand (spot_place self.old.judge.plain.place) event.now }
         requires at_item { AtItem self.old (S.left src.old) }
         ensures says { ItemSays result self.old self.new (S.left src.old) (S.left src.new) number (Found.Line event.now) }
         ensures out { ReadsOutIf result (S.left src.old) (S.left src.new) }
         ensures stays { StaysAtItem result self.new (S.left src.new) }
-        ensures place { result ≡ Ok None → place_of self.new.judge.plain.place ≡ place_after (place_of self.old.judge.plain.place) event.now }
+        ensures place { result ≡ Ok None → spot_place self.new.judge.plain.place ≡ place_after (spot_place self.old.judge.plain.place) event.now }
         ensures going { result ≡ Ok None → is_end event.now ≡ false }
         ensures cause { HasCause (S.faults src.old) (S.faults src.new) result }
     {

@@ -15,7 +15,7 @@ use Rattle.its_word.specs.Links.{most_links}
 use Rattle.its_plain.specs.Arguments.{input}
 use Rattle.its_plain.specs.Reasons.{Doors, held_up}
 use Rattle.its_world.specs.Rings.{heads, IsWaitRing, awake_of, is_within, Within, place_at, StandsIn, IsIn}
-use Rattle.its_world.specs.Filed.{frame_at, wait_reason, if_within, place_for, place_by, doors_of, place_of, awake_for, awake_by, awake_at, Blocked}
+use Rattle.its_world.specs.Filed.{frame_at, wait_reason, if_within, place_for, place_by, doors_of, wait_list_of, awake_for, awake_by, awake_at, Blocked}
 use Rattle.its_world.proofs.PlaceLaws.{within_is}
 use Rattle.its_world.proofs.RingLaws.{times_none}
 use Rattle.its_world.specs.declared.world.World.{World}
@@ -46,8 +46,8 @@ belongs_by : (d : Doors) (k : ℕ) (o : Option Job) (f : Option Frame) → Belon
 belongs_by d k o (Some (Waiting f)) = belongs_for d k (input f.ask 0) (wait_reason o f.ask)
 belongs_by d k o _ = inl refl
 
-pub belongs : (w : World) (k : ℕ) → Belongs (place_of w k) (awake_at w k)
-unfolding place_of awake_at
+pub belongs : (w : World) (k : ℕ) → Belongs (wait_list_of w k) (awake_at w k)
+unfolding wait_list_of awake_at
 belongs w k = belongs_by (doors_of w) k (job_at w.jobs k) (frame_at w.frames.items k)
 
 -- an Awake list is no wait ring, and is one of the lists
@@ -103,13 +103,13 @@ in_mark : (lists : List (List ℕ)) (k : ℕ) (p : Option ℕ) → StandsIn list
 in_mark lists k None s some = let z = times_none k lists s.at in absurd (omega arith)
 in_mark lists k (Some h) s some = let a = s.at h in let b = hit_same h in omega arith
 
-pub blocked_found : (w : World) (k : ℕ) → (Blocked w k ⊎ StandsIn w.rings.lists k (place_of w k)) → 0 < times k w.rings.lists → (IsIn w.rings.lists k (awake_at w k) → ⊥) → Blocked w k
+pub blocked_found : (w : World) (k : ℕ) → (Blocked w k ⊎ StandsIn w.rings.lists k (wait_list_of w k)) → 0 < times k w.rings.lists → (IsIn w.rings.lists k (awake_at w k) → ⊥) → Blocked w k
 blocked_found w k (inl b) some awake = b
 blocked_found w k (inr s) some awake = elim (belongs w k) [
-  | inl none ↦ absurd (let i = in_mark w.rings.lists k (place_of w k) s some in subst (IsIn w.rings.lists k) none i)
+  | inl none ↦ absurd (let i = in_mark w.rings.lists k (wait_list_of w k) s some in subst (IsIn w.rings.lists k) none i)
   | inr p ↦ elim p [
-    | inl ring ↦ let i = subst (IsIn w.rings.lists k) ring.1.0 (in_mark w.rings.lists k (place_of w k) s some) in record { ring = ring.0; within = ring.1.1; here = i }
-    | inr is ↦ absurd (awake (subst (IsIn w.rings.lists k) is (in_mark w.rings.lists k (place_of w k) s some)))
+    | inl ring ↦ let i = subst (IsIn w.rings.lists k) ring.1.0 (in_mark w.rings.lists k (wait_list_of w k) s some) in record { ring = ring.0; within = ring.1.1; here = i }
+    | inr is ↦ absurd (awake (subst (IsIn w.rings.lists k) is (in_mark w.rings.lists k (wait_list_of w k) s some)))
   ]
 ]
 
@@ -124,7 +124,7 @@ not_true : (b : Bool) → IsTrue (not b) → b ≡ false
 not_true false h = refl
 not_true true h = cc
 
-pub blocked_when : (w : World) (k i : ℕ) (linked awake : Bool) → i ≡ k → times k w.rings.lists ≤ 1 → (Blocked w k ⊎ StandsIn w.rings.lists k (place_of w k)) → linked ≡ true
+pub blocked_when : (w : World) (k i : ℕ) (linked awake : Bool) → i ≡ k → times k w.rings.lists ≤ 1 → (Blocked w k ⊎ StandsIn w.rings.lists k (wait_list_of w k)) → linked ≡ true
     → (IsTrue linked ↔ (0 < times i w.rings.lists)) → (IsTrue awake ↔ IsIn w.rings.lists k (awake_at w k)) → IsTrue (not awake) ↔ Blocked w k
 blocked_when w k i linked awake is once stands link linked_is awake_is = (
   (λ h. blocked_found w k stands (subst (λ n. 0 < times n w.rings.lists) is (linked_is.0 link)) (λ a. both_ways awake (not_true awake h) (awake_is.1 a))),

@@ -6,12 +6,12 @@ use Rattle.std.proofs.lemmas.List.{get_or-set_same, get_or-set_other}
 use Rattle.its_links.specs.Lists.{list_at, count, times, hit, first, rest}
 use Rattle.its_links.proofs.CountLaws.{hit_other, count_first}
 use Rattle.its_world.specs.Rings.{heads, StandsIn, Put, AwayFrom, input_lists, output_lists, lists_at, lists_to, link_lists, link_lists_to}
-use Rattle.its_world.specs.Filed.{place_of, OnlyRings, Refiled, Resettled}
+use Rattle.its_world.specs.Filed.{wait_list_of, OnlyRings, Refiled, Resettled}
 use Rattle.its_world.proofs.PlaceLaws.{place_rings, stands_on}
 use Rattle.its_world.proofs.RingLaws.{not_linked}
 use Rattle.its_world.specs.declared.world.World.{World}
 
-pub refiled : (old new : World) (s : ℕ) (p : Option ℕ) → OnlyRings old new → p ≡ place_of old s → Put old.rings new.rings s p → Refiled old new s
+pub refiled : (old new : World) (s : ℕ) (p : Option ℕ) → OnlyRings old new → p ≡ wait_list_of old s → Put old.rings new.rings s p → Refiled old new s
 refiled old new s p o e put = record {
   rest = o;
   here = subst (StandsIn new.rings.lists s) (e ∙ sym (place_rings old new o s)) put.here;
@@ -23,7 +23,7 @@ is_off : (b : Bool) → not b ≡ true → b ≡ false
 is_off true h = sym h
 is_off false h = refl
 
-pub apart_already : (w : World) (i s : ℕ) (b : Bool) → i ≡ s → place_of w s ≡ None → (IsTrue b ↔ (0 < times i w.rings.lists)) → not b ≡ true → Refiled w w s
+pub apart_already : (w : World) (i s : ℕ) (b : Bool) → i ≡ s → wait_list_of w s ≡ None → (IsTrue b ↔ (0 < times i w.rings.lists)) → not b ≡ true → Refiled w w s
 apart_already w i s b e none test off = record {
   rest = record { core = refl; jobs = refl; frames = refl; consoles = refl; holders = refl; files = refl; clock = refl; version = refl; symbols = refl; pipes = refl; alarms = refl };
   here = subst (StandsIn w.rings.lists s) (sym none) (not_linked w.rings i s b e (is_off b off) test).here;
@@ -66,9 +66,9 @@ pub settled_some : (old mid last new : World) (h n s : ℕ) → OnlyRings old mi
 settled_some old mid last new h n s o within found popped is settled filed = record {
   rest = only_then old last new (only_then old mid last o settled.rest) filed.rest;
   each = λ k. elim (cases_eq k s) [
-    | inl e ↦ inl (subst (λ i. StandsIn new.rings.lists i (place_of new i)) (sym e) filed.here)
+    | inl e ↦ inl (subst (λ i. StandsIn new.rings.lists i (wait_list_of new i)) (sym e) filed.here)
     | inr ne ↦ elim (settled.each k) [
-      | inl right ↦ inl (stands_on last.rings.lists new.rings.lists k (place_of last k) (place_of new k) (filed.others k ne) (place_rings last new filed.rest k) right)
+      | inl right ↦ inl (stands_on last.rings.lists new.rings.lists k (wait_list_of last k) (wait_list_of new k) (filed.others k ne) (place_rings last new filed.rest k) right)
       | inr p ↦
           let all : (g : ℕ) → count k (list_at mid.rings.lists g) ≡ count k (list_at (slice_set old.rings.lists h (rest (list_at old.rings.lists h))) g) = λ g. ap (λ l. count k (list_at l.lists g)) popped in
           let at : count k (list_at mid.rings.lists h) ≡ count k (rest (list_at old.rings.lists h)) = all h ∙ ap (count k) (get_or-set_same old.rings.lists h (rest (list_at old.rings.lists h)) [] within) in
@@ -102,7 +102,7 @@ settled_then old mid new a b x y = record {
   each = λ k. elim (y.each k) [
     | inl right ↦ inl right
     | inr q ↦ elim (x.each k) [
-      | inl right ↦ inl (stands_on mid.rings.lists new.rings.lists k (place_of mid k) (place_of new k) q.1 (place_rings mid new y.rest k) right)
+      | inl right ↦ inl (stands_on mid.rings.lists new.rings.lists k (wait_list_of mid k) (wait_list_of new k) q.1 (place_rings mid new y.rest k) right)
       | inr p ↦ inr (away_both old.rings.lists k a b p.0 (away_as old.rings.lists mid.rings.lists k b p.1 q.0), λ h. q.1 h ∙ p.1 h)
     ]
   ];

@@ -28,23 +28,23 @@ use Rattle.its_word.specs.Links.{most_links}
 use Rattle.its_pipes.specs.Pipes.{piped}
 use Rattle.its_machine.proofs.PartLaws.{all_closed}
 use Rattle.its_world.specs.Rings.{heads, awake_of, post_of, is_within, Within, place_at, mark, StandsIn, AwayFrom, input_lists, output_lists, lists_at, lists_to, link_lists, link_lists_to, lists_of}
-use Rattle.its_world.specs.Filed.{frame_at, console_at, holder_at, kind_of, channel_of, wait_reason, if_within, place_for, place_by, doors_of, place_of, Ringed, OnlyRings, Refiled, Resettled, SlotWritten, DoorsWritten}
+use Rattle.its_world.specs.Filed.{frame_at, console_at, holder_at, kind_of, channel_of, wait_reason, if_within, place_for, place_by, doors_of, wait_list_of, Ringed, OnlyRings, Refiled, Resettled, SlotWritten, DoorsWritten}
 use Rattle.its_world.specs.declared.world.World.{World}
 
 -- a slot without a frame belongs in no list
-pub place_none : (w : World) (k : ℕ) → frame_at w.frames.items k ≡ None → place_of w k ≡ None
-unfolding place_of
+pub place_none : (w : World) (k : ℕ) → frame_at w.frames.items k ≡ None → wait_list_of w k ≡ None
+unfolding wait_list_of
 place_none w k none = ap (place_by (doors_of w) k (job_at w.jobs k)) none
 
 -- what a place looks at
 pub place_alike : (old new : World) (k : ℕ) → job_at new.jobs k ≡ job_at old.jobs k → frame_at new.frames.items k ≡ frame_at old.frames.items k
     → ((c : ℕ) → console_at new.consoles.items c ≡ console_at old.consoles.items c) → ((c : ℕ) → holder_at new.holders c ≡ holder_at old.holders c)
-    → new.clock ≡ old.clock → ((l : ℕ) → piped new.pipes l ≡ piped old.pipes l) → place_of new k ≡ place_of old k
-unfolding place_of
+    → new.clock ≡ old.clock → ((l : ℕ) → piped new.pipes l ≡ piped old.pipes l) → wait_list_of new k ≡ wait_list_of old k
+unfolding wait_list_of
 place_alike old new k job frame consoles holders clock links =
     λ t. place_by (record { consoles = λ c. consoles c t; holders = λ c. holders c t; clock = clock t; links = λ l. links l t }) k (job t) (frame t)
 
-pub place_rings : (old new : World) → OnlyRings old new → (k : ℕ) → place_of new k ≡ place_of old k
+pub place_rings : (old new : World) → OnlyRings old new → (k : ℕ) → wait_list_of new k ≡ wait_list_of old k
 place_rings old new o k =
     place_alike old new k (ap (λ t. job_at t k) o.jobs) (ap (λ f. frame_at f.items k) o.frames) (λ c. ap (λ l. console_at l.items c) o.consoles) (λ c. ap (λ l. holder_at l c) o.holders) o.clock (λ l. ap (λ p. piped p l) o.pipes)
 
@@ -96,12 +96,12 @@ within_by : (d : Doors) (k : ℕ) (o : Option Job) (f : Option Frame) → IfSome
 within_by d k o (Some (Waiting f)) = within_for d k (input f.ask 0) (wait_reason o f.ask)
 within_by d k o _ = tt
 
-pub place_within : (w : World) (k : ℕ) → IfSome (place_of w k) (λ h. h < heads)
-unfolding place_of
+pub place_within : (w : World) (k : ℕ) → IfSome (wait_list_of w k) (λ h. h < heads)
+unfolding wait_list_of
 place_within w k = within_by (doors_of w) k (job_at w.jobs k) (frame_at w.frames.items k)
 
-pub place_lists : (w : World) (k : ℕ) (p : Option ℕ) → p ≡ place_of w k → IfSome p (λ h. h < length w.rings.lists)
-place_lists w k p e = subst (λ o. IfSome o (λ h. h < length w.rings.lists)) (sym e) (subst (λ n. IfSome (place_of w k) (λ h. h < n)) (sym w.ring_lists) (place_within w k))
+pub place_lists : (w : World) (k : ℕ) (p : Option ℕ) → p ≡ wait_list_of w k → IfSome p (λ h. h < length w.rings.lists)
+place_lists w k p e = subst (λ o. IfSome o (λ h. h < length w.rings.lists)) (sym e) (subst (λ n. IfSome (wait_list_of w k) (λ h. h < n)) (sym w.ring_lists) (place_within w k))
 
 -- a slot at the same place as before
 pub stands_on : (old new : List (List ℕ)) (k : ℕ) (p q : Option ℕ) → ((h : ℕ) → count k (list_at new h) ≡ count k (list_at old h)) → q ≡ p → StandsIn old k p → StandsIn new k q
@@ -111,7 +111,7 @@ stands_on old new k p q same e s = record { at = λ h. same h ∙ s.at h ∙ ap 
 pub ringed_alike : (old new : World) → new.jobs ≡ old.jobs → new.frames ≡ old.frames → new.consoles ≡ old.consoles → new.holders ≡ old.holders → new.clock ≡ old.clock → new.pipes ≡ old.pipes → new.rings ≡ old.rings
     → Ringed old → Ringed new
 ringed_alike old new jobs frames consoles holders clock pipes rings r = record {
-  each = λ k. stands_on old.rings.lists new.rings.lists k (place_of old k) (place_of new k)
+  each = λ k. stands_on old.rings.lists new.rings.lists k (wait_list_of old k) (wait_list_of new k)
       (λ h. ap (λ l. count k (list_at l.lists h)) rings)
       (place_alike old new k (ap (λ t. job_at t k) jobs) (ap (λ f. frame_at f.items k) frames) (λ c. ap (λ l. console_at l.items c) consoles) (λ c. ap (λ l. holder_at l c) holders) clock (λ l. ap (λ p. piped p l) pipes))
       (r.each k);
@@ -120,7 +120,7 @@ ringed_alike old new jobs frames consoles holders clock pipes rings r = record {
 -- no job waits if none has a frame
 pub idle_ringed : (old new : World) → Ringed old → ((k : ℕ) → frame_at old.frames.items k ≡ None) → new.frames ≡ old.frames → new.rings ≡ old.rings → Ringed new
 idle_ringed old new r none frames rings = record {
-  each = λ k. stands_on old.rings.lists new.rings.lists k (place_of old k) (place_of new k) (λ h. ap (λ l. count k (list_at l.lists h)) rings)
+  each = λ k. stands_on old.rings.lists new.rings.lists k (wait_list_of old k) (wait_list_of new k) (λ h. ap (λ l. count k (list_at l.lists h)) rings)
       (place_none new k (ap (λ f. frame_at f.items k) frames ∙ none k) ∙ sym (place_none old k (none k))) (r.each k);
 }
 
@@ -128,7 +128,7 @@ idle_ringed old new r none frames rings = record {
 pub ringed_jobs : (old new : World) → Same (job_at old.jobs) (job_at new.jobs) → new.frames ≡ old.frames → new.consoles ≡ old.consoles → new.holders ≡ old.holders → new.clock ≡ old.clock → new.pipes ≡ old.pipes → new.rings ≡ old.rings
     → Ringed old → Ringed new
 ringed_jobs old new jobs frames consoles holders clock pipes rings r = record {
-  each = λ k. stands_on old.rings.lists new.rings.lists k (place_of old k) (place_of new k)
+  each = λ k. stands_on old.rings.lists new.rings.lists k (wait_list_of old k) (wait_list_of new k)
       (λ h. ap (λ l. count k (list_at l.lists h)) rings)
       (place_alike old new k (jobs.each k) (ap (λ f. frame_at f.items k) frames) (λ c. ap (λ l. console_at l.items c) consoles) (λ c. ap (λ l. holder_at l c) holders) clock (λ l. ap (λ p. piped p l) pipes))
       (r.each k);
@@ -138,8 +138,8 @@ ringed_jobs old new jobs frames consoles holders clock pipes rings r = record {
 pub slot_ringed : (old mid new : World) (s : ℕ) (j : Option Job) (f : Option Frame) → SlotWritten old mid s j f → Refiled mid new s → Ringed old → Ringed new
 slot_ringed old mid new s j f w filed r = record {
   each = λ k. elim (cases_eq k s) [
-    | inl e ↦ subst (λ i. StandsIn new.rings.lists i (place_of new i)) (sym e) filed.here
-    | inr ne ↦ stands_on old.rings.lists new.rings.lists k (place_of old k) (place_of new k)
+    | inl e ↦ subst (λ i. StandsIn new.rings.lists i (wait_list_of new i)) (sym e) filed.here
+    | inr ne ↦ stands_on old.rings.lists new.rings.lists k (wait_list_of old k) (wait_list_of new k)
         (λ h. filed.others k ne h ∙ ap (λ l. count k (list_at l.lists h)) w.rings)
         (place_rings mid new filed.rest k
         ∙ place_alike old mid k (w.job.others k ne) (w.frame.others k ne) (λ c. ap (λ l. console_at l.items c) w.consoles) (λ c. ap (λ l. holder_at l c) w.holders) w.clock (λ l. ap (λ p. piped p l) w.pipes))
@@ -151,7 +151,7 @@ slot_ringed old mid new s j f w filed r = record {
 pub user_ringed : (old new : World) (s : ℕ) → ((k : ℕ) → k ≢ s → job_at new.jobs k ≡ job_at old.jobs k) → frame_at old.frames.items s ≡ None
     → new.frames ≡ old.frames → new.consoles ≡ old.consoles → new.holders ≡ old.holders → new.clock ≡ old.clock → new.pipes ≡ old.pipes → new.rings ≡ old.rings → Ringed old → Ringed new
 user_ringed old new s others none frames consoles holders clock pipes rings r = record {
-  each = λ k. stands_on old.rings.lists new.rings.lists k (place_of old k) (place_of new k) (λ h. ap (λ l. count k (list_at l.lists h)) rings) (elim (cases_eq k s) [
+  each = λ k. stands_on old.rings.lists new.rings.lists k (wait_list_of old k) (wait_list_of new k) (λ h. ap (λ l. count k (list_at l.lists h)) rings) (elim (cases_eq k s) [
     | inl e ↦ place_none new k (ap (λ f. frame_at f.items k) frames ∙ ap (frame_at old.frames.items) e ∙ none) ∙ sym (place_none old k (ap (frame_at old.frames.items) e ∙ none))
     | inr ne ↦ place_alike old new k (others k ne) (ap (λ f. frame_at f.items k) frames) (λ c. ap (λ l. console_at l.items c) consoles) (λ c. ap (λ l. holder_at l c) holders) clock (λ l. ap (λ p. piped p l) pipes)
   ]) (r.each k);
@@ -181,11 +181,11 @@ fresh_place d k u n console _ = refl
 
 pub made_ringed : (old new : World) (s u n : ℕ) (console : Option ℕ) → job_at old.jobs s ≡ None → Only (job_at old.jobs) (job_at new.jobs) s (Some (fresh_job u n console))
     → new.frames ≡ old.frames → new.consoles ≡ old.consoles → new.holders ≡ old.holders → new.clock ≡ old.clock → new.pipes ≡ old.pipes → new.rings ≡ old.rings → Ringed old → Ringed new
-unfolding place_of
+unfolding wait_list_of
 made_ringed old new s u n console none job frames consoles holders clock pipes rings r =
     let doors : doors_of new ≡ doors_of old = λ t. record { consoles = console_at (consoles t).items; holders = holder_at (holders t); clock = clock t; links = piped (pipes t) } in
     record {
-      each = λ k. stands_on old.rings.lists new.rings.lists k (place_of old k) (place_of new k) (λ h. ap (λ l. count k (list_at l.lists h)) rings) (elim (cases_eq k s) [
+      each = λ k. stands_on old.rings.lists new.rings.lists k (wait_list_of old k) (wait_list_of new k) (λ h. ap (λ l. count k (list_at l.lists h)) rings) (elim (cases_eq k s) [
         | inl e ↦
             ap (λ i. place_by (doors_of new) k (job_at new.jobs i) (frame_at new.frames.items k)) e
             ∙ ap (λ o. place_by (doors_of new) k o (frame_at new.frames.items k)) job.here
@@ -240,13 +240,13 @@ kept_by d e lists k o _ keeps s = refl
 settled_ringed : (old mid new : World) (hs : List ℕ) → ((k : ℕ) → (job_at mid.jobs k ≡ job_at old.jobs k) ⊎ (frame_at old.frames.items k ≡ None)) → mid.frames ≡ old.frames → mid.rings ≡ old.rings
     → ((k n : ℕ) (r : Wait) → Within r → AwayFrom old.rings.lists k hs → Keeps (doors_of old) (doors_of mid) old.rings.lists k n r)
     → Resettled mid new hs → Ringed old → Ringed new
-unfolding place_of
+unfolding wait_list_of
 settled_ringed old mid new hs jobs frames rings keeps settled r = record {
   each = λ k. elim (settled.each k) [
     | inl right ↦ right
     | inr p ↦
         let none : AwayFrom old.rings.lists k hs = subst (λ l. AwayFrom l.lists k hs) rings p.0 in
-        stands_on old.rings.lists new.rings.lists k (place_of old k) (place_of new k) (λ h. p.1 h ∙ ap (λ l. count k (list_at l.lists h)) rings)
+        stands_on old.rings.lists new.rings.lists k (wait_list_of old k) (wait_list_of new k) (λ h. p.1 h ∙ ap (λ l. count k (list_at l.lists h)) rings)
         (place_rings mid new settled.rest k ∙ elim (jobs k) [
           | inl job ↦ ap (λ o. place_by (doors_of mid) k o (frame_at mid.frames.items k)) job ∙ ap (λ f. place_by (doors_of mid) k (job_at old.jobs k) (frame_at f.items k)) frames
               ∙ kept_by (doors_of old) (doors_of mid) old.rings.lists k (job_at old.jobs k) (frame_at old.frames.items k) (λ n x l. keeps k n x l none) (r.each k)

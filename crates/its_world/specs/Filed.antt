@@ -60,12 +60,12 @@ place_by d k o _ = None
 abbrev pub doors_of : World → Doors
 doors_of w = record { consoles = console_at w.consoles.items; holders = holder_at w.holders; clock = w.clock; links = piped w.pipes }
 
-unfoldable pub place_of : World → ℕ → Option ℕ
-place_of w k = place_by (doors_of w) k (job_at w.jobs k) (frame_at w.frames.items k)
+unfoldable pub wait_list_of : World → ℕ → Option ℕ
+wait_list_of w k = place_by (doors_of w) k (job_at w.jobs k) (frame_at w.frames.items k)
 
 -- each slot is on the list to which it belongs, once, and on no other
 abbrev pub Ringed : World → Type 0
-Ringed w = Filed w.rings.lists (place_of w)
+Ringed w = Filed w.rings.lists (wait_list_of w)
 
 -- the Awake list of the console or the link at which slot k waits, if it waits at one
 abbrev pub awake_for : Option Wait → Option ℕ
@@ -102,14 +102,14 @@ pub record OnlyRings (old new : World) : Type 0 where
 -- slot s was put on the list to which it belongs
 pub record Refiled (old new : World) (s : ℕ) : Type 0 where
   pub rest : OnlyRings old new
-  pub here : StandsIn new.rings.lists s (place_of new s)
+  pub here : StandsIn new.rings.lists s (wait_list_of new s)
   pub others : (k : ℕ) → k ≢ s → (h : ℕ) → count k (list_at new.rings.lists h) ≡ count k (list_at old.rings.lists h)
 
 -- each slot that was on one of these lists was put on the list to which it belongs. (The other slots are on the same
 -- lists as before, or on those to which they belong)
 pub record Resettled (old new : World) (hs : List ℕ) : Type 0 where
   pub rest : OnlyRings old new
-  pub each : (k : ℕ) → StandsIn new.rings.lists k (place_of new k) ⊎ (AwayFrom old.rings.lists k hs × ((h : ℕ) → count k (list_at new.rings.lists h) ≡ count k (list_at old.rings.lists h)))
+  pub each : (k : ℕ) → StandsIn new.rings.lists k (wait_list_of new k) ⊎ (AwayFrom old.rings.lists k hs × ((h : ℕ) → count k (list_at new.rings.lists h) ≡ count k (list_at old.rings.lists h)))
 
 -- of the job and the frame of slot s alone, j and f were written, and the lists are as they were
 pub record SlotWritten (old new : World) (s : ℕ) (j : Option Job) (f : Option Frame) : Type 0 where

@@ -9,7 +9,7 @@ ghost use Rattle.its_plain.specs.Arguments.{input};
 ghost use Rattle.its_plain.specs.CallTty.{is_other};
 ghost use Rattle.its_plain.specs.Reasons.{held_up};
 ghost use Rattle.its_world.specs.Rings.{heads, input_lists, lists_at, lists_to, link_lists, link_lists_to, output_lists, IsIn, StandsIn};
-ghost use Rattle.its_world.specs.Filed.{console_at, holder_at, channel_of, wait_reason, place_for, place_of, awake_for, awake_at, doors_of, Blocked, Refiled, Resettled};
+ghost use Rattle.its_world.specs.Filed.{console_at, holder_at, channel_of, wait_reason, place_for, wait_list_of, awake_for, awake_at, doors_of, Blocked, Refiled, Resettled};
 
 use super::rings::{CLOCK_RING, awake_of, is_within, put, reason_by, ring_of, stands_in};
 use super::world::{CONSOLES, World};
@@ -125,10 +125,10 @@ impl World {
     }
 
     /// The list to which a slot belongs: none if its frame is not Waiting.
-    #[tactic(auto, unfolding(crate::specs::Filed::place_of))]
-    fn place_of(&self, slot: u8) -> Option<u32>
+    #[tactic(auto, unfolding(crate::specs::Filed::wait_list_of))]
+    fn wait_list_of(&self, slot: u8) -> Option<u32>
         requires { slot < slots }
-        ensures { result ≡ place_of self.now slot }
+        ensures { result ≡ wait_list_of self.now slot }
     {
         match self.frame(slot) {
             View::Waiting { ask, .. } => {
@@ -166,7 +166,7 @@ impl World {
     /// link.
     pub fn is_blocked(&self, slot: u8) -> bool
         requires slot { slot < slots }
-        requires stands { Blocked self.now slot ⊎ StandsIn self.now.rings.lists slot (place_of self.now slot) }
+        requires stands { Blocked self.now slot ⊎ StandsIn self.now.rings.lists slot (wait_list_of self.now slot) }
         ensures { IsTrue result ↔ Blocked self.now slot }
     {
         self.rings.seen();
@@ -175,10 +175,10 @@ impl World {
 
     /// Whether the frame of a slot is Waiting. If it is not, the slot belongs on no list.
     #[inline]
-    #[tactic(auto, unfolding(crate::specs::Filed::place_of))]
+    #[tactic(auto, unfolding(crate::specs::Filed::wait_list_of))]
     fn is_waiting(&self, slot: u8) -> bool
         requires { slot < slots }
-        ensures { result ≡ false → place_of self.now slot ≡ None }
+        ensures { result ≡ false → wait_list_of self.now slot ≡ None }
     {
         match self.frame(slot) {
             View::Waiting { .. } => true,
@@ -215,7 +215,7 @@ impl World {
         requires { slot < slots }
         ensures { Refiled self.old self.new slot }
     {
-        let place = self.place_of(slot);
+        let place = self.wait_list_of(slot);
         put(&mut self.rings, slot, place);
     }
 

@@ -11,12 +11,12 @@ use Rattle.its_word.specs.declared.plan.Context.{Context}
 use Rattle.its_word.specs.declared.plan.ChainStep.{ChainStep}
 use Rattle.its_word.specs.declared.plan.ChainStep.TheVariants.{Found, Target}
 use Rattle.its_plain.specs.Unit.{has_row, outcome_of, row_of, unit}
-use Rattle.its_plain.specs.UnitPlan.{Fits}
+use Rattle.its_plain.specs.UnitPlan.{ContextFits}
 use Rattle.pdp_exec.specs.Answer.{IsCalled}
 
 -- an instruction with the numbers of its row and of its context, or a word with some of the budget used
 abbrev pub IsReady : ChainStep → Type 0
-IsReady (Found r) = IsRow r.instruction × Fits r.context
+IsReady (Found r) = IsRow r.instruction × ContextFits r.context
 IsReady (Target w used) = used ≤ budget
 
 -- so many places were read at most, by what is used of the budget

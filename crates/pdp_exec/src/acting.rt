@@ -8,7 +8,7 @@ ghost use Rattle.its_plain.specs.UnitArith.{arithmetic_row, boolean_row, shift_r
 ghost use Rattle.its_plain.specs.UnitBytes.{byte_row};
 ghost use Rattle.its_plain.specs.UnitJumps.{branch_row, stack_row};
 ghost use Rattle.its_plain.specs.UnitMoves.{half_row, move_row};
-ghost use Rattle.its_plain.specs.UnitPlan.{Fits};
+ghost use Rattle.its_plain.specs.UnitPlan.{ContextFits};
 ghost use Rattle.its_plain.specs.UnitTests.{test_row};
 ghost use Rattle.pdp_exec.specs.Answer.{InPlace};
 ghost use Rattle.pdp_exec.specs.Ready.{Stands};
@@ -50,7 +50,7 @@ fn made(planned: Result<Draft, Fault>, core: &mut Core, slot: u8, job: &mut Job)
 fn moving(core: &mut Core, slot: u8, job: &mut Job, x: &Context, op: MoveOp, mode: Mode) -> Ended
     requires slot { slot < slots }
     requires pc { job.old.pc < 2 ^ 18 }
-    requires fits { Fits x.now }
+    requires fits { ContextFits x.now }
     requires unit { outcome_of (core_at core.old slot) job.old (move_row (core_at core.old slot) x.now op mode) ≡ unit_of (core_at core.old slot) job.old }
     ensures { InPlace result (unit_of (core_at core.old slot) job.old) core.old core.new slot job.old job.new }
 {
@@ -62,7 +62,7 @@ fn moving(core: &mut Core, slot: u8, job: &mut Job, x: &Context, op: MoveOp, mod
 fn halving(core: &mut Core, slot: u8, job: &mut Job, x: &Context, k: u32, mode: Mode) -> Ended
     requires slot { slot < slots }
     requires pc { job.old.pc < 2 ^ 18 }
-    requires fits { Fits x.now }
+    requires fits { ContextFits x.now }
     requires k { k < 16 }
     requires unit { outcome_of (core_at core.old slot) job.old (half_row (core_at core.old slot) x.now k mode) ≡ unit_of (core_at core.old slot) job.old }
     ensures { InPlace result (unit_of (core_at core.old slot) job.old) core.old core.new slot job.old job.new }
@@ -82,7 +82,7 @@ fn working(
 ) -> Ended
     requires slot { slot < slots }
     requires pc { job.old.pc < 2 ^ 18 }
-    requires fits { Fits x.now }
+    requires fits { ContextFits x.now }
     requires unit { outcome_of (core_at core.old slot) job.old (arithmetic_row (core_at core.old slot) x.now op mode) ≡ unit_of (core_at core.old slot) job.old }
     ensures { InPlace result (unit_of (core_at core.old slot) job.old) core.old core.new slot job.old job.new }
 {
@@ -94,7 +94,7 @@ fn working(
 fn shifting(core: &mut Core, slot: u8, job: &mut Job, x: &Context, op: ShiftOp) -> Ended
     requires slot { slot < slots }
     requires pc { job.old.pc < 2 ^ 18 }
-    requires fits { Fits x.now }
+    requires fits { ContextFits x.now }
     requires unit { outcome_of (core_at core.old slot) job.old (shift_row (core_at core.old slot) x.now op) ≡ unit_of (core_at core.old slot) job.old }
     ensures { InPlace result (unit_of (core_at core.old slot) job.old) core.old core.new slot job.old job.new }
 {
@@ -106,7 +106,7 @@ fn shifting(core: &mut Core, slot: u8, job: &mut Job, x: &Context, op: ShiftOp) 
 fn combining(core: &mut Core, slot: u8, job: &mut Job, x: &Context, k: u32, mode: Mode) -> Ended
     requires slot { slot < slots }
     requires pc { job.old.pc < 2 ^ 18 }
-    requires fits { Fits x.now }
+    requires fits { ContextFits x.now }
     requires k { k < 16 }
     requires unit { outcome_of (core_at core.old slot) job.old (boolean_row (core_at core.old slot) x.now k mode) ≡ unit_of (core_at core.old slot) job.old }
     ensures { InPlace result (unit_of (core_at core.old slot) job.old) core.old core.new slot job.old job.new }
@@ -119,7 +119,7 @@ fn combining(core: &mut Core, slot: u8, job: &mut Job, x: &Context, k: u32, mode
 fn jumping(core: &mut Core, slot: u8, job: &mut Job, x: &Context, op: BranchOp) -> Ended
     requires slot { slot < slots }
     requires pc { job.old.pc < 2 ^ 18 }
-    requires fits { Fits x.now }
+    requires fits { ContextFits x.now }
     requires unit { outcome_of (core_at core.old slot) job.old (branch_row (core_at core.old slot) x.now op) ≡ unit_of (core_at core.old slot) job.old }
     ensures { InPlace result (unit_of (core_at core.old slot) job.old) core.old core.new slot job.old job.new }
 {
@@ -131,7 +131,7 @@ fn jumping(core: &mut Core, slot: u8, job: &mut Job, x: &Context, op: BranchOp) 
 fn stacking(core: &mut Core, slot: u8, job: &mut Job, x: &Context, op: StackOp) -> Ended
     requires slot { slot < slots }
     requires pc { job.old.pc < 2 ^ 18 }
-    requires fits { Fits x.now }
+    requires fits { ContextFits x.now }
     requires unit { outcome_of (core_at core.old slot) job.old (stack_row (core_at core.old slot) x.now op) ≡ unit_of (core_at core.old slot) job.old }
     ensures { InPlace result (unit_of (core_at core.old slot) job.old) core.old core.new slot job.old job.new }
 {
@@ -151,7 +151,7 @@ fn testing(
 ) -> Ended
     requires slot { slot < slots }
     requires pc { job.old.pc < 2 ^ 18 }
-    requires fits { Fits x.now }
+    requires fits { ContextFits x.now }
     requires k { k < 4 }
     requires change { change < 4 }
     requires unit { outcome_of (core_at core.old slot) job.old (test_row (core_at core.old slot) x.now op k change) ≡ unit_of (core_at core.old slot) job.old }
@@ -165,7 +165,7 @@ fn testing(
 fn picking(core: &mut Core, slot: u8, job: &mut Job, x: &Context, op: ByteOp) -> Ended
     requires slot { slot < slots }
     requires pc { job.old.pc < 2 ^ 18 }
-    requires fits { Fits x.now }
+    requires fits { ContextFits x.now }
     requires unit { outcome_of (core_at core.old slot) job.old (byte_row (core_at core.old slot) x.now op) ≡ unit_of (core_at core.old slot) job.old }
     ensures { InPlace result (unit_of (core_at core.old slot) job.old) core.old core.new slot job.old job.new }
 {
@@ -180,7 +180,7 @@ fn often(core: &mut Core, slot: u8, job: &mut Job, opcode: u32, context: Context
     requires slot { slot < slots }
     requires pc { job.old.pc < 2 ^ 18 }
     requires stands { Stands (core_at core.old slot) job.old opcode context }
-    requires fits { Fits context }
+    requires fits { ContextFits context }
     ensures { InPlace result (unit_of (core_at core.old slot) job.old) core.old core.new slot job.old job.new }
 {
     let x = &context;

@@ -3,7 +3,7 @@
 ghost use Rattle.std.specs.Prelude.{◌≡◌, ◌<◌};
 ghost use Rattle.its_core.specs.Cores.{core_at};
 ghost use Rattle.its_word.specs.Limits.{slots};
-ghost use Rattle.its_plain.specs.UnitPlan.{Fits, two_to, worked_from, worked_to};
+ghost use Rattle.its_plain.specs.UnitPlan.{ContextFits, two_to, worked_from, worked_to};
 ghost use Rattle.pdp_exec.specs.Stores.{list_of};
 ghost use Rattle.its_plain.specs.UnitArith.{arithmetic_row, boolean_row, is_constant, one_result, one_shifted, quotient as quotient_of, refused_to, shift_row, two_results, two_shifted, worked};
 
@@ -20,7 +20,7 @@ use pdp_logic::{ash, ashc, boolean, lsh, lshc, rot, rotc, zeros};
 #[tactic(auto, unfolding(its_plain::specs::UnitPlan::worked_from))]
 fn source(core: &Core, slot: u8, x: &Context, mode: Mode) -> Result<Word, Fault>
     requires slot { slot < slots }
-    requires fits { Fits x.now }
+    requires fits { ContextFits x.now }
     ensures { result ≡ worked_from (core_at core.now slot) x.now mode }
 {
     match mode {
@@ -49,7 +49,7 @@ fn stores(x: &Context, mode: Mode, w: Word) -> Stores
 #[inline(always)]
 #[tactic(auto, unfolding(its_plain::specs::UnitPlan::two_to))]
 fn stores_of_two(x: &Context, mode: Mode, w: Word, v: Word) -> Stores
-    requires { Fits x.now }
+    requires { ContextFits x.now }
     ensures { list_of result ≡ two_to x.now mode w v }
 {
     let after = (x.a + 1) % 16;
@@ -63,7 +63,7 @@ fn stores_of_two(x: &Context, mode: Mode, w: Word, v: Word) -> Stores
 
 #[inline(always)]
 fn one_word(x: &Context, mode: Mode, r: &Result2) -> Draft
-    requires { Fits x.now }
+    requires { ContextFits x.now }
     ensures { result ≡ one_result x.now mode r.now }
 {
     next(x, stores(x, mode, r.first), r.flags)
@@ -71,7 +71,7 @@ fn one_word(x: &Context, mode: Mode, r: &Result2) -> Draft
 
 #[inline(always)]
 fn two_words(x: &Context, mode: Mode, r: &Result2) -> Draft
-    requires { Fits x.now }
+    requires { ContextFits x.now }
     ensures { result ≡ two_results x.now mode r.now }
 {
     next(x, stores_of_two(x, mode, r.first, r.second), r.flags)
@@ -92,7 +92,7 @@ fn refused(x: &Context, mode: Mode, s: Word) -> Stores
 
 #[tactic(auto, unfolding(its_plain::specs::UnitArith::quotient))]
 fn quotient(x: &Context, mode: Mode, s: Word, r: Option<Result2>) -> Draft
-    requires { Fits x.now }
+    requires { ContextFits x.now }
     ensures { result ≡ quotient_of x.now mode s r }
 {
     match r {
@@ -106,7 +106,7 @@ fn quotient(x: &Context, mode: Mode, s: Word, r: Option<Result2>) -> Draft
 #[tactic(auto, unfolding(its_plain::specs::UnitArith::worked))]
 fn work(core: &Core, slot: u8, x: &Context, op: ArithmeticOp, mode: Mode, s: Word) -> Draft
     requires slot { slot < slots }
-    requires fits { Fits x.now }
+    requires fits { ContextFits x.now }
     ensures { result ≡ worked (core_at core.now slot) x.now op mode s }
 {
     let a = ac_word(core, slot, x);
@@ -131,7 +131,7 @@ pub fn arithmetic(
     mode: Mode,
 ) -> Result<Draft, Fault>
     requires slot { slot < slots }
-    requires fits { Fits x.now }
+    requires fits { ContextFits x.now }
     ensures { result ≡ arithmetic_row (core_at core.now slot) x.now op mode }
 {
     let s = source(core, slot, x, mode)?;
@@ -140,14 +140,14 @@ pub fn arithmetic(
 
 #[inline(always)]
 fn one_place(x: &Context, r: &Result2) -> Draft
-    requires { Fits x.now }
+    requires { ContextFits x.now }
     ensures { result ≡ one_shifted x.now r.now }
 {
     next(x, one(to(x.a, r.first)), r.flags)
 }
 
 fn two_places(x: &Context, r: &Result2) -> Draft
-    requires { Fits x.now }
+    requires { ContextFits x.now }
     ensures { result ≡ two_shifted x.now r.now }
 {
     next(
@@ -162,7 +162,7 @@ fn two_places(x: &Context, r: &Result2) -> Draft
 #[tactic(auto, unfolding(its_plain::specs::UnitArith::shift_row))]
 pub fn shifts(core: &Core, slot: u8, x: &Context, op: ShiftOp) -> Result<Draft, Fault>
     requires slot { slot < slots }
-    requires fits { Fits x.now }
+    requires fits { ContextFits x.now }
     ensures { result ≡ shift_row (core_at core.now slot) x.now op }
 {
     let a = ac_word(core, slot, x);
@@ -196,7 +196,7 @@ fn is_fixed(k: u32) -> bool
 #[tactic(auto, unfolding(its_plain::specs::UnitArith::boolean_row))]
 pub fn booleans(core: &Core, slot: u8, x: &Context, k: u32, mode: Mode) -> Result<Draft, Fault>
     requires slot { slot < slots }
-    requires fits { Fits x.now }
+    requires fits { ContextFits x.now }
     requires k { k < 16 }
     ensures { result ≡ boolean_row (core_at core.now slot) x.now k mode }
 {

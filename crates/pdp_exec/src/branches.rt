@@ -4,7 +4,7 @@ ghost use Rattle.std.specs.Prelude.{◌≡◌, ◌<◌, ◌^◌, if◌then◌els
 ghost use Rattle.its_core.specs.Cores.{core_at};
 ghost use Rattle.its_word.specs.Limits.{slots};
 ghost use Rattle.its_plain.specs.Job.{flags_of, pc_word};
-ghost use Rattle.its_plain.specs.UnitPlan.{Fits, both_down, both_up};
+ghost use Rattle.its_plain.specs.UnitPlan.{ContextFits, both_down, both_up};
 ghost use Rattle.its_plain.specs.UnitJumps.{branch_row, counted, is_negative, named_by, restored, stack_row, transferred};
 
 use super::plans::{
@@ -46,7 +46,7 @@ fn negative(w: Word) -> bool
 /// One word of BLT.
 #[inline(always)]
 fn transfer(x: &Context, pointer: Word, w: Word) -> Draft
-    requires { Fits x.now }
+    requires { ContextFits x.now }
     ensures { result ≡ transferred x.now pointer w }
 {
     let word = to(pointer.right(), w);
@@ -80,7 +80,7 @@ fn named(a: u32) -> u32
 #[tactic(auto, unfolding(its_plain::specs::UnitJumps::branch_row))]
 pub fn branches(core: &Core, slot: u8, x: &Context, op: BranchOp) -> Result<Draft, Fault>
     requires slot { slot < slots }
-    requires fits { Fits x.now }
+    requires fits { ContextFits x.now }
     ensures { result ≡ branch_row (core_at core.now slot) x.now op }
 {
     let a = ac_word(core, slot, x);
@@ -122,7 +122,7 @@ fn count(end: u32, pointer: Word, plan: Draft) -> Draft
 #[tactic(auto, unfolding(its_plain::specs::UnitJumps::stack_row))]
 pub fn stack(core: &Core, slot: u8, x: &Context, op: StackOp) -> Result<Draft, Fault>
     requires slot { slot < slots }
-    requires fits { Fits x.now }
+    requires fits { ContextFits x.now }
     ensures { result ≡ stack_row (core_at core.now slot) x.now op }
 {
     let a = ac_word(core, slot, x);

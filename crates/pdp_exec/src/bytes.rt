@@ -3,7 +3,7 @@ ghost use Rattle.std.specs.Prelude.{◌≡◌, ◌<◌, ◌≤◌, ◌^◌, Ok, 
 ghost use Rattle.its_core.specs.Cores.{core_at};
 ghost use Rattle.its_word.specs.Limits.{slots};
 ghost use Rattle.its_word.specs.Byte.{has_size, size};
-ghost use Rattle.its_plain.specs.UnitPlan.{Fits};
+ghost use Rattle.its_plain.specs.UnitPlan.{ContextFits};
 ghost use Rattle.its_plain.specs.UnitBytes.{byte_by, byte_row, deposits, first_half, incremented, loads, pointed_to};
 
 use super::plans::{Draft, any_on, next, stay, to};
@@ -27,7 +27,7 @@ fn step(p: Word) -> Result<Word, Fault>
 #[tactic(auto, unfolding(its_plain::specs::UnitBytes::pointed_to))]
 fn target(core: &Core, slot: u8, x: &Context, p: Word) -> Result<u32, Fault>
     requires slot { slot < slots }
-    requires fits { Fits x.now }
+    requires fits { ContextFits x.now }
     ensures address { result ≡ pointed_to (core_at core.now slot) x.now p }
     ensures below { IfOk result (λ b. b < 2 ^ 18) }
     ensures low { OnOk result (1 ≤ size p) }
@@ -49,7 +49,7 @@ fn target(core: &Core, slot: u8, x: &Context, p: Word) -> Result<u32, Fault>
 #[tactic(auto, using(crate::proofs::ByteLaws::byte_is_word), unfolding(its_plain::specs::UnitBytes::loads))]
 fn loads_byte(core: &Core, slot: u8, x: &Context, p: Word) -> Result<Draft, Fault>
     requires slot { slot < slots }
-    requires fits { Fits x.now }
+    requires fits { ContextFits x.now }
     ensures { result ≡ loads (core_at core.now slot) x.now p }
 {
     let place = target(core, slot, x, p)?;
@@ -62,7 +62,7 @@ fn loads_byte(core: &Core, slot: u8, x: &Context, p: Word) -> Result<Draft, Faul
 #[tactic(auto, unfolding(its_plain::specs::UnitBytes::deposits))]
 fn deposits_byte(core: &Core, slot: u8, x: &Context, p: Word) -> Result<Draft, Fault>
     requires slot { slot < slots }
-    requires fits { Fits x.now }
+    requires fits { ContextFits x.now }
     ensures { result ≡ deposits (core_at core.now slot) x.now p }
 {
     let place = target(core, slot, x, p)?;
@@ -84,7 +84,7 @@ fn first_part(x: &Context, p: Word) -> Result<Draft, Fault>
 #[tactic(auto, unfolding(its_plain::specs::UnitBytes::byte_by))]
 fn by_pointer(core: &Core, slot: u8, x: &Context, op: ByteOp, p: Word) -> Result<Draft, Fault>
     requires slot { slot < slots }
-    requires fits { Fits x.now }
+    requires fits { ContextFits x.now }
     ensures { result ≡ byte_by (core_at core.now slot) x.now op p }
 {
     let second = any_on(x.flags, BYTE_HALF);
@@ -103,7 +103,7 @@ fn by_pointer(core: &Core, slot: u8, x: &Context, op: ByteOp, p: Word) -> Result
 #[tactic(auto, unfolding(its_plain::specs::UnitBytes::byte_row))]
 pub fn bytes(core: &Core, slot: u8, x: &Context, op: ByteOp) -> Result<Draft, Fault>
     requires slot { slot < slots }
-    requires fits { Fits x.now }
+    requires fits { ContextFits x.now }
     ensures { result ≡ byte_row (core_at core.now slot) x.now op }
 {
     let p = read(core, slot, x.e)?;

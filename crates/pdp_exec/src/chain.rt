@@ -4,7 +4,7 @@ ghost use Rattle.its_core.specs.Cores.{core_at};
 ghost use Rattle.its_word.specs.Address.{is_indirect};
 ghost use Rattle.its_word.specs.Limits.{budget, slots};
 ghost use Rattle.its_word.specs.Opcode.{IsRow, ac_of, opcode_of};
-ghost use Rattle.its_plain.specs.UnitPlan.{Fits};
+ghost use Rattle.its_plain.specs.UnitPlan.{ContextFits};
 ghost use Rattle.its_plain.specs.Traced.{word as word_of};
 ghost use Rattle.its_plain.specs.Unit.{chain, decoded, has_row, reached, target_of, chain_step as step_of, chain_step_at};
 ghost use Rattle.pdp_exec.specs.Ready.{HasFew, IsReady, Stands};
@@ -88,7 +88,7 @@ pub fn at_hand(core: &Core, slot: u8, job: &Job) -> Option<AtHand>
     requires slot { slot < slots }
     requires pc { job.now.pc < 2 ^ 18 }
     ensures stands { IfSome result (λ f. Stands (core_at core.now slot) job.now f.opcode f.context) }
-    ensures fits { IfSome result (λ f. Fits f.context) }
+    ensures fits { IfSome result (λ f. ContextFits f.context) }
 {
     let w = read(core, slot, job.pc).ok()?;
     if is_indirect(w) {
@@ -127,7 +127,7 @@ fn noted(core: &Core, slot: u8, a: u32, reads: &mut Places) -> Result<Word, Faul
 #[tactic(auto, using(its_plain::proofs::TracedLaws::joined, its_plain::proofs::TracedLaws::ended), unfolding(its_plain::specs::Unit::target_of, its_plain::specs::Traced::also))]
 fn target(core: &Core, slot: u8, x: &Context, reads: &mut Places) -> Result<ChainStep, Fault>
     requires slot { slot < slots }
-    requires fits { Fits x.now }
+    requires fits { ContextFits x.now }
     requires few { length reads.old.items ≤ 2 * x.now.used + 2 }
     ensures step { result ≡ (target_of (core_at core.now slot) x.now).answer }
     ensures reads { reads.new.items ≡ reads.old.items ++ (target_of (core_at core.now slot) x.now).reads }
@@ -153,7 +153,7 @@ fn step_by(
     reads: &mut Places,
 ) -> Result<ChainStep, Fault>
     requires slot { slot < slots }
-    requires fits { Fits x.now }
+    requires fits { ContextFits x.now }
     requires numbers { IsRow i }
     requires few { length reads.old.items ≤ 2 * x.now.used + 2 }
     ensures step { result ≡ (chain_step_at (core_at core.now slot) i x.now).answer }

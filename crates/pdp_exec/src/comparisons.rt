@@ -3,7 +3,7 @@
 ghost use Rattle.std.specs.Prelude.{◌≡◌, ◌<◌, ◌^◌};
 ghost use Rattle.its_core.specs.Cores.{core_at};
 ghost use Rattle.its_word.specs.Limits.{slots};
-ghost use Rattle.its_plain.specs.UnitPlan.{Fits};
+ghost use Rattle.its_plain.specs.UnitPlan.{ContextFits};
 ghost use Rattle.its_word.specs.declared.instruction.CompareOp.TheVariants.{Cai, Cam, Jump, Skip, Aoj, Aos, Soj, Sos};
 ghost use Rattle.its_plain.specs.UnitTests.{compare_row, counts_jump, counts_skip, mask_for, test_row};
 
@@ -19,7 +19,7 @@ use pdp_logic::{changed, tested};
 /// A sum to AC, and a jump if it compares so with 0.
 #[inline(always)]
 fn count_and_jump(x: &Context, k: u32, r: &Result2) -> Draft
-    requires fits { Fits x.now }
+    requires fits { ContextFits x.now }
     requires k { k < 8 }
     ensures { result ≡ counts_jump x.now k r.now }
 {
@@ -34,7 +34,7 @@ fn count_and_jump(x: &Context, k: u32, r: &Result2) -> Draft
 /// A sum to C(E), and to AC if A is not 0, and a skip if it compares so with 0.
 #[inline(always)]
 fn count_and_skip(x: &Context, k: u32, r: &Result2) -> Draft
-    requires fits { Fits x.now }
+    requires fits { ContextFits x.now }
     requires k { k < 8 }
     ensures { result ≡ counts_skip x.now k r.now }
 {
@@ -52,7 +52,7 @@ fn count_and_skip(x: &Context, k: u32, r: &Result2) -> Draft
 #[tactic(auto, unfolding(its_plain::specs::UnitTests::compare_row))]
 pub fn cai(core: &Core, slot: u8, x: &Context, k: u32) -> Result<Draft, Fault>
     requires slot { slot < slots }
-    requires fits { Fits x.now }
+    requires fits { ContextFits x.now }
     requires k { k < 8 }
     ensures { result ≡ compare_row (core_at core.now slot) x.now Cai k }
 {
@@ -65,7 +65,7 @@ pub fn cai(core: &Core, slot: u8, x: &Context, k: u32) -> Result<Draft, Fault>
 #[tactic(auto, unfolding(its_plain::specs::UnitTests::compare_row))]
 pub fn cam(core: &Core, slot: u8, x: &Context, k: u32) -> Result<Draft, Fault>
     requires slot { slot < slots }
-    requires fits { Fits x.now }
+    requires fits { ContextFits x.now }
     requires k { k < 8 }
     ensures { result ≡ compare_row (core_at core.now slot) x.now Cam k }
 {
@@ -79,7 +79,7 @@ pub fn cam(core: &Core, slot: u8, x: &Context, k: u32) -> Result<Draft, Fault>
 #[tactic(auto, unfolding(its_plain::specs::UnitTests::compare_row))]
 pub fn jumps(core: &Core, slot: u8, x: &Context, k: u32) -> Result<Draft, Fault>
     requires slot { slot < slots }
-    requires fits { Fits x.now }
+    requires fits { ContextFits x.now }
     requires k { k < 8 }
     ensures { result ≡ compare_row (core_at core.now slot) x.now Jump k }
 {
@@ -92,7 +92,7 @@ pub fn jumps(core: &Core, slot: u8, x: &Context, k: u32) -> Result<Draft, Fault>
 #[tactic(auto, unfolding(its_plain::specs::UnitTests::compare_row))]
 pub fn skips(core: &Core, slot: u8, x: &Context, k: u32) -> Result<Draft, Fault>
     requires slot { slot < slots }
-    requires fits { Fits x.now }
+    requires fits { ContextFits x.now }
     requires k { k < 8 }
     ensures { result ≡ compare_row (core_at core.now slot) x.now Skip k }
 {
@@ -105,7 +105,7 @@ pub fn skips(core: &Core, slot: u8, x: &Context, k: u32) -> Result<Draft, Fault>
 #[tactic(auto, unfolding(its_plain::specs::UnitTests::compare_row))]
 pub fn aoj(core: &Core, slot: u8, x: &Context, k: u32) -> Result<Draft, Fault>
     requires slot { slot < slots }
-    requires fits { Fits x.now }
+    requires fits { ContextFits x.now }
     requires k { k < 8 }
     ensures { result ≡ compare_row (core_at core.now slot) x.now Aoj k }
 {
@@ -118,7 +118,7 @@ pub fn aoj(core: &Core, slot: u8, x: &Context, k: u32) -> Result<Draft, Fault>
 #[tactic(auto, unfolding(its_plain::specs::UnitTests::compare_row))]
 pub fn aos(core: &Core, slot: u8, x: &Context, k: u32) -> Result<Draft, Fault>
     requires slot { slot < slots }
-    requires fits { Fits x.now }
+    requires fits { ContextFits x.now }
     requires k { k < 8 }
     ensures { result ≡ compare_row (core_at core.now slot) x.now Aos k }
 {
@@ -131,7 +131,7 @@ pub fn aos(core: &Core, slot: u8, x: &Context, k: u32) -> Result<Draft, Fault>
 #[tactic(auto, unfolding(its_plain::specs::UnitTests::compare_row))]
 pub fn soj(core: &Core, slot: u8, x: &Context, k: u32) -> Result<Draft, Fault>
     requires slot { slot < slots }
-    requires fits { Fits x.now }
+    requires fits { ContextFits x.now }
     requires k { k < 8 }
     ensures { result ≡ compare_row (core_at core.now slot) x.now Soj k }
 {
@@ -144,7 +144,7 @@ pub fn soj(core: &Core, slot: u8, x: &Context, k: u32) -> Result<Draft, Fault>
 #[tactic(auto, unfolding(its_plain::specs::UnitTests::compare_row))]
 pub fn sos(core: &Core, slot: u8, x: &Context, k: u32) -> Result<Draft, Fault>
     requires slot { slot < slots }
-    requires fits { Fits x.now }
+    requires fits { ContextFits x.now }
     requires k { k < 8 }
     ensures { result ≡ compare_row (core_at core.now slot) x.now Sos k }
 {
@@ -161,7 +161,7 @@ pub fn comparisons(
     k: u32,
 ) -> Result<Draft, Fault>
     requires slot { slot < slots }
-    requires fits { Fits x.now }
+    requires fits { ContextFits x.now }
     requires k { k < 8 }
     ensures { result ≡ compare_row (core_at core.now slot) x.now op k }
 {
@@ -182,7 +182,7 @@ pub fn comparisons(
 #[tactic(auto, unfolding(its_plain::specs::UnitTests::mask_for))]
 fn mask(core: &Core, slot: u8, x: &Context, op: MaskOp) -> Result<Word, Fault>
     requires slot { slot < slots }
-    requires fits { Fits x.now }
+    requires fits { ContextFits x.now }
     ensures { result ≡ mask_for (core_at core.now slot) x.now op }
 {
     match op {
@@ -205,7 +205,7 @@ pub fn tests_of(
     change: u32,
 ) -> Result<Draft, Fault>
     requires slot { slot < slots }
-    requires fits { Fits x.now }
+    requires fits { ContextFits x.now }
     requires k { k < 4 }
     requires change { change < 4 }
     ensures { result ≡ test_row (core_at core.now slot) x.now op k change }

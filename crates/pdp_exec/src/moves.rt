@@ -3,7 +3,7 @@
 ghost use Rattle.std.specs.Prelude.{◌≡◌, ◌<◌};
 ghost use Rattle.its_core.specs.Cores.{core_at};
 ghost use Rattle.its_word.specs.Limits.{slots};
-ghost use Rattle.its_plain.specs.UnitPlan.{Fits, moved_from, moved_to};
+ghost use Rattle.its_plain.specs.UnitPlan.{ContextFits, moved_from, moved_to};
 ghost use Rattle.pdp_exec.specs.Stores.{list_of};
 ghost use Rattle.its_plain.specs.UnitMoves.{exch_row, half_row, half_to, move_row, moved, swapped};
 
@@ -20,7 +20,7 @@ use pdp_logic::half;
 #[tactic(auto, unfolding(its_plain::specs::UnitPlan::moved_from))]
 fn source(core: &Core, slot: u8, x: &Context, mode: Mode) -> Result<Word, Fault>
     requires slot { slot < slots }
-    requires fits { Fits x.now }
+    requires fits { ContextFits x.now }
     ensures { result ≡ moved_from (core_at core.now slot) x.now mode }
 {
     match mode {
@@ -72,7 +72,7 @@ fn moved_by(op: MoveOp, s: Word) -> Result2
 #[tactic(auto, unfolding(its_plain::specs::UnitMoves::move_row))]
 pub fn moves(core: &Core, slot: u8, x: &Context, op: MoveOp, mode: Mode) -> Result<Draft, Fault>
     requires slot { slot < slots }
-    requires fits { Fits x.now }
+    requires fits { ContextFits x.now }
     ensures { result ≡ move_row (core_at core.now slot) x.now op mode }
 {
     let s = source(core, slot, x, mode)?;
@@ -85,7 +85,7 @@ pub fn moves(core: &Core, slot: u8, x: &Context, op: MoveOp, mode: Mode) -> Resu
 #[tactic(auto, unfolding(its_plain::specs::UnitMoves::exch_row))]
 pub fn exchange(core: &Core, slot: u8, x: &Context) -> Result<Draft, Fault>
     requires slot { slot < slots }
-    requires fits { Fits x.now }
+    requires fits { ContextFits x.now }
     ensures { result ≡ exch_row (core_at core.now slot) x.now }
 {
     let w = read(core, slot, x.e)?;
@@ -98,7 +98,7 @@ pub fn exchange(core: &Core, slot: u8, x: &Context) -> Result<Draft, Fault>
 #[tactic(auto, unfolding(its_plain::specs::UnitMoves::half_to))]
 fn destination(core: &Core, slot: u8, x: &Context, mode: Mode) -> Result<Word, Fault>
     requires slot { slot < slots }
-    requires fits { Fits x.now }
+    requires fits { ContextFits x.now }
     ensures { result ≡ half_to (core_at core.now slot) x.now mode }
 {
     match mode {
@@ -114,7 +114,7 @@ fn destination(core: &Core, slot: u8, x: &Context, mode: Mode) -> Result<Word, F
 #[tactic(auto, unfolding(its_plain::specs::UnitMoves::half_row))]
 pub fn halves(core: &Core, slot: u8, x: &Context, k: u32, mode: Mode) -> Result<Draft, Fault>
     requires slot { slot < slots }
-    requires fits { Fits x.now }
+    requires fits { ContextFits x.now }
     requires k { k < 16 }
     ensures { result ≡ half_row (core_at core.now slot) x.now k mode }
 {

@@ -1,6 +1,6 @@
 //! What an instruction that completes does.
 ghost use Rattle.std.specs.Prelude.{◌≡◌, ℕ, ◌+◌, ◌<◌, ◌%◌, ◌^◌, if◌then◌else◌};
-ghost use Rattle.its_plain.specs.UnitPlan.{Fits, completes, is_on, jump as jump_of, next as next_of, skip as skip_of, to as to_place, to_ac_but_0, without as flags_without};
+ghost use Rattle.its_plain.specs.UnitPlan.{ContextFits, completes, is_on, jump as jump_of, next as next_of, skip as skip_of, to as to_place, to_ac_but_0, without as flags_without};
 ghost use Rattle.pdp_exec.specs.Stores.{list_of};
 
 use super::stores::{Stores, none, one};
@@ -96,7 +96,7 @@ pub fn complete(x: &Context, stores: Stores, set: u32, pc: u32) -> Draft
 /// The same, to another place where a jump or a skip is taken.
 #[inline(always)]
 fn complete_or(x: &Context, stores: Stores, set: u32, taken: bool, far: u32) -> Draft
-    requires { Fits x.now }
+    requires { ContextFits x.now }
     ensures { result ≡ completes x.now (list_of stores) set (if taken then far else x.now.pc + 1) }
 {
     Draft {
@@ -111,7 +111,7 @@ fn complete_or(x: &Context, stores: Stores, set: u32, taken: bool, far: u32) -> 
 /// The same, on to the next instruction.
 #[inline(always)]
 pub fn next(x: &Context, stores: Stores, set: u32) -> Draft
-    requires { Fits x.now }
+    requires { ContextFits x.now }
     ensures { result ≡ next_of x.now (list_of stores) set }
 {
     complete(x, stores, set, x.pc + 1)
@@ -120,7 +120,7 @@ pub fn next(x: &Context, stores: Stores, set: u32) -> Draft
 /// The same, to E if a jump is taken.
 #[inline(always)]
 pub fn jump(x: &Context, stores: Stores, set: u32, taken: bool) -> Draft
-    requires { Fits x.now }
+    requires { ContextFits x.now }
     ensures { result ≡ jump_of x.now (list_of stores) set taken }
 {
     complete_or(x, stores, set, taken, x.e)
@@ -129,7 +129,7 @@ pub fn jump(x: &Context, stores: Stores, set: u32, taken: bool) -> Draft
 /// The same, over the next instruction if a skip is taken.
 #[inline(always)]
 pub fn skip(x: &Context, stores: Stores, set: u32, taken: bool) -> Draft
-    requires { Fits x.now }
+    requires { ContextFits x.now }
     ensures { result ≡ skip_of x.now (list_of stores) set taken }
 {
     complete_or(x, stores, set, taken, x.pc + 2)

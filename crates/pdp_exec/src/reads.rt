@@ -3,7 +3,7 @@ ghost use Rattle.std.specs.Prelude.{◌≡◌, ◌<◌, ◌≤◌, ◌^◌};
 ghost use Rattle.its_core.specs.Cores.{core_at};
 ghost use Rattle.its_word.specs.Core.{acc_at};
 ghost use Rattle.its_word.specs.Limits.{slots};
-ghost use Rattle.its_plain.specs.UnitPlan.{Fits, ac, next_ac, read_of};
+ghost use Rattle.its_plain.specs.UnitPlan.{ContextFits, ac, next_ac, read_of};
 
 use its_core::Core;
 use its_word::{Context, Fault, Word};
@@ -34,7 +34,7 @@ fn acc(core: &Core, slot: u8, a: u32) -> Word
 #[tactic(auto, unfolding(its_plain::specs::UnitPlan::ac))]
 pub fn ac_word(core: &Core, slot: u8, x: &Context) -> Word
     requires slot { slot < slots }
-    requires fits { Fits x.now }
+    requires fits { ContextFits x.now }
     ensures { result ≡ ac (core_at core.now slot) x.now }
 {
     acc(core, slot, x.a)
@@ -45,7 +45,7 @@ pub fn ac_word(core: &Core, slot: u8, x: &Context) -> Word
 #[tactic(auto, unfolding(its_plain::specs::UnitPlan::next_ac))]
 pub fn next_ac_word(core: &Core, slot: u8, x: &Context) -> Word
     requires slot { slot < slots }
-    requires fits { Fits x.now }
+    requires fits { ContextFits x.now }
     ensures { result ≡ next_ac (core_at core.now slot) x.now }
 {
     acc(core, slot, (x.a + 1) % 16)

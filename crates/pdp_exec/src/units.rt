@@ -4,7 +4,7 @@ ghost use Rattle.its_core.specs.Cores.{core_at};
 ghost use Rattle.its_word.specs.Limits.{slots};
 ghost use Rattle.its_word.specs.Opcode.{IsRow};
 ghost use Rattle.its_plain.specs.Job.{bit_of};
-ghost use Rattle.its_plain.specs.UnitPlan.{Fits};
+ghost use Rattle.its_plain.specs.UnitPlan.{ContextFits};
 ghost use Rattle.its_plain.specs.Unit.{Called, Changed, Faulted, break_row, outcome_of, reached, row_of, site_of, unit as unit_of};
 ghost use Rattle.pdp_exec.specs.Answer.{Answers, UnitEnds, EndsSame, InPlace, IsCalled, Unchanged};
 ghost use Rattle.pdp_exec.specs.Ready.{IsReady, is_call};
@@ -36,7 +36,7 @@ pub enum Outcome {
 /// `.BREAK 16,`.
 #[tactic(auto, unfolding(its_plain::specs::Unit::break_row))]
 fn breaks(x: &Context) -> Result<Draft, Fault>
-    requires { Fits x.now }
+    requires { ContextFits x.now }
     ensures { result ≡ break_row x.now }
 {
     Ok(with_pending(next(x, none(), 0), Word::new(BRK)))
@@ -46,7 +46,7 @@ fn breaks(x: &Context) -> Result<Draft, Fault>
 #[tactic(auto, unfolding(its_plain::specs::Unit::row_of))]
 fn row(core: &Core, slot: u8, x: &Context, i: Instruction) -> Result<Draft, Fault>
     requires slot { slot < slots }
-    requires fits { Fits x.now }
+    requires fits { ContextFits x.now }
     requires numbers { IsRow i }
     ensures { result ≡ row_of (core_at core.now slot) x.now i }
 {

@@ -1,13 +1,13 @@
 use Rattle.std.proofs.Common.{◌≡◌, ◌≤◌, ◌+◌, ◌-◌}
 use Rattle.its_session.specs.Events.{most_lines}
-use Rattle.its_reader.specs.Lines.{Ready}
+use Rattle.its_reader.specs.Lines.{BetweenLines}
 use Rattle.its_assembly.specs.Text.{LinesSo}
 use Rattle.its_assembly.proofs.text.read_text.Given as goal
 
 abbrev pub invariant-loop-text : goal.invariant-loop-text
 invariant-loop-text g l = record {
   few : l.lines.number ≤ most_lines;
-  ready : Ready l.lines (g.S.Source.left l.src);
+  ready : BetweenLines l.lines (g.S.Source.left l.src);
   so_far : LinesSo l.kept l.text.items l.lines (g.S.Source.left l.fn.src) (g.S.Source.left l.src);
   unfailed : g.S.Source.faults l.src ≡ g.S.Source.faults l.fn.src;
 }

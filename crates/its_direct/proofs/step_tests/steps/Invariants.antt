@@ -1,7 +1,7 @@
 use Rattle.std.proofs.Common.{◌≡◌}
 use Rattle.its_word.specs.declared.session.Place.TheVariants as places
-use Rattle.its_direct.specs.Events.{Kept, place_of}
+use Rattle.its_direct.specs.Events.{Kept, spot_place}
 use Rattle.its_direct.proofs.step_tests.steps.Given as goal
 
 abbrev pub invariant-loop-a : goal.invariant-loop-a
-invariant-loop-a g l = record { kept : Kept l.p; place : place_of l.p.place ≡ places.Plain }
+invariant-loop-a g l = record { kept : Kept l.p; place : spot_place l.p.place ≡ places.Plain }

@@ -1,13 +1,13 @@
 use Rattle.std.proofs.Common.{◌≡◌, ◌≤◌, ◌+◌, ◌-◌}
 use Rattle.its_session.specs.Events.{most_lines}
-use Rattle.its_reader.specs.Lines.{Ready}
+use Rattle.its_reader.specs.Lines.{BetweenLines}
 use Rattle.its_top.specs.Checking.{CheckSoFar}
 use Rattle.its_top.proofs.checking.find.Given as goal
 
 abbrev pub invariant-loop-found : goal.invariant-loop-found
 invariant-loop-found g l = record {
   few : l.items.lines.number ≤ most_lines;
-  ready : Ready l.items.lines (g.S.Source.left l.src);
+  ready : BetweenLines l.items.lines (g.S.Source.left l.src);
   so_far : CheckSoFar l.items (l.items.lines.number + 1) (g.S.Source.left l.fn.src) (g.S.Source.left l.src);
   unfailed : g.S.Source.faults l.src ≡ g.S.Source.faults l.fn.src;
 }

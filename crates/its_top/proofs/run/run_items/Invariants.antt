@@ -4,7 +4,7 @@ use Rattle.its_word.specs.declared.session.Place.TheVariants as places
 use Rattle.its_session.specs.Events.{most_lines}
 use Rattle.its_plain.specs.Machine.{no_machine}
 use Rattle.its_stepped.specs.State.{no_state}
-use Rattle.its_reader.specs.Lines.{Ready}
+use Rattle.its_reader.specs.Lines.{BetweenLines}
 use Rattle.its_monitor.specs.Kept.{Kept}
 use Rattle.its_world.specs.World.{state_of}
 use Rattle.its_top.specs.Answer.{block_of}
@@ -17,7 +17,7 @@ invariant-loop-found g l = record {
   slot : l.p.slot < slots;
   last : l.last < slots;
   few : l.items.lines.number ≤ most_lines;
-  ready : Ready l.items.lines (g.S.Source.left l.src);
+  ready : BetweenLines l.items.lines (g.S.Source.left l.src);
   begun : l.items.place ≡ places.First → state_of l.m.world ≡ no_state no_machine;
   so_far : SoFar l.items (l.items.lines.number + 1) (state_of l.m.world) (block_of l.p.slot l.p.file) l.last (g.S.Source.left l.fn.src) (g.S.Source.left l.src) (g.K.Sink.written l.fn.out) (g.K.Sink.written l.out);
   read_unfailed : g.S.Source.faults l.src ≡ g.S.Source.faults l.fn.src;

@@ -1,12 +1,12 @@
 use Rattle.std.proofs.Common.{◌≡◌, ◌≤◌, ◌<◌, ◌-◌, false, length}
 use Rattle.its_session.specs.Events.{most_lines}
-use Rattle.its_reader.specs.Bytes.{Fits}
+use Rattle.its_reader.specs.Bytes.{BufferFits}
 use Rattle.its_reader.specs.Lines.{LineSo}
 use Rattle.its_reader.proofs.lines.Lines.read_on.Given as goal
 
 abbrev pub invariant-loop-e : goal.invariant-loop-e
 invariant-loop-e g l = record {
-  fits : Fits l.self.buffer;
+  fits : BufferFits l.self.buffer;
   short : length l.self.line.items ≤ 255;
   number : l.self.number ≡ l.fn.self.number;
   running : l.self.ended ≡ false;

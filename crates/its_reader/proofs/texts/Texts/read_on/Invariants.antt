@@ -1,12 +1,12 @@
 use Rattle.std.proofs.Common.{◌≡◌, ◌≤◌, ◌<◌, ◌-◌, false, length}
 use Rattle.its_session.specs.Events.{most_lines}
-use Rattle.its_reader.specs.Bytes.{Fits}
+use Rattle.its_reader.specs.Bytes.{BufferFits}
 use Rattle.its_reader.specs.Texts.{TextSo}
 use Rattle.its_reader.proofs.texts.Texts.read_on.Given as goal
 
 abbrev pub invariant-loop-e : goal.invariant-loop-e
 invariant-loop-e g l = record {
-  fits : Fits l.self.buffer;
+  fits : BufferFits l.self.buffer;
   short : length l.self.text.items ≤ l.self.most;
   most : l.self.most ≡ l.fn.self.most;
   number : l.self.number ≡ l.fn.self.number;

@@ -1,7 +1,7 @@
 use Rattle.std.proofs.Common.{◌≡◌, Some, None, Ok, ap, ◌∙◌}
 use Rattle.its_session.specs.Events.{events_of}
 use Rattle.its_plain.specs.Operator.{no_block}
-use Rattle.its_direct.specs.Events.{place_of}
+use Rattle.its_direct.specs.Events.{spot_place}
 use Rattle.its_verify.specs.Going.{judge_from}
 use Rattle.its_verify.proofs.ErrLaws.{err_concludes}
 use Rattle.its_verify.proofs.GoneLaws.{gone_fails, gone_next, gone_over, place_on, at_item_by}
@@ -18,7 +18,7 @@ loop-found-preserved g c =
       ready = c.in-Ok.ensures.ready;
       few = c.in-Ok.ensures.few going;
       place =
-          place_on c.loop-found.items.place c.next.new.self.place (place_of c.loop-found.self.judge.plain.place) (place_of c.take.new.self.judge.plain.place) c.in-Ok.found
+          place_on c.loop-found.items.place c.next.new.self.place (spot_place c.loop-found.self.judge.plain.place) (spot_place c.take.new.self.judge.plain.place) c.in-Ok.found
           c.loop-found.invariant.place c.in-Ok.ensures.place (c.take.ensures.place is);
       unfailed = unfailed_by c.take.result (g.S.Source.faults c.loop-found.src) (g.S.Source.faults c.take.new.src) (g.S.Source.faults c.args.src.now) is c.take.ensures.cause c.loop-found.invariant.unfailed;
       so_far =

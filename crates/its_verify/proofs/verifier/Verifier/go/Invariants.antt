@@ -1,8 +1,8 @@
 use Rattle.std.proofs.Common.{◌≡◌, ◌≤◌, ◌+◌, ◌-◌, Some}
 use Rattle.its_session.specs.Events.{events_of, most_lines}
-use Rattle.its_reader.specs.Lines.{Ready}
+use Rattle.its_reader.specs.Lines.{BetweenLines}
 use Rattle.its_plain.specs.Operator.{no_block}
-use Rattle.its_direct.specs.Events.{place_of}
+use Rattle.its_direct.specs.Events.{spot_place}
 use Rattle.its_verify.specs.Going.{GoneSo, judge_from, machine_place}
 use Rattle.its_verify.specs.Verifier.{AtItem}
 use Rattle.its_verify.proofs.verifier.Verifier.go.Given as goal
@@ -10,9 +10,9 @@ use Rattle.its_verify.proofs.verifier.Verifier.go.Given as goal
 abbrev pub invariant-loop-found : goal.invariant-loop-found
 invariant-loop-found g l = record {
   at_item : AtItem l.self (g.S.Source.left l.src);
-  ready : Ready l.items.lines (Some l.session);
+  ready : BetweenLines l.items.lines (Some l.session);
   few : l.items.lines.number ≤ most_lines;
-  place : machine_place l.items.place ≡ place_of l.self.judge.plain.place;
+  place : machine_place l.items.place ≡ spot_place l.self.judge.plain.place;
   unfailed : g.S.Source.faults l.src ≡ g.S.Source.faults l.fn.src;
   so_far : GoneSo l.fn.self l.self (judge_from l.fn.self no_block 1 (events_of l.fn.session)) l.items (Some l.session) (g.S.Source.left l.fn.src) (g.S.Source.left l.src);
 }

@@ -1,7 +1,7 @@
 use Rattle.std.proofs.Common.{subst}
 use Rattle.its_session.specs.Fits.{EventFits}
 use Rattle.its_verify.proofs.ShowingLaws.{in_slots}
-use Rattle.its_direct.specs.Events.{MayStand, place_of}
+use Rattle.its_direct.specs.Events.{MayStand, spot_place}
 use Rattle.its_verify.proofs.OutLaws.{tick_out}
 use Rattle.its_verify.proofs.VerifierLaws.{outside_tick}
 use Rattle.its_verify.proofs.verifier.Verifier.line.Goals as goal
@@ -11,7 +11,7 @@ ticks-requires-clause-slot g c = in_slots c.in-Tick.s (subst (EventFits 2) c.in-
 
 pub ticks-requires-clause-outside : goal.ticks-requires-clause-outside
 ticks-requires-clause-outside g c =
-    outside_tick c.args.self.now.judge.plain.place c.in-Tick.s c.in-Tick.n (subst (MayStand (place_of c.args.self.now.judge.plain.place)) c.in-Tick.is c.requires.stands)
+    outside_tick c.args.self.now.judge.plain.place c.in-Tick.s c.in-Tick.n (subst (MayStand (spot_place c.args.self.now.judge.plain.place)) c.in-Tick.is c.requires.stands)
 
 pub returns-in-Tick-clause-out : goal.returns-in-Tick-clause-out
 returns-in-Tick-clause-out g c =

@@ -2,14 +2,14 @@ use Rattle.std.proofs.Common.{Ok, ap, ◌∙◌}
 use Rattle.its_verify.proofs.ErrLaws.{err_item}
 use Rattle.its_verify.proofs.GoneLaws.{failed_says, obeyed_says}
 use Rattle.its_plain.specs.Turns.{ticks_asked, turns_asked}
-use Rattle.its_direct.specs.Events.{place_of}
+use Rattle.its_direct.specs.Events.{spot_place}
 use Rattle.its_verify.proofs.VerifierLaws.{runs_outside}
 use Rattle.its_verify.proofs.OutLaws.{out_if_behind, told_by, turns_out}
 use Rattle.its_verify.proofs.verifier.Verifier.obey.Goals as goal
 
 pub turns_of-requires-clause-outside : goal.turns_of-requires-clause-outside
 turns_of-requires-clause-outside g c =
-    runs_outside (place_of c.args.self.now.judge.plain.place) c.line.new.self.judge.plain.place c.args.event.now c.requires.stands (c.line.ensures.place (c.in_ok-outcome.was ∙ ap Ok c.in_default.is))
+    runs_outside (spot_place c.args.self.now.judge.plain.place) c.line.new.self.judge.plain.place c.args.event.now c.requires.stands (c.line.ensures.place (c.in_ok-outcome.was ∙ ap Ok c.in_default.is))
 
 pub returns-clause-says : goal.returns-clause-says
 returns-clause-says g c =
