@@ -2,7 +2,7 @@
 ghost use Rattle.std.specs.Prelude.{◌≡◌, ◌<◌, ◌+◌, ◌%◌, ◌^◌, [], ◌∷◌};
 ghost use Rattle.its_frame.specs.declared.decision.Decision.TheVariants.{Ends};
 ghost use Rattle.its_plain.specs.Job.{bit_of, with_pending, IOC as IOC_BIT};
-ghost use Rattle.its_plain.specs.Own.{advanced, exit_of};
+ghost use Rattle.its_plain.specs.Own.{with_advance, exit_of};
 ghost use Rattle.its_plain.specs.Tests.{number_at, out};
 
 use arrayvec::ArrayVec;
@@ -36,7 +36,7 @@ fn pc_after(pc: u32, words: u32) -> u32
 /// The registers of a job whose call is over: PC some words further, first part done cleared.
 pub fn exit_after(job: &Job, words: u32) -> Exit
     requires { words < 2 ^ 18 }
-    ensures { result ≡ exit_of (advanced words job.now) }
+    ensures { result ≡ exit_of (with_advance words job.now) }
 {
     Exit {
         pc: pc_after(job.pc, words),
@@ -76,14 +76,14 @@ pub(crate) fn ends(stores: ArrayVec<Store, 2>, exit: Exit) -> Decision
 
 /// The call finishes: PC past it and the instruction after it.
 pub fn finishes(job: &Job, stores: ArrayVec<Store, 2>) -> Decision
-    ensures { result ≡ Ends (record { items = [] }) stores (exit_of (advanced 2 job.now)) }
+    ensures { result ≡ Ends (record { items = [] }) stores (exit_of (with_advance 2 job.now)) }
 {
     ends(stores, exit_after(job, 2))
 }
 
 /// The call finishes, and does one thing outside its job's words and registers.
 pub fn finishes_with(job: &Job, change: Change, stores: ArrayVec<Store, 2>) -> Decision
-    ensures { result ≡ Ends (record { items = change ∷ [] }) stores (exit_of (advanced 2 job.now)) }
+    ensures { result ≡ Ends (record { items = change ∷ [] }) stores (exit_of (with_advance 2 job.now)) }
 {
     let mut changes = ArrayVec::new();
     changes.push(change);
@@ -96,7 +96,7 @@ pub fn finishes_with(job: &Job, change: Change, stores: ArrayVec<Store, 2>) -> D
 
 /// The call fails: the number is stored at its error address, if it has one, and PC is past the call.
 pub fn fails(job: &Job, ask: &Ask, number: u8) -> Decision
-    ensures { result ≡ Ends (record { items = [] }) (record { items = number_at ask.now.error number }) (exit_of (advanced 1 job.now)) }
+    ensures { result ≡ Ends (record { items = [] }) (record { items = number_at ask.now.error number }) (exit_of (with_advance 1 job.now)) }
 {
     let stores = store_at(ask.error, Word::new(u64::from(number)));
     ends(stores, exit_after(job, 1))
@@ -115,7 +115,7 @@ pub fn faults(job: &Job, fault: Fault) -> Decision
 
 /// `.IOT` fails: IOC is pending, and PC is past the call.
 pub fn ioc(job: &Job) -> Decision
-    ensures { result ≡ Ends (record { items = [] }) (record { items = [] }) (exit_of (with_pending (advanced 1 job.now) IOC_BIT)) }
+    ensures { result ≡ Ends (record { items = [] }) (record { items = [] }) (exit_of (with_pending (with_advance 1 job.now) IOC_BIT)) }
 {
     let exit = Exit {
         pend1: job.pend1 | Word::new(IOC),

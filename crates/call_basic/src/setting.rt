@@ -5,7 +5,7 @@ ghost use Rattle.its_plain.specs.Arguments.{has_input, input};
 ghost use Rattle.its_frame.specs.Variables.{variable_named};
 ghost use Rattle.its_plain.specs.CallBasic.{other_variable, own_variable, set_other, set_own, usrvar, value_of_other};
 ghost use Rattle.its_plain.specs.Decide.{call_named as call_named_by, target};
-ghost use Rattle.its_plain.specs.Own.{advanced, exit_of};
+ghost use Rattle.its_plain.specs.Own.{with_advance, exit_of};
 ghost use Rattle.its_frame.specs.declared.decision.Decision.TheVariants.{Ends};
 ghost use Rattle.its_world.specs.World.{raw_at};
 ghost use Rattle.call_basic.specs.Seen.{raw_with, seen_by};
@@ -111,7 +111,7 @@ fn set_other(
     variable: Variable,
     stores: ArrayVec<Store, 2>,
 ) -> Decision
-    ensures { result ≡ Ends (record { items = set_other inferior variable (input ask.now 2) (has_input ask.now 2) }) stores (exit_of (advanced 2 job.now)) }
+    ensures { result ≡ Ends (record { items = set_other inferior variable (input ask.now 2) (has_input ask.now 2) }) stores (exit_of (with_advance 2 job.now)) }
 {
     if !has_input(ask, 2) {
         return finishes(job, stores);

@@ -7,7 +7,7 @@ ghost use Rattle.its_word.specs.declared.jobs.Job.{Job};
 ghost use Rattle.its_core.specs.Cores.{core_at};
 ghost use Rattle.its_frame.specs.declared.decision.Decision.TheVariants.{Ends, Goes};
 ghost use Rattle.its_plain.specs.Arguments.{input};
-ghost use Rattle.its_plain.specs.Own.{advanced, exit_of};
+ghost use Rattle.its_plain.specs.Own.{with_advance, exit_of};
 ghost use Rattle.its_plain.specs.Tests.{goes};
 ghost use Rattle.its_plain.specs.Transfer.{is_indexed, next_pointer, siot_tests, word_bits};
 ghost use Rattle.its_machine.specs.Called.{bar_of, first_of};
@@ -36,7 +36,7 @@ const WORD_BITS: u32 = 36;
 
 /// `.IOT` is done: at most one thing changes outside its job's words and registers, and PC is past it.
 pub fn iot_ends(job: &Job, change: Option<Change>, stores: ArrayVec<Store, 2>) -> Decision
-    ensures { result ≡ Ends (record { items = option_to_list change }) stores (exit_of (advanced 1 job.now)) }
+    ensures { result ≡ Ends (record { items = option_to_list change }) stores (exit_of (with_advance 1 job.now)) }
 {
     let mut changes = ArrayVec::new();
     if let Some(change) = change {

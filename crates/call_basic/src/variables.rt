@@ -2,7 +2,7 @@
 ghost use Rattle.std.specs.Prelude.{◌≡◌, ◌<◌};
 ghost use Rattle.its_word.specs.Limits.{slots};
 ghost use Rattle.its_plain.specs.CallBasic.{by_oneself, by_superior};
-ghost use Rattle.its_plain.specs.Own.{advanced, exit_of, number_or_ones, variable_of, with_variable};
+ghost use Rattle.its_plain.specs.Own.{with_advance, exit_of, number_or_ones, variable_of, with_variable};
 ghost use Rattle.call_basic.specs.Seen.{raw_with};
 
 use super::ends::exit_after;
@@ -77,7 +77,7 @@ pub(crate) fn by_superior(variable: Variable) -> bool
 /// names and its console are no part of them.
 #[tactic(auto, unfolding(its_plain::specs::Own::with_variable))]
 pub(crate) fn exit_with(job: &Job, variable: Variable, value: Word) -> Exit
-    ensures { result ≡ exit_of (with_variable variable value (advanced 2 job.now)) }
+    ensures { result ≡ exit_of (with_variable variable value (with_advance 2 job.now)) }
 {
     let exit = exit_after(job, 2);
     match variable {

@@ -8,7 +8,7 @@ ghost use Rattle.its_jobs.specs.Table.{job_at};
 ghost use Rattle.its_plain.specs.Arguments.{input};
 ghost use Rattle.its_plain.specs.CallDevice.{close_call, iot_call, open_call, siot_call};
 ghost use Rattle.its_plain.specs.Decide.{call_named};
-ghost use Rattle.its_plain.specs.Own.{advanced, exit_of};
+ghost use Rattle.its_plain.specs.Own.{with_advance, exit_of};
 ghost use Rattle.its_stepped.specs.Forest.{Forest};
 ghost use Rattle.its_stepped.specs.Tick.{helps};
 ghost use Rattle.its_world.specs.Tidy.{Tidy};
@@ -65,7 +65,7 @@ pub(crate) fn close(w: &World, slot: u8, job: &Job, ask: &Ask) -> Decision
 /// The channel of a call is closed.
 fn shut(job: &Job, ask: &Ask) -> Decision
     requires { input ask.now 0 < 16 }
-    ensures { result ≡ Ends (record { items = Shut (input ask.now 0) ∷ [] }) (record { items = [] }) (exit_of (advanced 2 job.now)) }
+    ensures { result ≡ Ends (record { items = Shut (input ask.now 0) ∷ [] }) (record { items = [] }) (exit_of (with_advance 2 job.now)) }
 {
     let change = Change::Shut {
         channel: input(ask, 0).value() as u8,

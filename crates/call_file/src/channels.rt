@@ -6,7 +6,7 @@ ghost use Rattle.its_jobs.specs.Table.{job_at};
 ghost use Rattle.its_plain.specs.Arguments.{input};
 ghost use Rattle.its_plain.specs.CallFile.{access, access_on, access_to, closes_draft, fillen, fillen_on, opens_as, opens_disk};
 ghost use Rattle.its_plain.specs.Machine.{Reads};
-ghost use Rattle.its_plain.specs.Own.{advanced, exit_of};
+ghost use Rattle.its_plain.specs.Own.{with_advance, exit_of};
 ghost use Rattle.its_plain.specs.Tests.{out};
 ghost use Rattle.its_world.specs.Tidy.{Tidy};
 ghost use Rattle.call_basic.specs.Seen.{seen_by};
@@ -151,7 +151,7 @@ fn file_measured(w: &World, slot: u8, job: &Job, ask: &Ask, file: u32, at: u32) 
 /// The length of a file or a draft is the output.
 fn measured(w: &World, job: &Job, ask: &Ask, id: u32) -> Decision
     requires { is_some (entry_at w.now.files id) ≡ true }
-    ensures { result ≡ Ends (record { items = [] }) (record { items = out ask.now.outputs.items (length (words_at w.now.files id)) }) (exit_of (advanced 2 job.now)) }
+    ensures { result ≡ Ends (record { items = [] }) (record { items = out ask.now.outputs.items (length (words_at w.now.files id)) }) (exit_of (with_advance 2 job.now)) }
 {
     let length = Word::new(u64::from(w.files.length(id)));
     finishes(job, store_at(ask.outputs.first().copied(), length))

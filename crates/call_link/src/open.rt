@@ -7,7 +7,7 @@ ghost use Rattle.its_frame.specs.declared.change.Change.TheVariants.{Join, Part}
 ghost use Rattle.its_frame.specs.declared.decision.Decision.TheVariants.{Ends};
 ghost use Rattle.its_plain.specs.Arguments.{input};
 ghost use Rattle.its_plain.specs.CallLink.{can_open, link_device, link_named, makes_link, opens_end, opens_link};
-ghost use Rattle.its_plain.specs.Own.{advanced, exit_of};
+ghost use Rattle.its_plain.specs.Own.{with_advance, exit_of};
 ghost use Rattle.its_pipes.specs.Pipes.{piped};
 ghost use Rattle.call_basic.specs.Seen.{seen_by};
 
@@ -71,7 +71,7 @@ fn makes_link(w: &World, slot: u8, job: &Job, ask: &Ask, n: u8, write: bool) -> 
 
 /// The call finishes: an end of a link is opened.
 fn joins(job: &Job, ask: &Ask, n: u8, link: u8, write: bool) -> Decision
-    ensures { result ≡ Ends (record { items = Join n link write (input ask.now 2) (input ask.now 3) ∷ [] }) (record { items = [] }) (exit_of (advanced 2 job.now)) }
+    ensures { result ≡ Ends (record { items = Join n link write (input ask.now 2) (input ask.now 3) ∷ [] }) (record { items = [] }) (exit_of (with_advance 2 job.now)) }
 {
     let change = Change::Join {
         channel: n,
@@ -110,7 +110,7 @@ fn is_unopened(end: End) -> bool
 /// CLOSE of a channel on a link: the end is closed with it.
 pub fn close_end(job: &Job, ask: &Ask, link: u8, write: bool) -> Decision
     requires { input ask.now 0 < 16 }
-    ensures { result ≡ Ends (record { items = Part (input ask.now 0) link write ∷ [] }) (record { items = [] }) (exit_of (advanced 2 job.now)) }
+    ensures { result ≡ Ends (record { items = Part (input ask.now 0) link write ∷ [] }) (record { items = [] }) (exit_of (with_advance 2 job.now)) }
 {
     let change = Change::Part {
         channel: input(ask, 0).value() as u8,

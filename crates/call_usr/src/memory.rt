@@ -8,7 +8,7 @@ ghost use Rattle.its_plain.specs.Arguments.{has_input, input};
 ghost use Rattle.its_plain.specs.CallUsr.{set_word, uclose, usrmem, usrmem_on};
 ghost use Rattle.its_plain.specs.Decide.{call_named};
 ghost use Rattle.its_plain.specs.Machine.{On};
-ghost use Rattle.its_plain.specs.Own.{advanced, exit_of};
+ghost use Rattle.its_plain.specs.Own.{with_advance, exit_of};
 ghost use Rattle.its_plain.specs.Tests.{out};
 ghost use Rattle.its_stepped.specs.Forest.{Forest};
 ghost use Rattle.its_world.specs.World.{state_of};
@@ -80,7 +80,7 @@ fn usrmem_on(
 
 /// The call finishes: the output gets a word of an inferior, and the new one is stored, if there is one.
 fn set_word(job: &Job, ask: &Ask, inferior: u8, at: u32, word: Word) -> Decision
-    ensures { result ≡ Ends (record { items = set_word inferior at (input ask.now 2) (has_input ask.now 2) }) (record { items = out ask.now.outputs.items word }) (exit_of (advanced 2 job.now)) }
+    ensures { result ≡ Ends (record { items = set_word inferior at (input ask.now 2) (has_input ask.now 2) }) (record { items = out ask.now.outputs.items word }) (exit_of (with_advance 2 job.now)) }
 {
     let stores = output(ask, word);
     if !has_input(ask, 2) {

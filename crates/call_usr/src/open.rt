@@ -8,7 +8,7 @@ ghost use Rattle.its_frame.specs.declared.decision.Decision.TheVariants.{Ends};
 ghost use Rattle.its_plain.specs.Arguments.{input};
 ghost use Rattle.its_plain.specs.CallBasic.{is_superior};
 ghost use Rattle.its_plain.specs.CallUsr.{any_named, has_names, inferior_named, makes_job, opens_job, opens_usr, usr_device};
-ghost use Rattle.its_plain.specs.Own.{advanced, exit_of};
+ghost use Rattle.its_plain.specs.Own.{with_advance, exit_of};
 ghost use Rattle.call_basic.specs.Seen.{seen_by, outline_at};
 
 use arrayvec::ArrayVec;
@@ -71,7 +71,7 @@ fn makes_job(w: &World, slot: u8, job: &Job, ask: &Ask, n: u8, u: Word, x: Word)
 
 /// The call finishes: a job is made in a slot, and a channel is opened on it for output.
 fn made(job: &Job, n: u8, slot: u8, u: Word, x: Word) -> Decision
-    ensures { result ≡ Ends (record { items = Make slot u x ∷ Open n (Usr slot true) ∷ [] }) (record { items = [] }) (exit_of (advanced 2 job.now)) }
+    ensures { result ≡ Ends (record { items = Make slot u x ∷ Open n (Usr slot true) ∷ [] }) (record { items = [] }) (exit_of (with_advance 2 job.now)) }
 {
     let make = Change::Make { slot, u, j: x };
     let open = Change::Open {

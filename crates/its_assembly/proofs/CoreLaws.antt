@@ -11,7 +11,7 @@ use Rattle.its_word.specs.Core.{Core, Page, can_store, no_core, page_of, page_st
 use Rattle.its_word.specs.declared.session.Reason.{Reason}
 use Rattle.its_word.proofs.CoreLaws.{can_store-store, in_page, is_some-store, stores_page, word_at-store_same, word_at-store_other}
 use Rattle.its_word.proofs.PageLaws.{can_store-no_core, can_store-with_page_acc, can_store-with_page_other, get-copies, page_of-no_core, page_of-with_page, page_of-with_page_other, word_at-no_core, word_at-no_core_past, word_at-with_page_acc, word_at-with_page_other}
-use Rattle.its_plain.specs.OperatorJobs.{stored, stored_in}
+use Rattle.its_plain.specs.OperatorJobs.{with_stored, with_stored_in}
 use Rattle.its_assembly.specs.Loading.{has_page, image_word, on_page, word_by}
 
 -- a core that has some words, if also the pages of `has` are there
@@ -239,17 +239,17 @@ none_there b cells h l = by (lookup (nat_eq b) cells) refl
 
 pub record Stored (pages : ℕ) (c : Core) (a w : ℕ) (cells : List (ℕ × ℕ)) : Type 0 where
   pub core : Core
-  pub is : stored pages c a w ≡ Ok core
+  pub is : with_stored pages c a w ≡ Ok core
   pub has : CoreIs (has_page cells) cells core
 
 store_there : (pages : ℕ) (c : Core) (a w : ℕ) (cells : List (ℕ × ℕ)) → CoreIs (has_page cells) cells c → a < 2 ^ 18 → lookup (nat_eq a) cells ≡ None → can_store c a ≡ true → Stored pages c a w (cells ++ (a, w) ∷ [])
-unfolding stored
+unfolding with_stored
 store_there pages c a w cells s h none can =
     let some : is_some (word_by (lookup (nat_eq a) cells) (nat_lt a 16 || has_page cells (a / 1024))) ≡ true = ap is_some (sym (s.words a h)) ∙ sym (s.stores a h) ∙ can in
     let opens = is_kept (lookup (nat_eq a) cells) (nat_lt a 16 || has_page cells (a / 1024)) some none in
     record {
       core = store c a w;
-      is = ap (λ x. stored_in c a w x (is_some (word_at c a)) (nat_lt pages most_pages)) can;
+      is = ap (λ x. with_stored_in c a w x (is_some (word_at c a)) (nat_lt pages most_pages)) can;
       has = core_alike (has_page cells) (has_page (cells ++ (a, w) ∷ [])) (cells ++ (a, w) ∷ []) (store c a w)
           (λ k. page_last cells a w k ∙ or_known (has_page cells k) (on_page k (a, w)) (λ t.
           let p = both_true (nat_le 16 a) (nat_eq k (a / 1024)) t in
@@ -261,7 +261,7 @@ store_there pages c a w cells s h none can =
 
 store_anew : (pages : ℕ) (c : Core) (a w : ℕ) (cells : List (ℕ × ℕ)) → CoreIs (has_page cells) cells c → a < 2 ^ 18 → lookup (nat_eq a) cells ≡ None → can_store c a ≡ false → pages < most_pages
     → Stored pages c a w (cells ++ (a, w) ∷ [])
-unfolding stored
+unfolding with_stored
 store_anew pages c a w cells s h none can few =
     let there : is_some (word_at c a) ≡ false = sym (s.stores a h) ∙ can in
     let off : is_some (word_by (lookup (nat_eq a) cells) (nat_lt a 16 || has_page cells (a / 1024))) ≡ false = ap is_some (sym (s.words a h)) ∙ there in

@@ -22,9 +22,9 @@ use Rattle.its_print.specs.Printing.{Line}
 use Rattle.its_print.specs.Printing as printed
 use Rattle.its_plain.specs.Machine.{Machine, Whole, changed, core_of, limit, mapped, no_machine, whole, with_job, with_new}
 use Rattle.its_plain.specs.Operator.{Block, Does, Operated, Quits, and_then, no_block, nobody, only}
-use Rattle.its_plain.specs.OperatorJobs.{any_barred, is_barred, loaded, loaded_in, new_job, on_registers, started, stored, with_core, with_holder, word_loaded, words_loaded, words_loaded_if, words_stored}
-use Rattle.its_plain.specs.OperatorSymbols.{symbol_kept, symbol_kept_if}
-use Rattle.its_plain.specs.OperatorVersion.{versioned}
+use Rattle.its_plain.specs.OperatorJobs.{any_barred, is_barred, after_load, after_load_in, new_job, on_registers, after_go, with_stored, with_core, with_holder, with_word_loaded, with_words_loaded, with_words_loaded_if, with_words_stored}
+use Rattle.its_plain.specs.OperatorSymbols.{with_symbol_kept, with_symbol_kept_if}
+use Rattle.its_plain.specs.OperatorVersion.{with_version}
 use Rattle.its_plain.specs.OperatorLines.{Lined, Done, lined, operate}
 use Rattle.its_plain.specs.Transcript.{Ended, Fate, Shows, Transcript, Walk, at_start, end_line, next_line, obeyed_line, walk_after, Turned, all_made}
 use Rattle.its_plain.specs.Turns.{highest, turns_asked, ticks_asked}
@@ -129,8 +129,8 @@ record Kept (j : Job) (symbols cells : List (ℕ × ℕ)) (a : ℕ) (r : Result 
   pub is : r ≡ Ok machine
   pub holds : Holds j symbols cells a machine
 
-word_kept : (j : Job) (symbols cells : List (ℕ × ℕ)) (a w : ℕ) (m : Machine) → Holds j symbols cells a m → a < 2 ^ 18 → Kept j symbols (cells ++ (a, w) ∷ []) (a + 1) (word_loaded m 0 a w)
-unfolding word_loaded
+word_kept : (j : Job) (symbols cells : List (ℕ × ℕ)) (a w : ℕ) (m : Machine) → Holds j symbols cells a m → a < 2 ^ 18 → Kept j symbols (cells ++ (a, w) ∷ []) (a + 1) (with_word_loaded m 0 a w)
+unfolding with_word_loaded
 word_kept j symbols cells a w m h l =
     let d = store_one (mapped m) h.core a w cells h.has l (below_none a cells h.below) (few_pages j h.core symbols m h.stage h.has.long) in
     let q = whole h.core j None in
@@ -145,14 +145,14 @@ word_kept j symbols cells a w m h l =
       };
     }
 
-words_kept : (j : Job) (symbols cells : List (ℕ × ℕ)) (a : ℕ) (ws : List ℕ) (m : Machine) → Holds j symbols cells a m → a + length ws ≤ 2 ^ 18 → Kept j symbols (cells ++ pairs a ws) (a + length ws) (words_stored m 0 a ws)
+words_kept : (j : Job) (symbols cells : List (ℕ × ℕ)) (a : ℕ) (ws : List ℕ) (m : Machine) → Holds j symbols cells a m → a + length ws ≤ 2 ^ 18 → Kept j symbols (cells ++ pairs a ws) (a + length ws) (with_words_stored m 0 a ws)
 words_kept j symbols cells a [] m h l = record { machine = m; is = refl; holds = subst (λ x. Holds j symbols x (a + 0) m) (sym (append-nil cells)) (subst (λ x. Holds j symbols cells x m) (omega arith) h) }
 words_kept j symbols cells a (w ∷ ws) m h l =
     let one = word_kept j symbols cells a w m h (omega arith) in
     let more = words_kept j symbols (cells ++ (a, w) ∷ []) (a + 1) ws one.machine one.holds (omega arith) in
     record {
       machine = more.machine;
-      is = ap (λ r. and_then r (λ n. words_stored n 0 (a + 1) ws)) one.is ∙ more.is;
+      is = ap (λ r. and_then r (λ n. with_words_stored n 0 (a + 1) ws)) one.is ∙ more.is;
       holds = subst (λ x. Holds j symbols x (a + length (w ∷ ws)) more.machine) (append_assoc cells ((a, w) ∷ []) (pairs (a + 1) ws)) (subst (λ x. Holds j symbols ((cells ++ (a, w) ∷ []) ++ pairs (a + 1) ws) x more.machine) (omega arith) more.holds);
     }
 
@@ -171,12 +171,12 @@ none_barred has cells c a zero s l = refl
 none_barred has cells c a (suc n) s l = rw (not_barred has cells c a s (omega arith)) (none_barred has cells c (a + 1) n s (omega arith))
 
 -- an a/ line
-line_kept : (j : Job) (symbols cells : List (ℕ × ℕ)) (a : ℕ) (ws : List ℕ) (m : Machine) → Holds j symbols cells a m → a + length ws ≤ 2 ^ 18 → Kept j symbols (cells ++ pairs a ws) (a + length ws) (words_loaded m 0 a ws)
-unfolding words_loaded
+line_kept : (j : Job) (symbols cells : List (ℕ × ℕ)) (a : ℕ) (ws : List ℕ) (m : Machine) → Holds j symbols cells a m → a + length ws ≤ 2 ^ 18 → Kept j symbols (cells ++ pairs a ws) (a + length ws) (with_words_loaded m 0 a ws)
+unfolding with_words_loaded
 line_kept j symbols cells a ws m h l =
     let k = words_kept j symbols cells a ws m h l in
     let clear = none_barred (has_page cells) cells h.core a (length ws) h.has l in
-    record { machine = k.machine; is = rw h.stage.here (ap (words_loaded_if m 0 a ws) clear ∙ k.is); holds = k.holds }
+    record { machine = k.machine; is = rw h.stage.here (ap (with_words_loaded_if m 0 a ws) clear ∙ k.is); holds = k.holds }
 
 -- a place of a session in the block of the job
 record At (j : Job) (symbols cells : List (ℕ × ℕ)) (a : ℕ) (v : Walk) : Type 0 where
@@ -267,7 +267,7 @@ all_rows_led j symbols (c ∷ cells) v h r f =
 -- symbols
 symbol_led : (j : Job) (symbols cells : List (ℕ × ℕ)) (a : ℕ) (x : ℕ × ℕ) (v : Walk) → At j symbols cells a v → length symbols < 512
     → (w : Walk) × At j (symbols ++ x ∷ []) cells a w × Ran v w (events.Symbol x.0 x.1 ∷ [])
-unfolding lined operate symbol_kept
+unfolding lined operate with_symbol_kept
 symbol_led j symbols cells a x v h l =
     let m = v.machine in
     let n : Machine = record m { symbols = changed m.symbols 0 (m.symbols 0 ++ x ∷ []) } in
@@ -302,7 +302,7 @@ unfolding no_machine
 empty_start = no_job_at_all no_machine.jobs (λ k. refl)
 
 version_comes : lined at_start.machine at_start.block (events.Version 2) ≡ Done (Does (record no_machine { version = 2 }) [] nobody no_block)
-unfolding lined operate versioned
+unfolding lined operate with_version
 version_comes = ap (λ b. Done (Does (if b then record no_machine { version = 2 } else no_machine) [] nobody no_block)) empty_start
 
 version_ran : Ran at_start versioned_start (events.Version 2 ∷ [])
@@ -315,7 +315,7 @@ abbrev loaded_start : ℕ → ℕ → Option ℕ → Walk
 loaded_start u j con = next_line (walk_after versioned_start (job_made u j con) (only 0) (record no_block { slot = 0 }))
 
 load_comes : (u j : ℕ) (con : Option ℕ) → lined versioned_start.machine versioned_start.block (events.Load u j con) ≡ Done (Does (job_made u j con) (printed.Loaded 0 ∷ []) (only 0) (record no_block { slot = 0 }))
-unfolding lined operate loaded no_machine least_free free_from limit_of
+unfolding lined operate after_load no_machine least_free free_from limit_of
 load_comes u j con = refl
 
 job_stage : (u j : ℕ) (con : Option ℕ) → Stage (fresh_job u j con) no_core [] (job_made u j con)
@@ -327,11 +327,11 @@ loaded_at : (u j : ℕ) (con : Option ℕ) → At (fresh_job u j con) [] [] 0 (l
 loaded_at u j con = record { holds = record { core = no_core; stage = job_stage u j con; has = core_start; below = All-nil (λ (x : ℕ × ℕ). x.0 < 0) }; slot = refl }
 
 -- GO
-go_led : (j : Job) (symbols cells : List (ℕ × ℕ)) (a start : ℕ) (v : Walk) → At j symbols cells a v → (w : Walk) × At (started start j) symbols cells a w × Ran v w (events.Go start ∷ [])
+go_led : (j : Job) (symbols cells : List (ℕ × ℕ)) (a start : ℕ) (v : Walk) → At j symbols cells a v → (w : Walk) × At (after_go start j) symbols cells a w × Ran v w (events.Go start ∷ [])
 unfolding lined operate on_registers
 go_led j symbols cells a start v h =
     let m = v.machine in
-    let n : Machine = with_job m 0 (whole h.holds.core (started start j) None) in (
+    let n : Machine = with_job m 0 (whole h.holds.core (after_go start j) None) in (
       next_line (walk_after v n (only v.block.slot) v.block),
       record {
         holds = record {
@@ -361,7 +361,7 @@ load_last u j con es = rw (load_comes u j con) refl
 record WholeSession (u j start : ℕ) (con : Option ℕ) (words symbols : List (ℕ × ℕ)) (es : List Event) : Type 0 where
   pub shown : Transcript (map Read es) (printed.Loaded 0 ∷ []) Ended
   pub core : Core
-  pub stage : Stage (started start (fresh_job u j con)) core symbols (run_of (map Read es) (printed.Loaded 0 ∷ [])).last
+  pub stage : Stage (after_go start (fresh_job u j con)) core symbols (run_of (map Read es) (printed.Loaded 0 ∷ [])).last
   pub has : CoreIs (has_page words) words core
 
 whole_session : (u j start : ℕ) (con : Option ℕ) (words symbols : List (ℕ × ℕ)) → All CellFits words → rises words ≡ true → length symbols ≤ 512
@@ -382,7 +382,7 @@ whole_session u j start con words symbols f r few =
     record {
       shown = version_ran.shows (map Read (events.Load u j con ∷ lines)) (printed.Loaded 0 ∷ []) Ended (obeyed_line (load_comes u j con) refl all_made (subst (λ x. Shows begin highest x [] Ended) tail shown));
       core = go.1.holds.core;
-      stage = subst (λ m. Stage (started start made) go.1.holds.core symbols m) (sym (version_ran.last (map Read (events.Load u j con ∷ lines)) (printed.Loaded 0 ∷ []) ∙ load_last u j con (map Read lines) ∙ ap (λ x. (course begin highest x []).last) (sym tail) ∙ last)) go.1.holds.stage;
+      stage = subst (λ m. Stage (after_go start made) go.1.holds.core symbols m) (sym (version_ran.last (map Read (events.Load u j con ∷ lines)) (printed.Loaded 0 ∷ []) ∙ load_last u j con (map Read lines) ∙ ap (λ x. (course begin highest x []).last) (sym tail) ∙ last)) go.1.holds.stage;
       has = go.1.holds.has;
     }
 
@@ -393,7 +393,7 @@ image_whole i text f s =
       read = session_whole i text f s;
       transcript = w.shown;
       loads = record {
-        job = whole w.core (started i.start (fresh_job i.u i.j i.console)) None;
+        job = whole w.core (after_go i.start (fresh_job i.u i.j i.console)) None;
         stands = w.stage.here;
         words = w.has.words;
         registers = refl;

@@ -9,7 +9,7 @@ use Rattle.its_word.specs.Tree.{fresh_job}
 use Rattle.its_print.specs.Printing as printed
 use Rattle.its_session.specs.Events.{events_of}
 use Rattle.its_plain.specs.Machine.{Machine, Whole}
-use Rattle.its_plain.specs.OperatorJobs.{started}
+use Rattle.its_plain.specs.OperatorJobs.{after_go}
 use Rattle.its_plain.specs.Transcript.{Ended, Transcript}
 use Rattle.its_plain.specs.Course.{run_of}
 use Rattle.its_asm.specs.declared.assembly.Image.{Image}
@@ -38,7 +38,7 @@ pub record Loads (i : Image) (m : Machine) : Type 0 where
   pub job : Whole
   pub stands : m.jobs 0 ≡ Some job
   pub words : (a : ℕ) → a < 2 ^ 18 → word_at job.core a ≡ image_word i.words a
-  pub registers : job.job ≡ started i.start (fresh_job i.u i.j i.console)
+  pub registers : job.job ≡ after_go i.start (fresh_job i.u i.j i.console)
   pub symbols : m.symbols 0 ≡ i.symbols
 
 -- the grammar reads the session of an image whole; its transcript is that slot 0 got the job, and after its GO the plain machine

@@ -4,27 +4,27 @@ use Rattle.std.proofs.Common.{sym, ap, ◌∙◌, subst, arith}
 use Rattle.std.proofs.lemmas.List.{length-take, length-drop, length-append, take_all, take-append-drop, get_or-append_right, set-append_right}
 use Rattle.its_word.specs.declared.calls.Ask.{Ask}
 use Rattle.its_word.specs.declared.calls.Operand.{Operand}
-use Rattle.its_plain.specs.Arguments.{valued, revalued}
+use Rattle.its_plain.specs.Arguments.{operands_with_values, with_new_values}
 use Rattle.its_calls.specs.Values.{no_operand, with_value, with_values}
 use Rattle.its_stepped.proofs.PageLaws.{valued_none}
 
-length_valued : (os : List Operand) (vs : List ℕ) → length (valued os vs) ≡ length os
+length_valued : (os : List Operand) (vs : List ℕ) → length (operands_with_values os vs) ≡ length os
 length_valued [] [] = refl
 length_valued [] (v ∷ vs) = refl
 length_valued (o ∷ os) [] = refl
 length_valued (o ∷ os) (v ∷ vs) = ap suc (length_valued os vs)
 
 valued_step : (os : List Operand) (vs : List ℕ) (k v : ℕ) → k < length os → k < length vs → v ≡ slice_index_or vs k v
-    → slice_set (valued os (take k vs)) k (record (slice_index_or (valued os (take k vs)) k no_operand) { value = v }) ≡ valued os (take (suc k) vs)
+    → slice_set (operands_with_values os (take k vs)) k (record (slice_index_or (operands_with_values os (take k vs)) k no_operand) { value = v }) ≡ operands_with_values os (take (suc k) vs)
 valued_step [] vs k v lo lv e = absurd (omega arith)
 valued_step (p ∷ os) [] k v lo lv e = absurd (omega arith)
 valued_step (p ∷ os) (w ∷ vs) zero v lo lv e = λ t. record p { value = e t } ∷ sym (valued_none os) t
 valued_step (p ∷ os) (w ∷ vs) (suc k) v lo lv e = ap (λ xs. record p { value = w } ∷ xs) (valued_step os vs k v (omega arith) (omega arith) e)
 
-valued_past : (os : List Operand) (vs : List ℕ) (k : ℕ) → length os ≤ k → valued os (take (suc k) vs) ≡ valued os (take k vs)
+valued_past : (os : List Operand) (vs : List ℕ) (k : ℕ) → length os ≤ k → operands_with_values os (take (suc k) vs) ≡ operands_with_values os (take k vs)
 valued_past [] vs k h = nil (take (suc k) vs) ∙ sym (nil (take k vs))
   where
-    nil : (ws : List ℕ) → valued [] ws ≡ []
+    nil : (ws : List ℕ) → operands_with_values [] ws ≡ []
     nil [] = refl
     nil (w ∷ ws) = refl
 valued_past (p ∷ os) vs zero h = absurd (omega arith)
@@ -48,7 +48,7 @@ module _ (was : Ask) (vs : List ℕ) (kept : ℕ) (k : ℕ) (within : kept ≤ l
   next = omega arith
 
   pub all_long : length (with_values was kept (take k vs)).inputs.items ≡ kept + length os
-  all_long = length-append first (valued os (take k vs)) ∙ rw (kept_long, length_valued os (take k vs)) refl
+  all_long = length-append first (operands_with_values os (take k vs)) ∙ rw (kept_long, length_valued os (take k vs)) refl
 
   pub value_set : (v : ℕ) → k < length vs → kept + k < length (with_values was kept (take k vs)).inputs.items → v ≡ slice_index_or vs k v
       → with_value (with_values was kept (take k vs)) (kept + k) v ≡ with_values was kept (take (k + 1) vs)
@@ -56,24 +56,24 @@ module _ (was : Ask) (vs : List ℕ) (kept : ℕ) (k : ℕ) (within : kept ≤ l
       let l = all_long in
       let back : kept + k - kept ≡ k = omega arith in
       ap (λ xs. record was { inputs = record { items = xs } })
-      (ap (λ d. slice_set (first ++ valued os (take k vs)) (kept + k) (record d { value = v }))
-      (get_or-append_right first (valued os (take k vs)) kept (kept + k) no_operand kept_long (omega arith) ∙ ap (λ i. slice_index_or (valued os (take k vs)) i no_operand) back)
-      ∙ set-append_right first (valued os (take k vs)) kept (kept + k) _ kept_long (omega arith)
-      ∙ ap (λ i. first ++ slice_set (valued os (take k vs)) i (record (slice_index_or (valued os (take k vs)) k no_operand) { value = v })) back
-      ∙ ap (λ ys. first ++ ys) (valued_step os vs k v (omega arith) lv e ∙ ap (λ n. valued os (take n vs)) next))
+      (ap (λ d. slice_set (first ++ operands_with_values os (take k vs)) (kept + k) (record d { value = v }))
+      (get_or-append_right first (operands_with_values os (take k vs)) kept (kept + k) no_operand kept_long (omega arith) ∙ ap (λ i. slice_index_or (operands_with_values os (take k vs)) i no_operand) back)
+      ∙ set-append_right first (operands_with_values os (take k vs)) kept (kept + k) _ kept_long (omega arith)
+      ∙ ap (λ i. first ++ slice_set (operands_with_values os (take k vs)) i (record (slice_index_or (operands_with_values os (take k vs)) k no_operand) { value = v })) back
+      ∙ ap (λ ys. first ++ ys) (valued_step os vs k v (omega arith) lv e ∙ ap (λ n. operands_with_values os (take n vs)) next))
 
   pub value_past : length (with_values was kept (take k vs)).inputs.items ≤ kept + k → with_values was kept (take k vs) ≡ with_values was kept (take (k + 1) vs)
   value_past h =
       let l = all_long in
-      ap (λ ys. record was { inputs = record { items = first ++ ys } }) (sym (valued_past os vs k (omega arith)) ∙ ap (λ n. valued os (take n vs)) next)
+      ap (λ ys. record was { inputs = record { items = first ++ ys } }) (sym (valued_past os vs k (omega arith)) ∙ ap (λ n. operands_with_values os (take n vs)) next)
 
 pub values_none : (was : Ask) (vs : List ℕ) (kept : ℕ) → kept ≤ length was.inputs.items → was ≡ with_values was kept (take 0 vs)
 values_none was vs kept h =
     ap (λ xs. record was { inputs = record { items = xs } })
     (sym (take-append-drop kept was.inputs.items) ∙ ap (λ ys. take kept was.inputs.items ++ ys) (sym (valued_none (drop kept was.inputs.items))))
 
-pub values_all : (was : Ask) (vs : List ℕ) (kept n : ℕ) → kept ≡ length was.inputs.items - length vs → n ≡ length vs → with_values was kept (take n vs) ≡ revalued was vs
-unfolding revalued
+pub values_all : (was : Ask) (vs : List ℕ) (kept n : ℕ) → kept ≡ length was.inputs.items - length vs → n ≡ length vs → with_values was kept (take n vs) ≡ with_new_values was vs
+unfolding with_new_values
 values_all was vs kept n e f =
     ap (λ ws. with_values was kept ws) (take_all n vs (omega arith))
     ∙ ap (λ m. with_values was m vs) e

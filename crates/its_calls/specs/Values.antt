@@ -3,7 +3,7 @@
 use Rattle.std.specs.Prelude.{ℕ, None, List, ◌++◌, take, drop, slice_set, slice_index_or}
 use Rattle.its_word.specs.declared.calls.Ask.{Ask}
 use Rattle.its_word.specs.declared.calls.Operand.{Operand}
-use Rattle.its_plain.specs.Arguments.{valued}
+use Rattle.its_plain.specs.Arguments.{operands_with_values}
 
 -- an input with a new value; the inputs from one on with new values
 abbrev pub no_operand : Operand
@@ -13,4 +13,4 @@ abbrev pub with_value : Ask → ℕ → ℕ → Ask
 with_value a k v = record a { inputs = record { items = slice_set a.inputs.items k (record (slice_index_or a.inputs.items k no_operand) { value = v }) } }
 
 abbrev pub with_values : Ask → ℕ → List ℕ → Ask
-with_values a kept vs = record a { inputs = record { items = take kept a.inputs.items ++ valued (drop kept a.inputs.items) vs } }
+with_values a kept vs = record a { inputs = record { items = take kept a.inputs.items ++ operands_with_values (drop kept a.inputs.items) vs } }

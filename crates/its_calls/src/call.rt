@@ -1,7 +1,7 @@
 ghost use Rattle.std.specs.Prelude.{◌≡◌, ◌<◌, ◌≤◌, ◌^◌, ◌∷◌, [], ℕ, true, Some, None, is_some, IfSome, length, slice_index_or, drop};
 ghost use Rattle.its_word.specs.Limits.{slots};
 ghost use Rattle.its_core.specs.Cores.{core_at};
-ghost use Rattle.its_plain.specs.Arguments.{revalued};
+ghost use Rattle.its_plain.specs.Arguments.{with_new_values};
 ghost use Rattle.its_plain.specs.Footprint.{SiteFits};
 ghost use Rattle.its_stepped.specs.State.{entered, ending};
 ghost use Rattle.its_stepped.specs.TwoParts.{fetch_of, parse_of};
@@ -273,7 +273,7 @@ impl Call {
     /// A part of the call is done: its last inputs get new values, and it goes on.
     pub fn go_on(&mut self, values: &[Word], next: Next)
         requires { is_some (request_in self.old) ≡ true }
-        ensures { IfSome (request_in self.old) (λ r. self.new ≡ Some (gone_to next (request r.site (revalued r.ask values.now)))) }
+        ensures { IfSome (request_in self.old) (λ r. self.new ≡ Some (gone_to next (request r.site (with_new_values r.ask values.now)))) }
     {
         revalue(&mut self.ask, values);
         self.go_to(next);

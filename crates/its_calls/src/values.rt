@@ -1,13 +1,13 @@
 //! The last inputs of a call get new values.
 ghost use Rattle.std.specs.Prelude.{◌≡◌, ◌<◌, length};
-ghost use Rattle.its_plain.specs.Arguments.{revalued};
+ghost use Rattle.its_plain.specs.Arguments.{with_new_values};
 ghost use Rattle.its_calls.specs.Values.{with_value};
 
 use its_word::{Ask, Word};
 
 /// Gives the last inputs of a call new values.
 pub fn revalue(ask: &mut Ask, values: &[Word])
-    ensures { ask.new ≡ revalued ask.old values.now }
+    ensures { ask.new ≡ with_new_values ask.old values.now }
 {
     let kept = ask.inputs.len().saturating_sub(values.len());
     for k in 0..values.len() {

@@ -18,7 +18,7 @@ use Rattle.its_frame.specs.declared.change.Change.TheVariants as changes
 use Rattle.its_frame.specs.declared.variable.Variable.{Variable}
 use Rattle.its_pipes.specs.Pipes.{piped}
 use Rattle.its_plain.specs.CallLink.{words_in}
-use Rattle.its_plain.specs.Change.{with_alarm, with_inf, taken_from, put_to, on_console, on_link, with_sent, with_received, poke, console_in, with_page_at, protected, effect}
+use Rattle.its_plain.specs.Change.{with_alarm, with_inf, after_take, after_put, on_console, on_link, with_sent, with_received, poke, console_in, with_page_at, with_protection, effect}
 use Rattle.its_plain.specs.Job.{INF, with_pending}
 use Rattle.its_plain.specs.Own.{with_registers, with_stores, with_variable}
 use Rattle.its_plain.specs.Machine.{Shut, Whole, whole, with_new, core_of, mapped, limit}
@@ -120,13 +120,13 @@ pub closed_elsewhere : (w : World) (s n : ℕ) → chan_in (state_of w) s n ≡ 
 closed_elsewhere w s n e = subst IsElsewhere (sym (chan_shut w s n e)) tt
 
 -- consoles
-pub byte_taken : (old new : World) (c : ℕ) → ConsoleBecomes old new c (taken_from (console_at old.consoles.items c))
-    → state_of new ≡ with_raw (state_of old) (on_console (state_of old).raw c taken_from)
-byte_taken old new c b = console_state old new c taken_from b
+pub byte_taken : (old new : World) (c : ℕ) → ConsoleBecomes old new c (after_take (console_at old.consoles.items c))
+    → state_of new ≡ with_raw (state_of old) (on_console (state_of old).raw c after_take)
+byte_taken old new c b = console_state old new c after_take b
 
-pub byte_put : (old new : World) (c x : ℕ) → ConsoleBecomes old new c (put_to x (console_at old.consoles.items c))
-    → state_of new ≡ with_raw (state_of old) (on_console (state_of old).raw c (put_to x))
-byte_put old new c x b = console_state old new c (put_to x) b
+pub byte_put : (old new : World) (c x : ℕ) → ConsoleBecomes old new c (after_put x (console_at old.consoles.items c))
+    → state_of new ≡ with_raw (state_of old) (on_console (state_of old).raw c (after_put x))
+byte_put old new c x b = console_state old new c (after_put x) b
 
 pub console_room : (w : World) (c : ℕ) → length ((state_of w).raw.consoles c).output < most_waiting → length (console_at w.consoles.items c).output < most_waiting
 unfolding state_of
@@ -172,8 +172,8 @@ pub page_dropped : (old new : World) (s k : ℕ) → HasPage (state_of old).raw 
 page_dropped old new s k can b = sym (frames_state new old.core.frames) ∙ core_written old (with_frames new old.core.frames) s _ (with_page_at k None) can.job b (λ j. refl)
 
 pub page_protected : (old new : World) (s k : ℕ) (on : Bool) → HasPage (state_of old).raw s k
-    → CoreBecomes old new s (with_page (core_at old.core s) k (marked (page_of (core_at old.core s) k) on)) → state_of new ≡ in_raw (state_of old) s (protected k on)
-page_protected old new s k on can b = core_written old new s _ (protected k on) can.job b (λ j. refl)
+    → CoreBecomes old new s (with_page (core_at old.core s) k (marked (page_of (core_at old.core s) k) on)) → state_of new ≡ in_raw (state_of old) s (with_protection k on)
+page_protected old new s k on can b = core_written old new s _ (with_protection k on) can.job b (λ j. refl)
 
 pub tidy_written : (old new : World) (s : ℕ) (c : Core) → HasJob (state_of old) s → CoreBecomes old new s c → Tidy old → Tidy new
 tidy_written old new s c job b tidy = tidy_core old new s c (frame_at old.frames.items s) (clear_at old.core s) (has_job old s job) b tidy

@@ -22,10 +22,10 @@ use Rattle.its_frame.specs.declared.decision.Held.{Held}
 use Rattle.its_frame.specs.declared.decision.Wait.{Wait}
 use Rattle.its_frame.specs.declared.frame.Frame.{Frame}
 use Rattle.its_frame.specs.declared.frame.Holding.{Holding}
-use Rattle.its_plain.specs.Arguments.{debts, revalued}
-use Rattle.its_plain.specs.Change.{superiors, is_gone, removed, inferior, effect}
+use Rattle.its_plain.specs.Arguments.{debts, with_new_values}
+use Rattle.its_plain.specs.Change.{superiors, is_gone, after_removal, inferior, effect}
 use Rattle.its_plain.specs.Machine.{changed}
-use Rattle.its_stepped.specs.Commit.{effect_on, effects_on, committed, gone_on, owed_by, given_up, owed_part, owed_parts, owed_store}
+use Rattle.its_stepped.specs.Commit.{effect_on, effects_on, after_commit, after_going_on, owed_by, given_up, owed_part, owed_parts, owed_store}
 use Rattle.its_stepped.specs.State.{State, mine, with_slot, same, ending, waiting}
 use Rattle.its_commit.specs.Built.{CanMake, CanMakeAll, backed}
 use Rattle.its_commit.specs.Carried.{standing_of, CanCommit, Endable}
@@ -58,7 +58,7 @@ taken_page : (reserved : ℕ → Option ℕ) (j : ℕ) → kept (changed reserve
 taken_page reserved j = rw (eq-eqb j j refl) (omega arith)
 
 one_mild : (c : Change) (j : ℕ) (w : State) → CanMake c j w → Mild w (effect_on c j w) j
-unfolding effect_on effect removed
+unfolding effect_on effect after_removal
 one_mild (changes.Inform s) j w b = record { job = λ h. slot_some _ (j == s) (w.raw.jobs j) h; frame = refl; page = at_most refl }
 one_mild (changes.Set s v x) j w b = record { job = λ h. slot_some _ (j == s) (w.raw.jobs j) h; frame = refl; page = at_most refl }
 one_mild (changes.Take n) j w b = record { job = λ h. h; frame = refl; page = at_most refl }
@@ -129,8 +129,8 @@ whole_part None i h = cc
 -- a call that waits
 pub wait_committed : (old new : World) (s : ℕ) (r : Wait) → is_some (job_at old.jobs s) ≡ true
     → IfSome (standing_of (frame_at old.frames.items s)) (λ f. FrameBecomes old new s (Some (waiting f.site f.ask f.owes)))
-    → IfSome (standing_of (frame_at old.frames.items s)) (λ f. state_of new ≡ committed (state_of old) s f.site f.ask f.owes (Waits r))
-unfolding committed
+    → IfSome (standing_of (frame_at old.frames.items s)) (λ f. state_of new ≡ after_commit (state_of old) s f.site f.ask f.owes (Waits r))
+unfolding after_commit
 wait_committed old new s r job h = go (standing_of (frame_at old.frames.items s)) h
   where
     go : (o : Option Holding) → IfSome o (λ f. FrameBecomes old new s (Some (waiting f.site f.ask f.owes)))
@@ -147,15 +147,15 @@ put_after old mid new s cs g e b job f =
 -- a call of which a part is done
 pub goes_committed : (old mid new : World) (s : ℕ) (cs : List Change) (h : Option Held) (vs : List ℕ) → state_of mid ≡ effects_on cs s (state_of old) → CanMakeAll cs s (state_of old)
     → is_some (job_at old.jobs s) ≡ true
-    → IfSome (standing_of (frame_at mid.frames.items s)) (λ f. FrameBecomes mid new s (Some (gone_on f.site (revalued f.ask vs) (length vs) h)))
-    → IfSome (standing_of (frame_at old.frames.items s)) (λ f. state_of new ≡ committed (state_of old) s f.site f.ask f.owes (Goes (record { items = cs }) h (record { items = vs })))
-unfolding committed
+    → IfSome (standing_of (frame_at mid.frames.items s)) (λ f. FrameBecomes mid new s (Some (after_going_on f.site (with_new_values f.ask vs) (length vs) h)))
+    → IfSome (standing_of (frame_at old.frames.items s)) (λ f. state_of new ≡ after_commit (state_of old) s f.site f.ask f.owes (Goes (record { items = cs }) h (record { items = vs })))
+unfolding after_commit
 goes_committed old mid new s cs h vs e b job p =
     go (standing_of (frame_at old.frames.items s))
-    (subst (λ o. IfSome (standing_of o) (λ f. FrameBecomes mid new s (Some (gone_on f.site (revalued f.ask vs) (length vs) h)))) (frame_kept old mid s cs e b) p)
+    (subst (λ o. IfSome (standing_of o) (λ f. FrameBecomes mid new s (Some (after_going_on f.site (with_new_values f.ask vs) (length vs) h)))) (frame_kept old mid s cs e b) p)
   where
-    go : (o : Option Holding) → IfSome o (λ f. FrameBecomes mid new s (Some (gone_on f.site (revalued f.ask vs) (length vs) h)))
-        → IfSome o (λ f. state_of new ≡ with_slot (effects_on cs s (state_of old)) s same (Some (gone_on f.site (revalued f.ask vs) (length vs) h)))
+    go : (o : Option Holding) → IfSome o (λ f. FrameBecomes mid new s (Some (after_going_on f.site (with_new_values f.ask vs) (length vs) h)))
+        → IfSome o (λ f. state_of new ≡ with_slot (effects_on cs s (state_of old)) s same (Some (after_going_on f.site (with_new_values f.ask vs) (length vs) h)))
     go (Some f) p = put_after old mid new s cs _ e b job p
     go None p = tt
 
@@ -181,8 +181,8 @@ owed_at v s ss e f = owed_parts v.mark s ++ (backed (is_some (v.reserved s)) ++ 
 pub ends_committed : (old mid new : World) (s : ℕ) (cs : List Change) (ss : List Store) (x : Exit) → state_of mid ≡ effects_on cs s (state_of old) → CanMakeAll cs s (state_of old)
     → is_some (job_at old.jobs s) ≡ true
     → IfSome (standing_of (frame_at mid.frames.items s)) (λ f. FrameBecomes mid new s (Some (ending f.site f.ask (owed_at (state_of mid) s ss x f))))
-    → IfSome (standing_of (frame_at old.frames.items s)) (λ f. state_of new ≡ committed (state_of old) s f.site f.ask f.owes (Ends (record { items = cs }) (record { items = ss }) x))
-unfolding committed
+    → IfSome (standing_of (frame_at old.frames.items s)) (λ f. state_of new ≡ after_commit (state_of old) s f.site f.ask f.owes (Ends (record { items = cs }) (record { items = ss }) x))
+unfolding after_commit
 ends_committed old mid new s cs ss x e b job p =
     go (standing_of (frame_at old.frames.items s))
     (subst (λ o. IfSome (standing_of o) (λ f. FrameBecomes mid new s (Some (ending f.site f.ask (owed_at v s ss x f))))) (frame_kept old mid s cs e b)
@@ -200,8 +200,8 @@ ends_committed old mid new s cs ss x e b job p =
 
 -- a call whose caller is removed
 pub gone_committed : (old mid new : World) (s : ℕ) (cs : List Change) → state_of mid ≡ effect_on (changes.Remove s) s (state_of old) → state_of new ≡ effects_on cs s (state_of mid)
-    → IfSome (standing_of (frame_at old.frames.items s)) (λ f. state_of new ≡ committed (state_of old) s f.site f.ask f.owes (Gone (record { items = cs })))
-unfolding committed
+    → IfSome (standing_of (frame_at old.frames.items s)) (λ f. state_of new ≡ after_commit (state_of old) s f.site f.ask f.owes (Gone (record { items = cs })))
+unfolding after_commit
 gone_committed old mid new s cs r e = go (standing_of (frame_at old.frames.items s))
   where
     go : (o : Option Holding) → IfSome o (λ f. state_of new ≡ effects_on cs s (effect_on (changes.Remove s) s (state_of old)))

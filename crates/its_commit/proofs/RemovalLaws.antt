@@ -23,7 +23,7 @@ use Rattle.its_jobs.proofs.TreeLaws.{past_none}
 use Rattle.its_pipes.specs.Pipes.{piped}
 use Rattle.its_plain.specs.Machine.{Shut, Symbol, Pipe, Whole}
 use Rattle.its_plain.specs.Own.{on_channel}
-use Rattle.its_plain.specs.Change.{with_alarm, on_slot, channel_in, shut_on, left_job, superior_in, superiors, is_gone, passed_on, symbols_left, ends_left, removed, effect}
+use Rattle.its_plain.specs.Change.{with_alarm, on_slot, channel_in, after_shut, job_after_removal, superior_in, superiors, is_gone, holder_after_removal, symbols_after_removal, ends_after_removal, after_removal, effect}
 use Rattle.its_plain.specs.OperatorClock.{alarm_in, clock_end}
 use Rattle.its_plain.proofs.MachineLaws.{machine_is}
 use Rattle.its_stepped.specs.Commit.{effect_on}
@@ -53,7 +53,7 @@ use Rattle.its_stepped.proofs.KeptLaws.{user_page}
 
 -- lists of symbols of which those of slots without a job are emptied
 abbrev Forgotten : Table → List (ArrayVec Symbol) → List (ArrayVec Symbol) → Type 0
-Forgotten t old new = (k : ℕ) → symbols_at new k ≡ symbols_left (is_none (job_at t k)) (symbols_at old k)
+Forgotten t old new = (k : ℕ) → symbols_at new k ≡ symbols_after_removal (is_none (job_at t k)) (symbols_at old k)
 
 -- the superiors of the raw machine are those of the jobs
 pub superiors_are : (w : World) → IsTree w.jobs.jobs w.jobs.superiors → superiors (state_of w).raw ≡ superior_at w.jobs
@@ -206,8 +206,8 @@ tidy_bare old new s b tidy =
 -- the channels of a job that stays
 pub shut_some : (gone : ℕ → Bool) (old new : World) (s : ℕ) (j i : Job) → job_at old.jobs s ≡ Some j → bare i ≡ bare j
     → ((n : ℕ) → slice_index_or i.channels n channels.Closed ≡ channel_left gone (slice_index_or j.channels n channels.Closed))
-    → JobBecomes old new s i → state_of new ≡ in_raw (state_of old) s (shut_on gone)
-shut_some gone old new s j i is e h b = changed_state old new s (core_at old.core s) i j (shut_on gone) b is (λ t. record {
+    → JobBecomes old new s i → state_of new ≡ in_raw (state_of old) s (after_shut gone)
+shut_some gone old new s j i is e h b = changed_state old new s (core_at old.core s) i j (after_shut gone) b is (λ t. record {
   core = core_at old.core s;
   job = sym e t;
   superior = superior_at old.jobs s;
@@ -215,8 +215,8 @@ shut_some gone old new s j i is e h b = changed_state old new s (core_at old.cor
   channels = λ n. sym (ap (chan_of old.files) (h n) ∙ left_chan old.files gone (slice_index_or j.channels n channels.Closed)) t;
 })
 
-pub shut_none : (gone : ℕ → Bool) (w : World) (s : ℕ) → job_at w.jobs s ≡ None → state_of w ≡ in_raw (state_of w) s (shut_on gone)
-shut_none gone w s none = absent_state w s (shut_on gone) none
+pub shut_none : (gone : ℕ → Bool) (w : World) (s : ℕ) → job_at w.jobs s ≡ None → state_of w ≡ in_raw (state_of w) s (after_shut gone)
+shut_none gone w s none = absent_state w s (after_shut gone) none
 
 pub shut_tidy : (gone : ℕ → Bool) (old new : World) (s : ℕ) (j i : Job) → job_at old.jobs s ≡ Some j
     → ((n : ℕ) → slice_index_or i.channels n channels.Closed ≡ channel_left gone (slice_index_or j.channels n channels.Closed))
@@ -259,15 +259,15 @@ swept_gone gone old new s g e = record {
   pages = e.pages ∙ sym (ap (λ (b : Bool). if b then frames_drop_all s old.core.frames else old.core.frames) g);
 }
 
-swept_left : (gone : ℕ → Bool) (old new : World) (s : ℕ) → gone s ≡ false → state_of new ≡ in_raw (state_of old) s (shut_on gone) → new.core.frames ≡ old.core.frames → Sweeps gone old new s
+swept_left : (gone : ℕ → Bool) (old new : World) (s : ℕ) → gone s ≡ false → state_of new ≡ in_raw (state_of old) s (after_shut gone) → new.core.frames ≡ old.core.frames → Sweeps gone old new s
 swept_left gone old new s g e same = record {
   here = record {
-    job = λ f. ap (λ (w : State). w.raw.jobs s) e ∙ on_slot_here (state_of old).raw.jobs s (shut_on gone);
+    job = λ f. ap (λ (w : State). w.raw.jobs s) e ∙ on_slot_here (state_of old).raw.jobs s (after_shut gone);
     frame = ap (λ (w : State). w.frames s) e ∙ sym (ap (λ (b : Bool). if b then None else (state_of old).frames s) g);
     page = ap (λ (w : State). w.reserved s) e;
   };
   bare = λ t. absurd (let wrong : true ≡ false = sym t ∙ g in cc);
-  alone = subst (λ w. Alone (state_of old) w s) (sym e) (in_raw_alone (state_of old) s (shut_on gone) (λ q. refl));
+  alone = subst (λ w. Alone (state_of old) w s) (sym e) (in_raw_alone (state_of old) s (after_shut gone) (λ q. refl));
   pages = same ∙ sym (ap (λ (b : Bool). if b then frames_drop_all s old.core.frames else old.core.frames) g);
 }
 
@@ -276,15 +276,15 @@ pub sweeps_gone : (old new : World) (r s : ℕ) (b : Bool) → IsTree old.jobs.j
 sweeps_gone old new r s b t e g h = swept_gone _ old new s (ap (λ (f : ℕ → Bool). f s) (sym (tree_gone old r t)) ∙ sym e ∙ g) h
 
 pub sweeps_left : (old new : World) (r s : ℕ) (b : Bool) → IsTree old.jobs.jobs old.jobs.superiors → b ≡ in_tree (superior_at old.jobs) r s → b ≡ false
-    → state_of new ≡ in_raw (state_of old) s (shut_on (in_tree (superior_at old.jobs) r)) → new.core.frames ≡ old.core.frames
+    → state_of new ≡ in_raw (state_of old) s (after_shut (in_tree (superior_at old.jobs) r)) → new.core.frames ≡ old.core.frames
     → Sweeps (is_gone (superiors (state_of old).raw) r) old new s
 sweeps_left old new r s b t e g h same =
-    swept_left _ old new s (ap (λ (f : ℕ → Bool). f s) (sym (tree_gone old r t)) ∙ sym e ∙ g) (h ∙ ap (λ f. in_raw (state_of old) s (shut_on f)) (tree_gone old r t)) same
+    swept_left _ old new s (ap (λ (f : ℕ → Bool). f s) (sym (tree_gone old r t)) ∙ sym e ∙ g) (h ∙ ap (λ f. in_raw (state_of old) s (after_shut f)) (tree_gone old r t)) same
 
 -- slot after slot
 kept_then : (gone : ℕ → Bool) (w v u : State) (k : ℕ) → SlotSame w v k → SlotSwept gone v u k → SlotSwept gone w u k
 kept_then gone w v u k a b = record {
-  job = λ g. b.job g ∙ ap (option_map (shut_on gone)) a.job;
+  job = λ g. b.job g ∙ ap (option_map (after_shut gone)) a.job;
   frame = b.frame ∙ ap (λ f. if gone k then None else f) a.frame;
   page = b.page ∙ a.page;
 }
@@ -398,7 +398,7 @@ module _ (old mid : World) (r : ℕ) (low : r < slots) (tree : IsTree old.jobs.j
       let stays : is_gone (superiors (state_of old).raw) r k ≡ false = past_left old r k low tree past in
       let none : (state_of old).raw.jobs k ≡ None = none_there old k tree past in
       record {
-        job = λ g. s.job ∙ none ∙ sym (ap (option_map (shut_on (is_gone (superiors (state_of old).raw) r))) none);
+        job = λ g. s.job ∙ none ∙ sym (ap (option_map (after_shut (is_gone (superiors (state_of old).raw) r))) none);
         frame = s.frame ∙ sym (ap (λ (b : Bool). if b then None else (state_of old).frames k) stays);
         page = s.page;
       }
@@ -449,17 +449,17 @@ module _ (old mid : World) (r : ℕ) (low : r < slots) (tree : IsTree old.jobs.j
 
     -- and their symbols with them: what is left of those of a slot, by whether it is gone, and by what job it has
     symbols_by : (k : ℕ) (b : Bool) (o : Option Job) → is_gone (superiors (state_of old).raw) r k ≡ b → job_at new.jobs k ≡ o → Tidy mid
-        → symbols_left (is_none o) (symbols_at mid.symbols.items k) ≡ symbols_left b (symbols_at mid.symbols.items k)
+        → symbols_after_removal (is_none o) (symbols_at mid.symbols.items k) ≡ symbols_after_removal b (symbols_at mid.symbols.items k)
     symbols_by k true None g is tidy = refl
     symbols_by k true (Some j) g is tidy = let wrong : Some j ≡ None = sym is ∙ job_gone k g in absurd cc
     symbols_by k false None g is tidy = sym (tidy.nameless k (sym (job_left k g) ∙ is))
     symbols_by k false (Some j) g is tidy = refl
 
     symbols_gone : Forgotten new.jobs mid.symbols.items new.symbols.items → Tidy mid
-        → (k : ℕ) → symbols_at new.symbols.items k ≡ symbols_left (is_gone (superiors (state_of old).raw) r k) (symbols_at mid.symbols.items k)
+        → (k : ℕ) → symbols_at new.symbols.items k ≡ symbols_after_removal (is_gone (superiors (state_of old).raw) r k) (symbols_at mid.symbols.items k)
     symbols_gone forgets tidy k = forgets k ∙ symbols_by k (is_gone (superiors (state_of old).raw) r k) (job_at new.jobs k) refl refl tidy
 
-    none_left : (o : Option Job) (ss : List Symbol) → o ≡ None → symbols_left (is_none o) ss ≡ []
+    none_left : (o : Option Job) (ss : List Symbol) → o ≡ None → symbols_after_removal (is_none o) ss ≡ []
     none_left None ss e = refl
     none_left (Some j) ss e = cc
 
@@ -484,7 +484,7 @@ module _ (old mid : World) (r : ℕ) (low : r < slots) (tree : IsTree old.jobs.j
 
     module _ (superior : Without (in_tree (superior_at mid.jobs) r) (superior_at mid.jobs) (superior_at new.jobs)) (core : new.core ≡ mid.core) (files : new.files ≡ mid.files) (alarms : new.alarms ≡ mid.alarms) where
       raw_left : (k : ℕ) (b : Bool) → is_gone (superiors (state_of old).raw) r k ≡ b
-          → raw_at new.files new.core new.jobs new.alarms.items k ≡ left_job (is_gone (superiors (state_of old).raw) r) b ((state_of old).raw.jobs k)
+          → raw_at new.files new.core new.jobs new.alarms.items k ≡ job_after_removal (is_gone (superiors (state_of old).raw) r) b ((state_of old).raw.jobs k)
       unfolding state_of
       raw_left k true g = ap (raw_of new.files (core_at new.core k) (superior_at new.jobs k) (alarm_at new.alarms.items k)) (job_gone k g)
       raw_left k false g =
@@ -498,23 +498,23 @@ module _ (old mid : World) (r : ℕ) (low : r < slots) (tree : IsTree old.jobs.j
           ∙ (all_swept k).job g
 
       pub tree_removed : new.frames ≡ mid.frames → new.consoles ≡ mid.consoles
-          → ((c : ℕ) → holder_at new.holders c ≡ passed_on (in_tree (superior_at mid.jobs) r) (superior_at mid.jobs r) (holder_at mid.holders c)) → new.clock ≡ mid.clock → new.version ≡ mid.version → Forgotten new.jobs mid.symbols.items new.symbols.items
-          → ((l : ℕ) → piped new.pipes l ≡ ends_left (in_tree (superior_at mid.jobs) r) (piped mid.pipes l)) → Tidy mid
+          → ((c : ℕ) → holder_at new.holders c ≡ holder_after_removal (in_tree (superior_at mid.jobs) r) (superior_at mid.jobs r) (holder_at mid.holders c)) → new.clock ≡ mid.clock → new.version ≡ mid.version → Forgotten new.jobs mid.symbols.items new.symbols.items
+          → ((l : ℕ) → piped new.pipes l ≡ ends_after_removal (in_tree (superior_at mid.jobs) r) (piped mid.pipes l)) → Tidy mid
           → (j : ℕ) → state_of new ≡ effect_on (changes.Remove r) j (state_of old)
-      unfolding state_of effect_on effect removed
+      unfolding state_of effect_on effect after_removal
       tree_removed frames consoles holders clock version forgets links tidy j = state_is _ _
           (machine_is _ _ (λ k. raw_left k (is_gone (superiors (state_of old).raw) r k) refl)
           (λ c. ap (λ l. console_at l.items c) consoles ∙ ap (λ (f : ℕ → Console). f c) swept.shared.consoles)
           (λ c.
           holders c
-          ∙ (λ i. passed_on (gone_same i) (heir_same i) (holder_at mid.holders c))
-          ∙ ap (λ (f : ℕ → Option ℕ). passed_on (is_gone (superiors (state_of old).raw) r) (superiors (state_of old).raw r) (f c)) swept.shared.holders)
+          ∙ (λ i. holder_after_removal (gone_same i) (heir_same i) (holder_at mid.holders c))
+          ∙ ap (λ (f : ℕ → Option ℕ). holder_after_removal (is_gone (superiors (state_of old).raw) r) (superiors (state_of old).raw r) (f c)) swept.shared.holders)
           (ap directory files ∙ swept.shared.files) (clock ∙ swept.shared.clock) (version ∙ swept.shared.version)
-          (λ k. symbols_gone forgets tidy k ∙ ap (λ (f : ℕ → List Symbol). symbols_left (is_gone (superiors (state_of old).raw) r k) (f k)) swept.shared.symbols)
+          (λ k. symbols_gone forgets tidy k ∙ ap (λ (f : ℕ → List Symbol). symbols_after_removal (is_gone (superiors (state_of old).raw) r k) (f k)) swept.shared.symbols)
           (λ l.
           links l
-          ∙ ap (λ (g : ℕ → Bool). ends_left g (piped mid.pipes l)) gone_same
-          ∙ ap (λ (f : ℕ → Option Pipe). ends_left (is_gone (superiors (state_of old).raw) r) (f l)) swept.shared.links))
+          ∙ ap (λ (g : ℕ → Bool). ends_after_removal g (piped mid.pipes l)) gone_same
+          ∙ ap (λ (f : ℕ → Option Pipe). ends_after_removal (is_gone (superiors (state_of old).raw) r) (f l)) swept.shared.links))
           (λ k. ap (λ f. frame_at f.items k) frames ∙ (all_swept k).frame)
           (λ k. ap (λ c. clear_at c k) core ∙ (all_swept k).page)
           (ap mark_of files ∙ swept.shared.mark)
@@ -528,7 +528,7 @@ page_kept r j k w v e = ap (λ x. x.reserved k) e
 
 pub pages_left : (w v : State) (r k : ℕ) → Sound w → ((i : ℕ) → is_below (superiors w.raw) r i ≡ true → w.frames i ≡ None) → w.reserved r ≡ None
     → ((j : ℕ) → v ≡ effect_on (changes.Remove r) j w) → is_gone (superiors w.raw) r k ≡ true → v.reserved k ≡ None
-pages_left w v r k s quiet page removed gone = page_kept r 0 k w v (removed 0) ∙ elim (cases_eq k r) [
+pages_left w v r k s quiet page after_removal gone = page_kept r 0 k w v (after_removal 0) ∙ elim (cases_eq k r) [
   | inl e ↦ ap w.reserved e ∙ page
   | inr ne ↦ no_page w k s (quiet k (or_second (k == r) (is_below (superiors w.raw) r k) gone (ne_eqb k r ne)))
 ]

@@ -11,9 +11,9 @@ use Rattle.its_word.specs.declared.plan.Store.{Store}
 use Rattle.its_frame.specs.declared.decision.Held.{Held}
 use Rattle.its_frame.specs.declared.frame.Frame.{Frame}
 use Rattle.its_frame.specs.declared.frame.Frame.TheVariants as frames
-use Rattle.its_plain.specs.Arguments.{debts, revalued}
+use Rattle.its_plain.specs.Arguments.{debts, with_new_values}
 use Rattle.its_plain.specs.Decide.{call_named}
-use Rattle.its_stepped.specs.Commit.{gone_on, owed_parts, owed_store, sleeps, stays}
+use Rattle.its_stepped.specs.Commit.{after_going_on, owed_parts, owed_store, sleeps, stays}
 use Rattle.its_stepped.specs.State.{ending, waiting}
 use Rattle.its_calls.specs.Calls.{frame_seen, gone_to, request, request_in}
 use Rattle.its_calls.specs.declared.call.Next.{Next}
@@ -55,7 +55,7 @@ waits_row old new s n a (Some (frames.Waiting f)) is b = subst (λ (k : ℕ). Fr
 waits_row old new s n a _ is b = tt
 
 -- a part of it is done
-goes_to : (a b : Ask) (t : Site) (n : ℕ) (h : Option Held) → a.name ≡ b.name → gone_to (next_of a n h) (request t b) ≡ gone_on t b n h
+goes_to : (a b : Ask) (t : Site) (n : ℕ) (h : Option Held) → a.name ≡ b.name → gone_to (next_of a n h) (request t b) ≡ after_going_on t b n h
 goes_to a b t n (Some h) e = refl
 goes_to a b t n None e = ap (λ (x : ℕ). gone_to (next_stays (sleeps (call_named x)) n) (request t b)) e ∙ by (sleeps (call_named b.name))
   where
@@ -63,19 +63,19 @@ goes_to a b t n None e = ap (λ (x : ℕ). gone_to (next_stays (sleeps (call_nam
     by true = refl
     by false = refl
 
-same_name : (a : Ask) (vs : List ℕ) → a.name ≡ (revalued a vs).name
-unfolding revalued
+same_name : (a : Ask) (vs : List ℕ) → a.name ≡ (with_new_values a vs).name
+unfolding with_new_values
 same_name a vs = refl
 
 pub goes_row : (old new : World) (s : ℕ) (a : Ask) (k : ℕ) (vs : List ℕ) (h : Option Held) (x : Next) (o : Option Frame) → Asks o a k → x ≡ next_of a (length vs) h
-    → IfSome (request_in o) (λ r. FrameBecomes old new s (Some (gone_to x (request r.site (revalued r.ask vs)))))
-    → IfSome (standing_of o) (λ f. FrameBecomes old new s (Some (gone_on f.site (revalued f.ask vs) (length vs) h)))
+    → IfSome (request_in o) (λ r. FrameBecomes old new s (Some (gone_to x (request r.site (with_new_values r.ask vs)))))
+    → IfSome (standing_of o) (λ f. FrameBecomes old new s (Some (after_going_on f.site (with_new_values f.ask vs) (length vs) h)))
 goes_row old new s a k vs h x (Some (frames.Holding f)) is e b =
     subst (λ (g : Frame). FrameBecomes old new s (Some g))
-    (ap (λ (y : Next). gone_to y (request f.site (revalued f.ask vs))) e ∙ goes_to a (revalued f.ask vs) f.site (length vs) h (ap (λ (y : Ask). y.name) is.0 ∙ same_name f.ask vs)) b
+    (ap (λ (y : Next). gone_to y (request f.site (with_new_values f.ask vs))) e ∙ goes_to a (with_new_values f.ask vs) f.site (length vs) h (ap (λ (y : Ask). y.name) is.0 ∙ same_name f.ask vs)) b
 goes_row old new s a k vs h x (Some (frames.Waiting f)) is e b =
     subst (λ (g : Frame). FrameBecomes old new s (Some g))
-    (ap (λ (y : Next). gone_to y (request f.site (revalued f.ask vs))) e ∙ goes_to a (revalued f.ask vs) f.site (length vs) h (ap (λ (y : Ask). y.name) is.0 ∙ same_name f.ask vs)) b
+    (ap (λ (y : Next). gone_to y (request f.site (with_new_values f.ask vs))) e ∙ goes_to a (with_new_values f.ask vs) f.site (length vs) h (ap (λ (y : Ask). y.name) is.0 ∙ same_name f.ask vs)) b
 goes_row old new s a k vs h x _ is e b = tt
 
 -- it ends

@@ -12,7 +12,7 @@ use Rattle.its_files.specs.Files.{Store}
 use Rattle.its_jobs.specs.Table.{Table, job_at}
 use Rattle.its_word.specs.declared.calls.Exit.{Exit}
 use Rattle.its_plain.specs.Machine.{Pipe}
-use Rattle.its_plain.specs.Own.{left_with}
+use Rattle.its_plain.specs.Own.{after_exit}
 use Rattle.its_plain.specs.OperatorClock.{clock_end}
 use Rattle.its_world.specs.Filed.{Ringed}
 use Rattle.its_world.specs.Tidy.{channel_by, channel_at, Across, Tidy}
@@ -75,7 +75,7 @@ pub tidy_put : (old new : World) (s : ℕ) (c : Core) (i j : Job) (f : Option Fr
 tidy_put old new s c i j f r was same b tidy =
     tidy_becomes old new s c (Some j) f r b (λ h. cc) (λ h. cc) (λ n. ap (λ cs. slice_index_or cs n Closed) same ∙ sym (ap (λ o. channel_by o n) was)) tidy
 
-pub tidy_left : (old new : World) (s : ℕ) (e : Exit) (i j : Job) → Some j ≡ job_at old.jobs s → i ≡ left_with e j → JobBecomes old new s i → Tidy old → Tidy new
+pub tidy_left : (old new : World) (s : ℕ) (e : Exit) (i j : Job) → Some j ≡ job_at old.jobs s → i ≡ after_exit e j → JobBecomes old new s i → Tidy old → Tidy new
 tidy_left old new s e i j was is b tidy =
     tidy_put old new s (core_at old.core s) j i (frame_at old.frames.items s) (clear_at old.core s) (sym was) (ap (λ (x : Job). x.channels) is) b tidy
 

@@ -21,12 +21,12 @@ use Rattle.its_plain.specs.CallStep.{among, decision}
 use Rattle.its_plain.specs.Decide.{call_named, target, reach}
 use Rattle.its_plain.specs.Machine.{Whole, Machine}
 use Rattle.its_plain.specs.Own.{with_stores}
-use Rattle.its_stepped.specs.Commit.{committed}
+use Rattle.its_stepped.specs.Commit.{after_commit}
 use Rattle.its_stepped.specs.Duty.{Duty, Meets, GivenBy, IsTried}
 use Rattle.its_stepped.specs.SlotSame.{SlotSame}
 use Rattle.its_stepped.specs.Sound.{IsWaitable, Stands, Debts, SoundFrame, SoundBy, Sound}
 use Rattle.its_stepped.specs.State.{State, plain, seen}
-use Rattle.its_stepped.specs.Tick.{Ticked, helped_if, helps, prepared_for, waits, tried, tried_by, held_on, tick_in, tick_unless, tick_of, tick}
+use Rattle.its_stepped.specs.Tick.{Ticked, after_help_if, helps, with_preparation, waits, tried, tried_by, held_on, tick_in, tick_unless, tick_of, tick}
 use Rattle.its_stepped.specs.Unwind.{all_unwound}
 use Rattle.its_stepped.specs.Forest.{Forest}
 use Rattle.its_stepped.proofs.CallLaws.{decision_behind}
@@ -46,7 +46,7 @@ use Rattle.its_commit.proofs.CanLaws.{DecisionCan}
 
 -- the tick that carries a decision out
 abbrev pub carried : State → ℕ → Holding → Decision → Ticked
-carried v j h d = record { state = committed v j h.site h.ask h.owes d; pace = pace_of d }
+carried v j h d = record { state = after_commit v j h.site h.ask h.owes d; pace = pace_of d }
 
 -- a call that waits finds the state as it is: it reaches nobody, and is none on files
 abbrev pub Waiting_in : State → State → Ask → Decision → Type 0
@@ -55,12 +55,12 @@ Waiting_in w v a _ = Unit {0}
 
 tried_carried : (w v : State) (j : ℕ) (own : Whole) (h : Holding) (d : Decision) → Waiting_in w v h.ask d → Duty v j own h.site h.ask h.owes d
     → tried w v j h.site h.ask h.owes d ≡ carried v j h d
-tried_carried w v j own h (Waits r) same duty = ap (λ (x : State). waits (committed x j h.site h.ask h.owes (Waits r))) (sym (same duty.waitable))
+tried_carried w v j own h (Waits r) same duty = ap (λ (x : State). waits (after_commit x j h.site h.ask h.owes (Waits r))) (sym (same duty.waitable))
 tried_carried w v j own h _ same duty = refl
 
 -- the state that the commit of a raw job's call finds
 abbrev pub prepared : State → ℕ → Whole → Ask → State
-prepared w j q a = helped_if (helps q a) (all_unwound (reach w.raw j q a) w)
+prepared w j q a = after_help_if (helps q a) (all_unwound (reach w.raw j q a) w)
 
 waits_still : (w : State) (j : ℕ) (q : Whole) (a : Ask) (r : Wait) (o : Option ℕ) → target q a ≡ o → ((s : ℕ) → target q a ≡ Some s → IsWaitable (call_named a.name) → Goes_on (Waits r))
     → IsWaitable (call_named a.name) → all_unwound (reach w.raw j q a) w ≡ w
@@ -68,7 +68,7 @@ waits_still w j q a r None e g wait = ap (λ (ks : List ℕ). all_unwound ks w) 
 waits_still w j q a r (Some s) e g wait = absurd (g s e wait)
 
 waiting_by : (w : State) (j : ℕ) (q : Whole) (a : Ask) (d : Decision) (b : Bool) → helps q a ≡ b → (b ≡ true → IsWaitable (call_named a.name) → Goes_on d)
-    → ((s : ℕ) → target q a ≡ Some s → IsWaitable (call_named a.name) → Goes_on d) → Waiting_in w (helped_if b (all_unwound (reach w.raw j q a) w)) a d
+    → ((s : ℕ) → target q a ≡ Some s → IsWaitable (call_named a.name) → Goes_on d) → Waiting_in w (after_help_if b (all_unwound (reach w.raw j q a) w)) a d
 waiting_by w j q a (Waits r) true e h g = λ wait. absurd (h refl wait)
 waiting_by w j q a (Waits r) false e h g = λ wait. waits_still w j q a r (target q a) refl g wait
 waiting_by w j q a _ z e h g = tt
@@ -105,8 +105,8 @@ found_cleared w j q h sound is s =
     let u : State = all_unwound ks w in
     let b : Bool = helps q h.ask in
     let first : SlotSame w u j = all_unwound_others ks w j (ap (among j) (sym (reach_plain w j (w.frames j) q h.ask)) ∙ s.meets.apart) in
-    let later : SlotSame u (helped_if b u) j = helped_if_others b u j in
-    let shows : plain (helped_if b u) ≡ plain w = helped_if_plain b u ∙ all_unwound_plain ks w sound in
+    let later : SlotSame u (after_help_if b u) j = helped_if_others b u j in
+    let shows : plain (after_help_if b u) ≡ plain w = helped_if_plain b u ∙ all_unwound_plain ks w sound in
     record {
       job = later.job ∙ first.job ∙ is;
       frame = later.frame ∙ first.frame;
@@ -114,7 +114,7 @@ found_cleared w j q h sound is s =
       stands = ap standing_of (later.frame ∙ first.frame) ∙ s.stands;
       sound = helped_if_sound b u (all_unwound_sound ks w sound);
       unmarked = λ e. helped_if_unmarked b u e;
-      free = λ k e. (helped_if_others b u k).frame ∙ all_unwound_none ks w k sound (ap (among k) (sym (same_reach w (helped_if b u) j q h.ask shows)) ∙ e);
+      free = λ k e. (helped_if_others b u k).frame ∙ all_unwound_none ks w k sound (ap (among k) (sym (same_reach w (after_help_if b u) j q h.ask shows)) ∙ e);
       shows = shows;
     }
 
@@ -139,7 +139,7 @@ found_tries w j q h sound forest is housed s =
     let v : State = prepared w j q h.ask in
     let d : Decision = decision v.raw j q h.ask in
     let c : Cleared w v j q h = found_cleared w j q h sound is s in
-    let finds : prepared_for w j own h.ask ≡ v = prepared_seen w j q h.ask in
+    let finds : with_preparation w j own h.ask ≡ v = prepared_seen w j q h.ask in
     let still : StillAt v (target own h.ask) =
     still_at v (target own h.ask) (λ k e. c.free k (target_reached v.raw j q h.ask k (sym (target_seen (w.frames j) q h.ask) ∙ e))) in
     let decides : decision (plain w) j own h.ask ≡ d =
@@ -248,10 +248,10 @@ unfolding state_of
 ready_there old mid s q h d t = subst (λ (o : Option Holding). IfSome o (λ f. CanCommit (state_of mid) s f d)) (sym t.cleared.stands) t.ready
 
 pub ticked : (old mid new : World) (s : ℕ) (q : Whole) (h : Holding) (d : Decision) → Tries (state_of old) (state_of mid) s q h d
-    → IfSome (standing_of (frame_at mid.frames.items s)) (λ f. state_of new ≡ committed (state_of mid) s f.site f.ask f.owes d)
+    → IfSome (standing_of (frame_at mid.frames.items s)) (λ f. state_of new ≡ after_commit (state_of mid) s f.site f.ask f.owes d)
     → record { state = state_of new; pace = pace_of d } ≡ tick (state_of old) s
 unfolding state_of
 ticked old mid new s q h d t c =
-    let made : state_of new ≡ committed (state_of mid) s h.site h.ask h.owes d =
-    subst (λ (o : Option Holding). IfSome o (λ f. state_of new ≡ committed (state_of mid) s f.site f.ask f.owes d)) t.cleared.stands c in
+    let made : state_of new ≡ after_commit (state_of mid) s h.site h.ask h.owes d =
+    subst (λ (o : Option Holding). IfSome o (λ f. state_of new ≡ after_commit (state_of mid) s f.site f.ask f.owes d)) t.cleared.stands c in
     ap (λ (x : State). record { state = x; pace = pace_of d }) made ∙ sym t.ticks

@@ -7,7 +7,7 @@ use Rattle.its_core.specs.Cores.{core_at}
 use Rattle.its_core.specs.Frames.{frames_drop_all}
 use Rattle.its_word.specs.Limits.{slots}
 use Rattle.its_jobs.specs.Table.{Table}
-use Rattle.its_plain.specs.Change.{shut_on, superiors}
+use Rattle.its_plain.specs.Change.{after_shut, superiors}
 use Rattle.its_plain.specs.Machine.{Shut}
 use Rattle.its_stepped.specs.SlotSame.{SlotSame}
 use Rattle.its_stepped.specs.State.{State}
@@ -56,7 +56,7 @@ pub record Empties (old new : World) (s : ℕ) : Type 0 where
 
 -- slot k: this is done to it if its job is to go; else its channels on jobs that go are closed
 pub record SlotSwept (gone : ℕ → Bool) (old new : State) (k : ℕ) : Type 0 where
-  pub job : gone k ≡ false → new.raw.jobs k ≡ option_map (shut_on gone) (old.raw.jobs k)
+  pub job : gone k ≡ false → new.raw.jobs k ≡ option_map (after_shut gone) (old.raw.jobs k)
   pub frame : new.frames k ≡ (if gone k then None else old.frames k)
   pub page : new.reserved k ≡ old.reserved k
 

@@ -6,7 +6,7 @@ ghost use Rattle.its_word.specs.Core.{can_store};
 ghost use Rattle.its_word.specs.Tree.{least_free};
 ghost use Rattle.its_core.specs.Frames.{frames_map, frames_unmap};
 ghost use Rattle.its_plain.specs.CallLink.{words_in};
-ghost use Rattle.its_plain.specs.Change.{console_in, on_console, on_link, poke, protected, put_to, taken_from, with_alarm, with_inf, with_page_at, with_received, with_sent};
+ghost use Rattle.its_plain.specs.Change.{console_in, on_console, on_link, poke, with_protection, after_put, after_take, with_alarm, with_inf, with_page_at, with_received, with_sent};
 ghost use Rattle.its_frame.specs.declared.change.Change.TheVariants.{Make, Map, Open};
 ghost use Rattle.its_plain.specs.Machine.{Shut, changed, core_of, limit};
 ghost use Rattle.its_plain.specs.Own.{with_registers, with_stores, with_variable};
@@ -137,7 +137,7 @@ fn open(w: &mut World, slot: u8, n: u8, on: Opened)
 fn take(w: &mut World, console: u8)
     requires console { console < 8 }
     requires tidy { Tidy w.old }
-    ensures row { state_of w.new ≡ with_raw (state_of w.old) (on_console (state_of w.old).raw console taken_from) }
+    ensures row { state_of w.new ≡ with_raw (state_of w.old) (on_console (state_of w.old).raw console after_take) }
     ensures pages { w.new.core.frames ≡ w.old.core.frames }
     ensures tidy { Tidy w.new }
 {
@@ -150,7 +150,7 @@ fn put(w: &mut World, console: u8, byte: u8)
     requires console { console < 8 }
     requires room { length ((state_of w.old).raw.consoles console).output < most_waiting }
     requires tidy { Tidy w.old }
-    ensures row { state_of w.new ≡ with_raw (state_of w.old) (on_console (state_of w.old).raw console (put_to byte)) }
+    ensures row { state_of w.new ≡ with_raw (state_of w.old) (on_console (state_of w.old).raw console (after_put byte)) }
     ensures pages { w.new.core.frames ≡ w.old.core.frames }
     ensures tidy { Tidy w.new }
 {
@@ -298,7 +298,7 @@ fn unmap(w: &mut World, slot: u8, page: u8)
 fn protect(w: &mut World, slot: u8, page: u8, writable: bool)
     requires can { HasPage (state_of w.old).raw slot page }
     requires tidy { Tidy w.old }
-    ensures row { state_of w.new ≡ in_raw (state_of w.old) slot (protected page writable) }
+    ensures row { state_of w.new ≡ in_raw (state_of w.old) slot (with_protection page writable) }
     ensures pages { w.new.core.frames ≡ w.old.core.frames }
     ensures tidy { Tidy w.new }
 {

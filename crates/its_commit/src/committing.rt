@@ -3,9 +3,9 @@ ghost use Rattle.std.specs.Prelude.{◌≡◌, ◌<◌, ◌≤◌, ◌++◌, ◌
 ghost use Rattle.its_word.specs.declared.calls.Owed.TheVariants.{Leave};
 ghost use Rattle.its_word.specs.Limits.{slots};
 ghost use Rattle.its_jobs.specs.Table.{job_at};
-ghost use Rattle.its_plain.specs.Arguments.{debts, revalued};
+ghost use Rattle.its_plain.specs.Arguments.{debts, with_new_values};
 ghost use Rattle.its_plain.specs.Decide.{call_named};
-ghost use Rattle.its_stepped.specs.Commit.{committed, gone_on, owed_parts, owed_store, sleeps};
+ghost use Rattle.its_stepped.specs.Commit.{after_commit, after_going_on, owed_parts, owed_store, sleeps};
 ghost use Rattle.its_stepped.specs.State.{ending, waiting};
 ghost use Rattle.its_world.specs.Tidy.{Tidy};
 ghost use Rattle.its_commit.specs.Built.{backed};
@@ -31,7 +31,7 @@ pub fn carry_out(w: &mut World, slot: u8, decision: Decision)
     requires stands { is_some (standing_of (frame_at w.old.frames.items slot)) ≡ true }
     requires ready { IfSome (standing_of (frame_at w.old.frames.items slot)) (λ f. CanCommit (state_of w.old) slot f decision) }
     requires tidy { Tidy w.old }
-    ensures row { IfSome (standing_of (frame_at w.old.frames.items slot)) (λ f. state_of w.new ≡ committed (state_of w.old) slot f.site f.ask f.owes decision) }
+    ensures row { IfSome (standing_of (frame_at w.old.frames.items slot)) (λ f. state_of w.new ≡ after_commit (state_of w.old) slot f.site f.ask f.owes decision) }
     ensures pages { w.new.core.frames ≡ pages_carried decision slot (state_of w.old) w.old.core.frames }
     ensures tidy { Tidy w.new }
 {
@@ -95,7 +95,7 @@ fn go_on(w: &mut World, slot: u8, held: Option<Held>, values: &[Word])
     requires stands { is_some (standing_of (frame_at w.old.frames.items slot)) ≡ true }
     requires few { length values.now ≤ 2 }
     requires tidy { Tidy w.old }
-    ensures row { IfSome (standing_of (frame_at w.old.frames.items slot)) (λ f. FrameBecomes w.old w.new slot (Some (gone_on f.site (revalued f.ask values.now) (length values.now) held))) }
+    ensures row { IfSome (standing_of (frame_at w.old.frames.items slot)) (λ f. FrameBecomes w.old w.new slot (Some (after_going_on f.site (with_new_values f.ask values.now) (length values.now) held))) }
     ensures pages { w.new.core.frames ≡ w.old.core.frames }
     ensures tidy { Tidy w.new }
 {

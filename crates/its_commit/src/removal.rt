@@ -8,7 +8,7 @@ ghost use Rattle.its_core.specs.Cores.{core_at, clear_at};
 ghost use Rattle.its_core.specs.Frames.{frames_drop_all};
 ghost use Rattle.its_frame.specs.declared.change.Change.TheVariants.{Remove};
 ghost use Rattle.its_jobs.specs.Table.{job_at, superior_at, in_tree};
-ghost use Rattle.its_plain.specs.Change.{superiors, shut_on, is_gone, passed_on};
+ghost use Rattle.its_plain.specs.Change.{superiors, after_shut, is_gone, holder_after_removal};
 ghost use Rattle.its_stepped.specs.Commit.{effect_on};
 ghost use Rattle.its_stepped.specs.Sound.{Sound};
 ghost use Rattle.its_world.specs.Tidy.{Tidy};
@@ -122,7 +122,7 @@ fn drop_core(w: &mut World, slot: u8)
 fn shut_channels(w: &mut World, root: u8, slot: u8)
     requires slot { slot < slots }
     requires tidy { Tidy w.old }
-    ensures row { state_of w.new ≡ in_raw (state_of w.old) slot (shut_on (in_tree (superior_at w.old.jobs) root)) }
+    ensures row { state_of w.new ≡ in_raw (state_of w.old) slot (after_shut (in_tree (superior_at w.old.jobs) root)) }
     ensures pages { w.new.core.frames ≡ w.old.core.frames }
     ensures tidy { Tidy w.new }
 {
@@ -145,7 +145,7 @@ fn shut_each(jobs: &Jobs, root: u8, channels: &mut [Channel])
 /// Passes the consoles that jobs of a tree hold to the superior of the root, or to nobody if it has none.
 #[tactic(auto, using(its_machine::proofs::TurningLaws::turning_start, its_machine::proofs::TurningLaws::turning_more, its_machine::proofs::TurningLaws::turning_end))]
 fn pass_on(jobs: &Jobs, root: u8, holders: &mut [Option<u8>])
-    ensures { (c : ℕ) → slice_index_or holders.new c None ≡ passed_on (in_tree (superior_at jobs.now) root) (superior_at jobs.now root) (slice_index_or holders.old c None) }
+    ensures { (c : ℕ) → slice_index_or holders.new c None ≡ holder_after_removal (in_tree (superior_at jobs.now) root) (superior_at jobs.now root) (slice_index_or holders.old c None) }
 {
     let heir = jobs.superior(root);
     for c in 0..holders.len() {
@@ -155,7 +155,7 @@ fn pass_on(jobs: &Jobs, root: u8, holders: &mut [Option<u8>])
 
 /// The holder of a console after the removal of a tree, whose consoles pass to an heir.
 fn passed(jobs: &Jobs, root: u8, heir: Option<u8>, holder: Option<u8>) -> Option<u8>
-    ensures { result ≡ passed_on (in_tree (superior_at jobs.now) root) heir holder }
+    ensures { result ≡ holder_after_removal (in_tree (superior_at jobs.now) root) heir holder }
 {
     match holder {
         Some(h) => {

@@ -10,7 +10,7 @@ ghost use Rattle.its_plain.specs.CallDevice.{close_call, iot_call, open_call, si
 ghost use Rattle.its_plain.specs.CallStep.{decision};
 ghost use Rattle.its_plain.specs.Decide.{call_named, decided, target};
 ghost use Rattle.its_plain.specs.OperatorClock.{clock_end};
-ghost use Rattle.its_plain.specs.Own.{advanced, exit_of};
+ghost use Rattle.its_plain.specs.Own.{with_advance, exit_of};
 ghost use Rattle.its_decide.specs.Called.{looks};
 ghost use Rattle.its_decide.specs.Fits.{SeenFits};
 ghost use Rattle.its_decide.specs.Seen.{machine_seen, raw_with};
@@ -140,7 +140,7 @@ impl Caller<'_> {
     /// The channel of the call is closed.
     fn shut(&self) -> Decision
         requires { input self.now.ask.now 0 < 16 }
-        ensures { result ≡ Ends (record { items = Shut (input self.now.ask.now 0) ∷ [] }) (record { items = [] }) (exit_of (advanced 2 self.now.job.now)) }
+        ensures { result ≡ Ends (record { items = Shut (input self.now.ask.now 0) ∷ [] }) (record { items = [] }) (exit_of (with_advance 2 self.now.job.now)) }
     {
         self.finishes_with(Change::Shut {
             channel: self.input(0).value() as u8,

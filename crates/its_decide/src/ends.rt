@@ -3,7 +3,7 @@ ghost use Rattle.std.specs.Prelude.{◌≡◌, ◌<◌, ◌-◌, ◌^◌, ◌∷
 ghost use Rattle.std.specs.Option.{option_to_list};
 ghost use Rattle.its_frame.specs.declared.decision.Decision.TheVariants.{Ends};
 ghost use Rattle.its_plain.specs.Job.{IOC as IOC_BIT, bit_of, with_pending};
-ghost use Rattle.its_plain.specs.Own.{advanced, exit_of};
+ghost use Rattle.its_plain.specs.Own.{with_advance, exit_of};
 ghost use Rattle.its_plain.specs.Tests.{goes, number_at, out};
 
 use super::caller::Caller;
@@ -31,7 +31,7 @@ impl Caller<'_> {
     /// The registers of the caller whose call is over: PC some words further, first part done cleared.
     pub(crate) fn past(&self, words: u32) -> Exit
         requires { words < 2 ^ 18 }
-        ensures { result ≡ exit_of (advanced words self.now.job.now) }
+        ensures { result ≡ exit_of (with_advance words self.now.job.now) }
     {
         Exit {
             pc: (self.job.pc % ADDRESSES + words) % ADDRESSES,
@@ -49,21 +49,21 @@ impl Caller<'_> {
 
     /// The call finishes: PC past it and the instruction after it.
     pub(crate) fn finishes(&self, stores: ArrayVec<Store, 2>) -> Decision
-        ensures { result ≡ Ends (record { items = [] }) stores (exit_of (advanced 2 self.now.job.now)) }
+        ensures { result ≡ Ends (record { items = [] }) stores (exit_of (with_advance 2 self.now.job.now)) }
     {
         ends(None, stores, self.past(2))
     }
 
     /// The call finishes, and does one thing outside its job's words and registers.
     pub(crate) fn finishes_with(&self, change: Change) -> Decision
-        ensures { result ≡ Ends (record { items = change ∷ [] }) (record { items = [] }) (exit_of (advanced 2 self.now.job.now)) }
+        ensures { result ≡ Ends (record { items = change ∷ [] }) (record { items = [] }) (exit_of (with_advance 2 self.now.job.now)) }
     {
         ends(Some(change), ArrayVec::new(), self.past(2))
     }
 
     /// The call fails: the number is stored at its error address, if it has one, and PC is past the call.
     pub(crate) fn fails(&self, number: u8) -> Decision
-        ensures { result ≡ Ends (record { items = [] }) (record { items = number_at self.now.ask.now.error number }) (exit_of (advanced 1 self.now.job.now)) }
+        ensures { result ≡ Ends (record { items = [] }) (record { items = number_at self.now.ask.now.error number }) (exit_of (with_advance 1 self.now.job.now)) }
     {
         let stores = store_at(self.ask.error, Word::new(u64::from(number)));
         ends(None, stores, self.past(1))
@@ -80,7 +80,7 @@ impl Caller<'_> {
 
     /// `.IOT` fails: IOC is pending, and PC is past the call.
     pub(crate) fn ioc(&self) -> Decision
-        ensures { result ≡ Ends (record { items = [] }) (record { items = [] }) (exit_of (with_pending (advanced 1 self.now.job.now) IOC_BIT)) }
+        ensures { result ≡ Ends (record { items = [] }) (record { items = [] }) (exit_of (with_pending (with_advance 1 self.now.job.now) IOC_BIT)) }
     {
         let mut exit = self.past(1);
         exit.pend1 = exit.pend1 | Word::new(IOC);

@@ -5,7 +5,7 @@ ghost use Rattle.its_frame.specs.declared.decision.Decision.TheVariants.{Ends};
 ghost use Rattle.its_files.specs.Files.{directory, entry_at, file_at, is_file, names_at};
 ghost use Rattle.its_plain.specs.Arguments.{input};
 ghost use Rattle.its_plain.specs.CallFile.{access, access_to, file_named, fillen, iot_reads, iot_writes, opens_as, opens_disk, siot_reads, siot_write, siot_writes, words_by, words_of};
-ghost use Rattle.its_plain.specs.Own.{advanced, exit_of};
+ghost use Rattle.its_plain.specs.Own.{with_advance, exit_of};
 ghost use Rattle.its_plain.specs.Tests.{out};
 ghost use Rattle.its_word.specs.Byte.{has_size};
 ghost use Rattle.its_word.specs.declared.jobs.Channel.TheVariants.{Reading, Writing};
@@ -89,7 +89,7 @@ impl Caller<'_> {
 
     /// FILLEN finishes, with a number of words as output.
     fn fillen_is(&self, words: u32) -> Decision
-        ensures { result ≡ Ends (record { items = [] }) (record { items = out self.now.ask.now.outputs.items words }) (exit_of (advanced 2 self.now.job.now)) }
+        ensures { result ≡ Ends (record { items = [] }) (record { items = out self.now.ask.now.outputs.items words }) (exit_of (with_advance 2 self.now.job.now)) }
     {
         self.finishes(self.output(Word::new(u64::from(words))))
     }

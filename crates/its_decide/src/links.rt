@@ -7,7 +7,7 @@ ghost use Rattle.its_frame.specs.declared.change.Change.TheVariants.{Part};
 ghost use Rattle.its_frame.specs.declared.decision.Decision.TheVariants.{Ends};
 ghost use Rattle.its_plain.specs.Arguments.{input};
 ghost use Rattle.its_plain.specs.CallLink.{can_open, iot_receives, iot_sends, joins, link_named, makes_link, opens_end, opens_link, siot_receive, siot_receives, siot_send, siot_sends};
-ghost use Rattle.its_plain.specs.Own.{advanced, exit_of};
+ghost use Rattle.its_plain.specs.Own.{with_advance, exit_of};
 ghost use Rattle.its_decide.specs.Called.{looks};
 
 use super::caller::Caller;
@@ -91,7 +91,7 @@ impl Caller<'_> {
     /// CLOSE of a channel on a link: the end is closed with it.
     pub(crate) fn close_end(&self, link: u8, write: bool) -> Decision
         requires { input self.now.ask.now 0 < 16 }
-        ensures { result ≡ Ends (record { items = Part (input self.now.ask.now 0) link write ∷ [] }) (record { items = [] }) (exit_of (advanced 2 self.now.job.now)) }
+        ensures { result ≡ Ends (record { items = Part (input self.now.ask.now 0) link write ∷ [] }) (record { items = [] }) (exit_of (with_advance 2 self.now.job.now)) }
     {
         self.finishes_with(Change::Part {
             channel: self.input(0).value() as u8,

@@ -4,7 +4,7 @@ ghost use Rattle.its_word.specs.Limits.{slots};
 ghost use Rattle.its_plain.specs.Arguments.{input};
 ghost use Rattle.its_frame.specs.Variables.{variable_named};
 ghost use Rattle.its_plain.specs.CallBasic.{by_oneself, by_superior, other_variable, own_variable, usrvar, value_of_other};
-ghost use Rattle.its_plain.specs.Own.{advanced, exit_of, number_or_ones, variable_of, with_variable};
+ghost use Rattle.its_plain.specs.Own.{with_advance, exit_of, number_or_ones, variable_of, with_variable};
 ghost use Rattle.its_decide.specs.Called.{looks};
 ghost use Rattle.its_decide.specs.Seen.{raw_with};
 
@@ -57,7 +57,7 @@ impl Caller<'_> {
     /// The registers of the caller whose call finishes and sets a variable of its own; None if it may not set that itself.
     #[tactic(auto, unfolding(its_plain::specs::Own::with_variable))]
     fn set(&self, variable: Variable, value: Word) -> Option<Exit>
-        ensures { result ≡ (if by_oneself variable then Some (exit_of (with_variable variable value (advanced 2 self.now.job.now))) else None) }
+        ensures { result ≡ (if by_oneself variable then Some (exit_of (with_variable variable value (with_advance 2 self.now.job.now))) else None) }
     {
         let mut exit = self.past(2);
         match variable {

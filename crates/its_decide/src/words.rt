@@ -5,7 +5,7 @@ ghost use Rattle.its_frame.specs.declared.change.Change.TheVariants.{Move};
 ghost use Rattle.its_frame.specs.declared.decision.Decision.TheVariants.{Ends};
 ghost use Rattle.its_plain.specs.Arguments.{input};
 ghost use Rattle.its_plain.specs.CallFile.{siot_read};
-ghost use Rattle.its_plain.specs.Own.{advanced, exit_of};
+ghost use Rattle.its_plain.specs.Own.{with_advance, exit_of};
 ghost use Rattle.its_decide.specs.Called.{looks};
 
 use super::caller::Caller;
@@ -37,7 +37,7 @@ impl Caller<'_> {
 
     /// `.IOT` is done, and stores a word at E.
     pub(crate) fn iot_gets(&self, change: Option<Change>, word: Word) -> Decision
-        ensures { result ≡ Ends (record { items = option_to_list change }) (record { items = record { at = slice_index_or self.now.ask.now.outputs.items 0 0; word = word } ∷ [] }) (exit_of (advanced 1 self.now.job.now)) }
+        ensures { result ≡ Ends (record { items = option_to_list change }) (record { items = record { at = slice_index_or self.now.ask.now.outputs.items 0 0; word = word } ∷ [] }) (exit_of (with_advance 1 self.now.job.now)) }
     {
         ends(change, store_at(Some(self.address()), word), self.past(1))
     }

@@ -8,10 +8,10 @@ use Rattle.its_word.specs.declared.calls.Exit.{Exit}
 use Rattle.its_word.specs.declared.plan.Store.{Store}
 use Rattle.its_frame.specs.declared.change.Change.{Change}
 use Rattle.its_frame.specs.declared.change.Change.TheVariants as changes
-use Rattle.its_plain.specs.CallStep.{ended}
-use Rattle.its_plain.specs.Change.{effect, effects, in_job, on_slot, removed, superiors}
+use Rattle.its_plain.specs.CallStep.{after_end}
+use Rattle.its_plain.specs.Change.{effect, effects, in_job, on_slot, after_removal, superiors}
 use Rattle.its_plain.specs.Machine.{Machine, Whole, core_of}
-use Rattle.its_plain.specs.Own.{leave, with_stores}
+use Rattle.its_plain.specs.Own.{after_leave, with_stores}
 use Rattle.its_plain.proofs.MachineLaws.{machine_is}
 use Rattle.its_machine.specs.Can.{CanMake, CanMakeAll, HasJob}
 use Rattle.its_machine.proofs.PartLaws.{on_slot_here, on_slot_other}
@@ -80,19 +80,19 @@ pub job_still : (mid new : Plain) (s : ℕ) (f : Whole → Whole) → machine_of
 job_still mid new s f e h = ap (λ (n : Machine). is_some (n.jobs s)) e ∙ slot_some (machine_of mid).jobs s f s ∙ h
 
 pub finished : (old mid put new : Plain) (s : ℕ) (m : Machine) (ss : List Store) (e : Exit) → Becomes old mid m → Becomes mid put (in_job (machine_of mid) s (with_stores ss))
-    → Becomes put new (in_job (machine_of put) s (leave e)) → Becomes old new (in_job m s (ended ss (leave e)))
+    → Becomes put new (in_job (machine_of put) s (after_leave e)) → Becomes old new (in_job m s (after_end ss (after_leave e)))
 finished old mid put new s m ss e a b c =
-    becomes_then old put new (in_job m s (with_stores ss)) (in_job m s (ended ss (leave e))) (λ n. in_job n s (leave e))
-    (becomes_then old mid put m (in_job m s (with_stores ss)) (λ n. in_job n s (with_stores ss)) a b refl) c (twice m s (with_stores ss) (leave e))
+    becomes_then old put new (in_job m s (with_stores ss)) (in_job m s (after_end ss (after_leave e))) (λ n. in_job n s (after_leave e))
+    (becomes_then old mid put m (in_job m s (with_stores ss)) (λ n. in_job n s (with_stores ss)) a b refl) c (twice m s (with_stores ss) (after_leave e))
 
-pub removed_is : (m : Machine) (s j : ℕ) → removed (superiors m) s m ≡ effect (changes.Remove s) j m
+pub removed_is : (m : Machine) (s j : ℕ) → after_removal (superiors m) s m ≡ effect (changes.Remove s) j m
 unfolding effect
 removed_is m s j = refl
 
-pub departed_can : (mid : Plain) (m : Machine) (s : ℕ) (cs : List Change) → machine_of mid ≡ removed (superiors m) s m → CanMakeAll cs s (effect (changes.Remove s) s m) → CanMakeAll cs s (machine_of mid)
+pub departed_can : (mid : Plain) (m : Machine) (s : ℕ) (cs : List Change) → machine_of mid ≡ after_removal (superiors m) s m → CanMakeAll cs s (effect (changes.Remove s) s m) → CanMakeAll cs s (machine_of mid)
 departed_can mid m s cs e h = subst (CanMakeAll cs s) (sym (e ∙ removed_is m s s)) h
 
-pub departed : (old mid new : Plain) (s : ℕ) (cs : List Change) → Becomes old mid (removed (superiors (machine_of old)) s (machine_of old)) → Becomes mid new (effects cs s (machine_of mid))
+pub departed : (old mid new : Plain) (s : ℕ) (cs : List Change) → Becomes old mid (after_removal (superiors (machine_of old)) s (machine_of old)) → Becomes mid new (effects cs s (machine_of mid))
     → Becomes old new (effects (changes.Remove s ∷ cs) s (machine_of old))
-departed old mid new s cs a b = becomes_then old mid new (removed (superiors (machine_of old)) s (machine_of old)) (effects (changes.Remove s ∷ cs) s (machine_of old)) (effects cs s) a b
+departed old mid new s cs a b = becomes_then old mid new (after_removal (superiors (machine_of old)) s (machine_of old)) (effects (changes.Remove s ∷ cs) s (machine_of old)) (effects cs s) a b
     (ap (effects cs s) (removed_is (machine_of old) s s))

@@ -25,7 +25,7 @@ use Rattle.its_frame.specs.declared.name.CallName.TheVariants.{Logout, Uclose}
 use Rattle.its_plain.specs.Arguments.{input}
 use Rattle.its_plain.specs.Decode.{ask}
 use Rattle.its_plain.specs.CallBasic.{channel_at as chan_at, is_oneself}
-use Rattle.its_plain.specs.CallStep.{Transition, acted, quiet_step, by_ask, decision, faulted, step, transition, is_made}
+use Rattle.its_plain.specs.CallStep.{Transition, acted, quiet_step, by_ask, decision, with_fault, step, transition, is_made}
 use Rattle.its_plain.specs.Change.{channel_in, in_job, superiors, superior_in}
 use Rattle.its_plain.specs.Decide.{argument_of, call_named, inferior_on, listed, reach, reach_by, target, target_by, with_below}
 use Rattle.its_plain.specs.Footprint.{SiteFits, among}
@@ -260,11 +260,11 @@ module _ (old mid new : Plain) (s : ℕ) (a : Ask) (ks : List ℕ) (d : Decision
 -- the decoding of a call faults
 module _ (old put new : Plain) (s : ℕ) (i k : Job) (f : Fault) (had : job_at old.jobs s ≡ Some i) (is : k ≡ with_pending i (bit_of f)) (b : JobBecomes old put s k)
     (e : new ≡ record put { touched = no_slots }) where
-  pub fault_row : Steps old new (quiet_step (in_job (machine_of old) s (faulted f)))
+  pub fault_row : Steps old new (quiet_step (in_job (machine_of old) s (with_fault f)))
   fault_row = record {
     machine = touched_machine put new no_slots e
-        ∙ slot_machine old put s (core_at old.core s) i k (faulted f) b had (ap (own_of old s) (sym is));
-    touched = step_touched new.touched (machine_of old) (in_job (machine_of old) s (faulted f)) [] (none_touched new.touched (ap (λ (p : Plain). p.touched) e)) (slot_some (machine_of old).jobs s (faulted f));
+        ∙ slot_machine old put s (core_at old.core s) i k (with_fault f) b had (ap (own_of old s) (sym is));
+    touched = step_touched new.touched (machine_of old) (in_job (machine_of old) s (with_fault f)) [] (none_touched new.touched (ap (λ (p : Plain). p.touched) e)) (slot_some (machine_of old).jobs s (with_fault f));
     place = ap (λ (p : Plain). p.place) e ∙ b.aside.place;
   }
 
@@ -297,9 +297,9 @@ module _ (p : Plain) (s : ℕ) (x : Site) (o : Option Transition) (c : CallsAt (
       (sym (c.is ∙ (λ t. by_ask (machine_of p) s (calls_own i had t) ((asks i r had e ∙ is) t)))) h
 
   pub calls_fault : (new : Plain) (i : Job) (f : Fault) (r : Result Ask Fault) → job_at p.jobs s ≡ Some i → r ≡ ask (core_at p.core s) x → r ≡ Err f
-      → Steps p new (quiet_step (in_job (machine_of p) s (faulted f))) → Makes true o p new
+      → Steps p new (quiet_step (in_job (machine_of p) s (with_fault f))) → Makes true o p new
   calls_fault new i f r had e is h = record {
-    transition = quiet_step (in_job (machine_of p) s (faulted f));
+    transition = quiet_step (in_job (machine_of p) s (with_fault f));
     is = c.is ∙ ap (by_ask (machine_of p) s c.own) (asks i r had e ∙ is);
     steps = h;
   }

@@ -9,7 +9,7 @@ use Rattle.its_word.specs.declared.plan.Store.{Store}
 use Rattle.its_frame.specs.declared.change.Change.{Change}
 use Rattle.its_frame.specs.declared.change.Change.TheVariants as changes
 use Rattle.its_frame.specs.declared.frame.Frame.{Frame}
-use Rattle.its_plain.specs.Change.{superior_in, left_job, is_gone, on_slot, inferior, poke, protected, removed, with_alarm, with_inf, with_page_at, effect, effects}
+use Rattle.its_plain.specs.Change.{superior_in, job_after_removal, is_gone, on_slot, inferior, poke, with_protection, after_removal, with_alarm, with_inf, with_page_at, effect, effects}
 use Rattle.its_plain.specs.Decide.{reach}
 use Rattle.its_plain.specs.Footprint.{Stands, among}
 use Rattle.its_plain.specs.Machine.{Shut, Linked, Whole, Machine, changed}
@@ -70,7 +70,7 @@ slot_alike : (jobs others : ℕ → Option Whole) (s : ℕ) (f : Whole → Whole
 slot_alike jobs others s f e = ap (λ (xs : ℕ → Option Whole). on_slot xs s f) e
 
 jobs_alike : (c : Change) (j : ℕ) (w : State) (m : Machine) → w.raw.jobs ≡ m.jobs → (effect_on c j w).raw.jobs ≡ (effect c j m).jobs
-unfolding effect_on effect removed
+unfolding effect_on effect after_removal
 jobs_alike (changes.Open n on) j w m e = slot_alike w.raw.jobs m.jobs j (on_channel n (λ c. opened_on on)) e
 jobs_alike (changes.Shut n) j w m e = slot_alike w.raw.jobs m.jobs j (on_channel n (λ c. Shut)) e
 jobs_alike (changes.Move n at) j w m e = slot_alike w.raw.jobs m.jobs j (on_channel n (at_position at)) e
@@ -80,9 +80,9 @@ jobs_alike (changes.Poke s a x) j w m e = slot_alike w.raw.jobs m.jobs s (with_s
 jobs_alike (changes.Set s v x) j w m e = slot_alike w.raw.jobs m.jobs s (with_registers (with_variable v x)) e
 jobs_alike (changes.Map s k) j w m e = slot_alike w.raw.jobs m.jobs s (with_page_at k (Some zero_page)) e
 jobs_alike (changes.Unmap s k) j w m e = slot_alike w.raw.jobs m.jobs s (with_page_at k None) e
-jobs_alike (changes.Protect s k on) j w m e = slot_alike w.raw.jobs m.jobs s (protected k on) e
+jobs_alike (changes.Protect s k on) j w m e = slot_alike w.raw.jobs m.jobs s (with_protection k on) e
 jobs_alike (changes.Make s u n) j w m e = ap (λ (jobs : ℕ → Option Whole). changed jobs s (Some (inferior j (jobs j) u n))) e
-jobs_alike (changes.Remove s) j w m e = λ t k. left_job (is_gone (λ i. superior_in (e t i)) s) (is_gone (λ i. superior_in (e t i)) s k) (e t k)
+jobs_alike (changes.Remove s) j w m e = λ t k. job_after_removal (is_gone (λ i. superior_in (e t i)) s) (is_gone (λ i. superior_in (e t i)) s k) (e t k)
 jobs_alike (changes.Inform s) j w m e = slot_alike w.raw.jobs m.jobs s with_inf e
 jobs_alike (changes.Arm alarm) j w m e = slot_alike w.raw.jobs m.jobs j (with_alarm alarm) e
 jobs_alike (changes.Join n l write x y) j w m e = slot_alike w.raw.jobs m.jobs j (on_channel n (λ c. Linked l write)) e

@@ -11,13 +11,13 @@ use Rattle.its_word.specs.declared.jobs.Channel.TheVariants.{Closed, Reading, Wr
 use Rattle.its_word.specs.declared.jobs.Job.{Job}
 use Rattle.its_core.specs.Cores.{core_at, clear_at}
 use Rattle.its_files.specs.Blocks.{blocks_used as stored_blocks, is_full as store_is_full}
-use Rattle.its_files.specs.Files.{Store, IsStore, entry_at, is_file, names_at, names_by, words_at, readers_at, directory, plain_directory, file_at, found, with_readers, with_draft, discarded, with_word, close, delete, rename, new_names, helped}
+use Rattle.its_files.specs.Files.{Store, IsStore, entry_at, is_file, names_at, names_by, words_at, readers_at, directory, plain_directory, file_at, found, with_readers, with_draft, after_discard, with_word, close, delete, rename, new_names, after_help}
 use Rattle.its_files.specs.declared.entry.CloseFault.{CloseFault}
 use Rattle.its_files.specs.declared.entry.Entry.TheVariants.{File, Draft}
 use Rattle.its_jobs.specs.Table.{job_at, superior_at}
 use Rattle.its_frame.specs.declared.change.Opened.TheVariants as opened
 use Rattle.its_pipes.specs.Pipes.{piped}
-use Rattle.its_plain.specs.Change.{files_closed, in_job, renamed, without_file}
+use Rattle.its_plain.specs.Change.{files_after_close, in_job, with_new_names, without_file}
 use Rattle.its_plain.specs.Machine.{Chan, Machine, Shut, Reads, Writes}
 use Rattle.its_plain.specs.OperatorClock.{clock_end}
 use Rattle.its_plain.specs.OperatorFiles.{channels_of}
@@ -214,7 +214,7 @@ module _ (old new : Plain) (s n : ℕ) (ls : s < slots) (ln : n < 16) (tidy : Ti
       (closed_kept old.files t old.jobs new.jobs s n f at tidy.across ls ln words (sym was) (one_channel old.jobs new.jobs s n Closed b.jobs (open_job old.jobs s n (Reading f at) (sym was) (λ e. cc))) made entry)
       (λ c. Shut) files (ap (λ (w : Store). w.mark) made) (λ some. refl)
 
-  pub shut_draft_comes : (t : Store) (k : ℕ) → ChannelBecomes old new s n Closed t → Writing k ≡ channel_at old.jobs s n → t ≡ discarded old.files k → directory t ≡ directory old.files
+  pub shut_draft_comes : (t : Store) (k : ℕ) → ChannelBecomes old new s n Closed t → Writing k ≡ channel_at old.jobs s n → t ≡ after_discard old.files k → directory t ≡ directory old.files
       → Only (entry_at old.files) (entry_at t) k None → Only (words_at old.files) (words_at t) k [] → Comes old new (in_job (machine_of old) s (on_channel n (λ c. Shut)))
   shut_draft_comes t k b was made files entry words = channel_comes Closed t b
       (discarded_kept old.files t old.jobs new.jobs s n k tidy.across ls ln [] (sym was) (one_channel old.jobs new.jobs s n Closed b.jobs (open_job old.jobs s n (Writing k) (sym was) (λ e. cc))) made entry words)
@@ -252,8 +252,8 @@ module _ (old new : Plain) (s n : ℕ) (ls : s < slots) (ln : n < 16) (tidy : Ti
 
   -- the draft becomes a file: the close is begun, all its parts are made, and the channel is closed
   pub close_comes : (t u : Store) (k : ℕ) → ChannelBecomes old new s n Closed u → Writing k ≡ channel_at old.jobs s n → close old.files k s ≡ Ok t → plain_directory t ≡ closed (file_at old.files k) (directory old.files)
-      → Same (entry_at old.files) (entry_at t) → Same (words_at old.files) (words_at t) → IsStore t → u ≡ helped t → u.mark ≡ None → directory u ≡ plain_directory t
-      → Comes old new (record (in_job (machine_of old) s (on_channel n (λ c. Shut))) { files = files_closed (chan_in (machine_of old) s n) (machine_of old).files })
+      → Same (entry_at old.files) (entry_at t) → Same (words_at old.files) (words_at t) → IsStore t → u ≡ after_help t → u.mark ≡ None → directory u ≡ plain_directory t
+      → Comes old new (record (in_job (machine_of old) s (on_channel n (λ c. Shut))) { files = files_after_close (chan_in (machine_of old) s n) (machine_of old).files })
   unfolding without_file
   close_comes t u k b was begun plain entry words whole made unmarked files =
       let some = open_job old.jobs s n (Writing k) (sym was) (λ e. cc) in
@@ -262,8 +262,8 @@ module _ (old new : Plain) (s n : ℕ) (ls : s < slots) (ln : n < 16) (tidy : Ti
       let c = on_draft k was in
       filed_comes old new s n Closed u b tidy unmarked
       (record { across = stays.across; chans = λ i m apart. stays.chans i m ∙ kept.chans i m apart })
-      (λ c. Shut) (files_closed (chan_in (machine_of old) s n) (machine_of old).files)
-      (files ∙ plain ∙ sym (λ i. files_closed (c i) (files_are old i)))
+      (λ c. Shut) (files_after_close (chan_in (machine_of old) s n) (machine_of old).files)
+      (files ∙ plain ∙ sym (λ i. files_after_close (c i) (files_are old i)))
       (λ h. refl)
 
   pub begin_can : (k : ℕ) → Writing k ≡ channel_at old.jobs s n → IsStore old.files → CanClose (machine_of old) (chan_in (machine_of old) s n) → (e : CloseFault) → close old.files k s ≡ Err e → ⊥
@@ -337,8 +337,8 @@ module _ (old new : Plain) (tidy : Tidy old) (d x y : ℕ) where
   pub rename_comes : (t : Store) (f u v : ℕ) → found old.files (d ∷ x ∷ y ∷ []) ≡ Some f → IsStore old.files → is_file (entry_at old.files f) ≡ true → rename old.files f u v ≡ Ok t
       → directory t ≡ with_changed (names_at old.files f) (named (new_names old.files f u v)) (directory old.files)
       → Only (entry_at old.files) (entry_at t) f (Some (File (new_names old.files f u v) 0)) → Same (words_at old.files) (words_at t) → OnlyStore old new t
-      → Comes old new (record (machine_of old) { files = renamed (names_of d x y) u v (machine_of old).files })
+      → Comes old new (record (machine_of old) { files = with_new_names (names_of d x y) u v (machine_of old).files })
   rename_comes t f u v is whole file made files entry words o =
-      directory_comes t (renamed (names_of d x y) u v (machine_of old).files) o (renamed_stays old.files t old.jobs f tidy.across u v file made entry words)
-      (renamed_directory old.files whole t (names_of d x y) f u v is files ∙ sym (ap (renamed (names_of d x y) u v) (files_are old)))
+      directory_comes t (with_new_names (names_of d x y) u v (machine_of old).files) o (renamed_stays old.files t old.jobs f tidy.across u v file made entry words)
+      (renamed_directory old.files whole t (names_of d x y) f u v is files ∙ sym (ap (with_new_names (names_of d x y) u v) (files_are old)))
       (ap (λ (w : Store). w.mark) (rename_is old.files t f u v made).1)

@@ -14,7 +14,7 @@ use Rattle.its_plain.specs.Alarm.{is_due, time_after}
 use Rattle.its_plain.specs.Change.{in_job, with_alarm}
 use Rattle.its_plain.specs.Job.{ALR, with_pending}
 use Rattle.its_plain.specs.Machine.{Machine}
-use Rattle.its_plain.specs.OperatorClock.{alarm_in, due, rung_if, at_clock, clocked_if, clocked, clock_end}
+use Rattle.its_plain.specs.OperatorClock.{alarm_in, due, after_alarm_if, at_clock, after_clock_if, after_clock, clock_end}
 use Rattle.its_plain.proofs.MachineLaws.{machine_is}
 use Rattle.its_stepped.specs.Alarmed.{Periodic, Alarmed}
 use Rattle.its_stepped.proofs.AlarmLaws.{coming_periodic}
@@ -112,7 +112,7 @@ module _ (c p t : ℕ) (old mid put new : Plain) (s : ℕ) (i : Job) (tidy : Tid
   pub went : s < length old.touched → RangAt c s old new
   went l = record {
     jobs = λ k. ap (λ (m : Machine). m.jobs k) gone ∙ rung_slot c p t (k == s) ((machine_of old).jobs k) (alarm_here k) (le-leb t c late)
-        ∙ ap (λ o. rung_if c ((k == s) && is_due c o) ((machine_of old).jobs k)) (sym (alarm_shown old k tidy));
+        ∙ ap (λ o. after_alarm_if c ((k == s) && is_due c o) ((machine_of old).jobs k)) (sym (alarm_shown old k tidy));
     rest = other_jobs (machine_of old) (machine_of new) (in_job (in_job (machine_of old) s (with_registers (λ j. with_pending j ALR))) s (with_alarm (Some (p, time_after c (p, t))))) gone refl;
     touched = λ k. let ts : put.touched ≡ old.touched = next.touched ∙ set.aside.touched in
         ap (λ (q : Plain). is_touched q k) mark ∙ ap (λ xs. slice_index_or (slice_set xs s true) k false) ts
@@ -152,7 +152,7 @@ still c s p a e no_more =
     let none : (k : ℕ) → ((k == s) && is_due c (alarm_at p.alarms.items k)) ≡ false =
     λ k. and_none (k == s) (is_due c (alarm_at p.alarms.items k)) (λ at. ap (λ n. is_due c (alarm_at p.alarms.items n)) (eqb-true k s at) ∙ ap (is_due c) e ∙ no_more) in
     record {
-      jobs = λ k. sym (ap (λ (b : Bool). rung_if c b ((machine_of p).jobs k)) (none k));
+      jobs = λ k. sym (ap (λ (b : Bool). after_alarm_if c b ((machine_of p).jobs k)) (none k));
       rest = refl;
       touched = λ k. or_no (is_touched p k) ((k == s) && is_due c (alarm_at p.alarms.items k)) (none k);
       alarms = λ k f. refl;
@@ -168,7 +168,7 @@ still_some c s a b p e early = still c s p (Some (a, b)) (sym e) (lt-leb b c ear
 -- slot after slot
 pub rang_starts : (c : ℕ) (p : Plain) → RangBelow c 0 p p
 rang_starts c p = record {
-  jobs = λ k. sym (ap (λ (b : Bool). rung_if c (b && is_due c (alarm_at p.alarms.items k)) ((machine_of p).jobs k)) (le-ltb k 0 (omega arith)));
+  jobs = λ k. sym (ap (λ (b : Bool). after_alarm_if c (b && is_due c (alarm_at p.alarms.items k)) ((machine_of p).jobs k)) (le-ltb k 0 (omega arith)));
   rest = refl;
   touched = λ k. or_no (is_touched p k) (nat_lt k 0 && is_due c (alarm_at p.alarms.items k)) (ap (λ (b : Bool). b && is_due c (alarm_at p.alarms.items k)) (le-ltb k 0 (omega arith)));
   alarms = λ k f. refl;
@@ -200,16 +200,16 @@ module _ (c n : ℕ) (old mid new : Plain) (a : RangBelow c n old mid) (b : Rang
     jobs = λ k. elim (cases_eq k n) [
       | inl e ↦
           b.jobs k
-          ∙ ap (λ (t : Bool). rung_if c (t && is_due c (alarm_at mid.alarms.items k)) ((machine_of mid).jobs k)) (eq-eqb k n e)
-          ∙ ap (λ (o : Option (ℕ × ℕ)). rung_if c (is_due c o) ((machine_of mid).jobs k)) (alarm_mid k e)
-          ∙ ap (rung_if c (is_due c (alarm_at old.alarms.items k)))
-          (a.jobs k ∙ ap (λ (t : Bool). rung_if c (t && is_due c (alarm_at old.alarms.items k)) ((machine_of old).jobs k)) (le-ltb k n (omega arith)))
-          ∙ sym (ap (λ (t : Bool). rung_if c (t && is_due c (alarm_at old.alarms.items k)) ((machine_of old).jobs k)) (lt-ltb k (n + 1) (omega arith)))
+          ∙ ap (λ (t : Bool). after_alarm_if c (t && is_due c (alarm_at mid.alarms.items k)) ((machine_of mid).jobs k)) (eq-eqb k n e)
+          ∙ ap (λ (o : Option (ℕ × ℕ)). after_alarm_if c (is_due c o) ((machine_of mid).jobs k)) (alarm_mid k e)
+          ∙ ap (after_alarm_if c (is_due c (alarm_at old.alarms.items k)))
+          (a.jobs k ∙ ap (λ (t : Bool). after_alarm_if c (t && is_due c (alarm_at old.alarms.items k)) ((machine_of old).jobs k)) (le-ltb k n (omega arith)))
+          ∙ sym (ap (λ (t : Bool). after_alarm_if c (t && is_due c (alarm_at old.alarms.items k)) ((machine_of old).jobs k)) (lt-ltb k (n + 1) (omega arith)))
       | inr ne ↦
           b.jobs k
-          ∙ ap (λ (t : Bool). rung_if c (t && is_due c (alarm_at mid.alarms.items k)) ((machine_of mid).jobs k)) (ne_eqb k n ne)
+          ∙ ap (λ (t : Bool). after_alarm_if c (t && is_due c (alarm_at mid.alarms.items k)) ((machine_of mid).jobs k)) (ne_eqb k n ne)
           ∙ a.jobs k
-          ∙ ap (λ (t : Bool). rung_if c (t && is_due c (alarm_at old.alarms.items k)) ((machine_of old).jobs k)) (below_next k n ne)
+          ∙ ap (λ (t : Bool). after_alarm_if c (t && is_due c (alarm_at old.alarms.items k)) ((machine_of old).jobs k)) (below_next k n ne)
     ];
     rest = b.rest ∙ ap (λ (u : Machine). record u { jobs = (machine_of new).jobs }) a.rest;
     touched = λ k. b.touched k ∙ ap (λ (t : Bool). t || ((k == n) && is_due c (alarm_at mid.alarms.items k))) (a.touched k) ∙ elim (cases_eq k n) [
@@ -242,8 +242,8 @@ module _ (old put new : Plain) (n c : ℕ) (tidy : Tidy old) (later : c ≡ old.
       r.rest ∙ ap (λ (m : Machine). record m { jobs = (machine_of new).jobs }) set_machine
       ∙ (λ t. record (machine_of old) {
         jobs = λ k. (r.jobs k
-            ∙ ap (λ (o : Option (ℕ × ℕ)). rung_if c (nat_lt k slots && is_due c o) ((machine_of put).jobs k)) (set_alarms k)
-            ∙ ap (λ (m : Machine). rung_if c (due c (machine_of old).jobs k) (m.jobs k)) set_machine) t;
+            ∙ ap (λ (o : Option (ℕ × ℕ)). after_alarm_if c (nat_lt k slots && is_due c o) ((machine_of put).jobs k)) (set_alarms k)
+            ∙ ap (λ (m : Machine). after_alarm_if c (due c (machine_of old).jobs k) (m.jobs k)) set_machine) t;
         clock = c;
       })
 
@@ -251,11 +251,11 @@ module _ (old put new : Plain) (n c : ℕ) (tidy : Tidy old) (later : c ≡ old.
   unfolding machine_of
   clock_is = refl
 
-  is_clocked : nat_lt (old.clock + n) clock_end ≡ true → clocked (machine_of old) n ≡ Ok (at_clock c (machine_of old))
-  unfolding clocked machine_of
-  is_clocked t = ap (clocked_if (machine_of old) n) t ∙ ap (λ (x : ℕ). Ok (at_clock x (machine_of old))) (sym later)
+  is_clocked : nat_lt (old.clock + n) clock_end ≡ true → after_clock (machine_of old) n ≡ Ok (at_clock c (machine_of old))
+  unfolding after_clock machine_of
+  is_clocked t = ap (after_clock_if (machine_of old) n) t ∙ ap (λ (x : ℕ). Ok (at_clock x (machine_of old))) (sym later)
 
-  pub clock_done : (b : Bool) → b ≡ nat_lt (old.clock + n) clock_end → b ≡ true → Clocks old new n (clocked (machine_of old) n)
+  pub clock_done : (b : Bool) → b ≡ nat_lt (old.clock + n) clock_end → b ≡ true → Clocks old new n (after_clock (machine_of old) n)
   clock_done b is fits = record {
     is = is_clocked (sym is ∙ fits) ∙ ap Ok (sym rang_machine);
     touched = λ k.
@@ -278,6 +278,6 @@ set_tidy old put c set below tidy = subst Tidy (sym set) (record {
   timed = below;
 })
 
-pub clock_refused : (p : Plain) (n : ℕ) (b : Bool) → b ≡ nat_lt (p.clock + n) clock_end → b ≡ false → clocked (machine_of p) n ≡ Err reasons.Range
-unfolding clocked machine_of
-clock_refused p n b is past = ap (clocked_if (machine_of p) n) (sym is ∙ past)
+pub clock_refused : (p : Plain) (n : ℕ) (b : Bool) → b ≡ nat_lt (p.clock + n) clock_end → b ≡ false → after_clock (machine_of p) n ≡ Err reasons.Range
+unfolding after_clock machine_of
+clock_refused p n b is past = ap (after_clock_if (machine_of p) n) (sym is ∙ past)

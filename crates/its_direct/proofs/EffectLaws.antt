@@ -15,10 +15,10 @@ use Rattle.its_word.specs.declared.plan.Store.{Store}
 use Rattle.its_frame.specs.declared.variable.Variable.{Variable}
 use Rattle.its_core.specs.Cores.{Cores, Reserved, core_at, clear_at, clear_with, reserved_at}
 use Rattle.its_jobs.specs.Table.{job_at, superior_at}
-use Rattle.its_plain.specs.Change.{in_job, on_console, poke, protected, put_to, rest_of, taken_from, with_alarm, with_inf, with_page_at}
+use Rattle.its_plain.specs.Change.{in_job, on_console, poke, with_protection, after_put, rest_of, after_take, with_alarm, with_inf, with_page_at}
 use Rattle.its_plain.specs.Job.{INF, with_pending}
 use Rattle.its_plain.specs.Machine.{Console, Whole, Machine, changed, core_of, mapped}
-use Rattle.its_plain.specs.Own.{leave, left_with, with_registers, with_stores, with_variable}
+use Rattle.its_plain.specs.Own.{after_leave, after_exit, with_registers, with_stores, with_variable}
 use Rattle.its_plain.proofs.MachineLaws.{machine_is}
 use Rattle.its_machine.specs.Can.{HasJob, HasPage, Maps, Pokes}
 use Rattle.its_machine.specs.Parts.{alarm_at, console_at, holder_at, raw_of}
@@ -104,11 +104,11 @@ job_changed old new s i k h b had e = record {
 job_tidied : (old new : Plain) (s : ℕ) (i k : Job) → JobBecomes old new s k → job_at old.jobs s ≡ Some i → k.channels ≡ i.channels → k.pc < 2 ^ 18 → Tidy old → Tidy new
 job_tidied old new s i k b had same pc tidy = slot_tidy old new s (core_at old.core s) i k b had same pc tidy
 
-pub registers_left : (old new : Plain) (s : ℕ) (i k : Job) (o : Option Job) (e : Exit) → o ≡ job_at old.jobs s → o ≡ Some i → k ≡ left_with e i → JobBecomes old new s k → Becomes old new (in_job (machine_of old) s (leave e))
-registers_left old new s i k o e is some left b = job_changed old new s i k (leave e) b (sym is ∙ some)
+pub registers_left : (old new : Plain) (s : ℕ) (i k : Job) (o : Option Job) (e : Exit) → o ≡ job_at old.jobs s → o ≡ Some i → k ≡ after_exit e i → JobBecomes old new s k → Becomes old new (in_job (machine_of old) s (after_leave e))
+registers_left old new s i k o e is some left b = job_changed old new s i k (after_leave e) b (sym is ∙ some)
     (ap (λ (j : Job). raw_job old.files (core_at old.core s) j (superior_at old.jobs s) (alarm_at old.alarms.items s)) (sym left))
 
-pub left_tidied : (old new : Plain) (s : ℕ) (i k : Job) (o : Option Job) (e : Exit) → o ≡ job_at old.jobs s → o ≡ Some i → k ≡ left_with e i → e.pc < 2 ^ 18 → JobBecomes old new s k → Tidy old → Tidy new
+pub left_tidied : (old new : Plain) (s : ℕ) (i k : Job) (o : Option Job) (e : Exit) → o ≡ job_at old.jobs s → o ≡ Some i → k ≡ after_exit e i → e.pc < 2 ^ 18 → JobBecomes old new s k → Tidy old → Tidy new
 left_tidied old new s i k o e is some left pc b tidy =
     job_tidied old new s i k b (sym is ∙ some) (ap (λ (j : Job). j.channels) left) (subst (λ (j : Job). j.pc < 2 ^ 18) (sym left) pc) tidy
 
@@ -140,17 +140,17 @@ rest_is : (bs : List ℕ) → drop 1 bs ≡ rest_of bs
 rest_is [] = refl
 rest_is (b ∷ bs) = refl
 
-pub first_taken : (c : Console) → record c { input = drop 1 c.input } ≡ taken_from c
+pub first_taken : (c : Console) → record c { input = drop 1 c.input } ≡ after_take c
 first_taken c = ap (λ (bs : List ℕ). record c { input = bs }) (rest_is c.input)
 
 console_changed : (old new : Plain) (c : ℕ) (f : Console → Console) → ConsoleBecomes old new c (f (console_at old.consoles.items c)) → Becomes old new (on_console (machine_of old) c f)
 console_changed old new c f b = record { machine = console_machine old new c f b; place = b.place; touched = b.touched }
 
-pub byte_taken : (old new : Plain) (c : ℕ) → ConsoleBecomes old new c (taken_from (console_at old.consoles.items c)) → Becomes old new (on_console (machine_of old) c taken_from)
-byte_taken old new c b = console_changed old new c taken_from b
+pub byte_taken : (old new : Plain) (c : ℕ) → ConsoleBecomes old new c (after_take (console_at old.consoles.items c)) → Becomes old new (on_console (machine_of old) c after_take)
+byte_taken old new c b = console_changed old new c after_take b
 
-pub byte_put : (old new : Plain) (c x : ℕ) → ConsoleBecomes old new c (put_to x (console_at old.consoles.items c)) → Becomes old new (on_console (machine_of old) c (put_to x))
-byte_put old new c x b = console_changed old new c (put_to x) b
+pub byte_put : (old new : Plain) (c x : ℕ) → ConsoleBecomes old new c (after_put x (console_at old.consoles.items c)) → Becomes old new (on_console (machine_of old) c (after_put x))
+byte_put old new c x b = console_changed old new c (after_put x) b
 
 pub console_room : (p : Plain) (c : ℕ) → length ((machine_of p).consoles c).output < most_waiting → length (console_at p.consoles.items c).output < most_waiting
 unfolding machine_of
@@ -180,8 +180,8 @@ pub page_dropped : (old new : Plain) (s k : ℕ) → HasPage (machine_of old) s 
 page_dropped old new s k can b = core_changed old new s (with_page (core_at old.core s) k None) (with_page_at k None) can.job b (λ i. refl)
 
 pub page_protected : (old new : Plain) (s k : ℕ) (on : Bool) → HasPage (machine_of old) s k → CoreBecomes old new s (with_page (core_at old.core s) k (marked (page_of (core_at old.core s) k) on))
-    → Becomes old new (in_job (machine_of old) s (protected k on))
-page_protected old new s k on can b = core_changed old new s (with_page (core_at old.core s) k (marked (page_of (core_at old.core s) k) on)) (protected k on) can.job b (λ i. refl)
+    → Becomes old new (in_job (machine_of old) s (with_protection k on))
+page_protected old new s k on can b = core_changed old new s (with_page (core_at old.core s) k (marked (page_of (core_at old.core s) k) on)) (with_protection k on) can.job b (λ i. refl)
 
 pub page_tidied : (old new : Plain) (s k : ℕ) (c : Core) → HasPage (machine_of old) s k → CoreBecomes old new s c → Tidy old → Tidy new
 page_tidied old new s k c can b tidy = core_tidied old new s c can.job b tidy

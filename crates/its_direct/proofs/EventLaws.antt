@@ -14,14 +14,14 @@ use Rattle.its_print.specs.Printing as printed
 use Rattle.its_session.specs.Events.{place_after}
 use Rattle.its_plain.specs.Machine.{Names, File, Whole, Machine}
 use Rattle.its_plain.specs.Operator.{Block, Does, Refuses, only, nobody, disturbs, quietly}
-use Rattle.its_plain.specs.OperatorClock.{due, clocked}
-use Rattle.its_plain.specs.OperatorConsoles.{typed, dropped, drained}
+use Rattle.its_plain.specs.OperatorClock.{due, after_clock}
+use Rattle.its_plain.specs.OperatorConsoles.{with_typed, dropped, after_drain}
 use Rattle.its_plain.specs.CallFile.{file_named}
-use Rattle.its_plain.specs.OperatorFiles.{file_made, words_added, files_in, listing, shown_by, shown_lines, file_shown}
-use Rattle.its_plain.specs.OperatorJobs.{loaded, words_loaded, page_protected, started, interrupted, stopped, continued, on_registers, examined, state_shown, deposited}
+use Rattle.its_plain.specs.OperatorFiles.{with_file_made, with_words_added, files_in, listing, shown_by, shown_lines, file_shown}
+use Rattle.its_plain.specs.OperatorJobs.{after_load, with_words_loaded, with_page_protected, after_go, after_int, after_stop, after_cont, on_registers, examined, state_shown, after_deposit}
 use Rattle.its_plain.specs.OperatorLines.{operate, Done, Peeks, peeked_at, lined, by_load, by_exam, in_a_line, by_state, by_clock, shows}
-use Rattle.its_plain.specs.OperatorSymbols.{symbol_kept}
-use Rattle.its_plain.specs.OperatorVersion.{versioned}
+use Rattle.its_plain.specs.OperatorSymbols.{with_symbol_kept}
+use Rattle.its_plain.specs.OperatorVersion.{with_version}
 use Rattle.its_plain.specs.Own.{names_of}
 use Rattle.its_direct.specs.Clock.{Clocks}
 use Rattle.its_direct.specs.Events.{spot_place, Speaks, Says, Told, answered}
@@ -76,56 +76,56 @@ told_keeps e old new r (Err z) line says at_place done refused = λ b at. line b
 pub told_as : (e f : Event) (old new : Plain) (x : Result (Unit {0}) Refusal) (r : Result Answer Refusal) → e ≡ f → r ≡ answered x → Told f old new (answered x) → Told e old new r
 told_as e f old new x r is so h = subst (λ g. Told g old new r) (sym is) (subst (Told f old new) (sym so) h)
 
-pub told_int : (old new : Plain) (s v w : ℕ) (x : Result (Unit {0}) Refusal) → OnOk x (Operates old new s (on_registers (machine_of old) s (interrupted v w)))
-    → IfErr x (λ z. on_registers (machine_of old) s (interrupted v w) ≡ Err (reason_of z)) → Told (events.Int s v w) old new (answered x)
+pub told_int : (old new : Plain) (s v w : ℕ) (x : Result (Unit {0}) Refusal) → OnOk x (Operates old new s (on_registers (machine_of old) s (after_int v w)))
+    → IfErr x (λ z. on_registers (machine_of old) s (after_int v w) ≡ Err (reason_of z)) → Told (events.Int s v w) old new (answered x)
 unfolding lined operate
-told_int old new s v w x = told_operates (events.Int s v w) old new s (on_registers (machine_of old) s (interrupted v w)) x (λ b at. refl) refl (settled (events.Int s v w) refl refl refl)
+told_int old new s v w x = told_operates (events.Int s v w) old new s (on_registers (machine_of old) s (after_int v w)) x (λ b at. refl) refl (settled (events.Int s v w) refl refl refl)
 
-pub told_deposit : (old new : Plain) (s a w : ℕ) (x : Result (Unit {0}) Refusal) → OnOk x (Operates old new s (deposited (machine_of old) s a w))
-    → IfErr x (λ z. deposited (machine_of old) s a w ≡ Err (reason_of z)) → Told (events.Deposit s a w) old new (answered x)
+pub told_deposit : (old new : Plain) (s a w : ℕ) (x : Result (Unit {0}) Refusal) → OnOk x (Operates old new s (after_deposit (machine_of old) s a w))
+    → IfErr x (λ z. after_deposit (machine_of old) s a w ≡ Err (reason_of z)) → Told (events.Deposit s a w) old new (answered x)
 unfolding lined operate
-told_deposit old new s a w x = told_operates (events.Deposit s a w) old new s (deposited (machine_of old) s a w) x (λ b at. refl) refl (settled (events.Deposit s a w) refl refl refl)
+told_deposit old new s a w x = told_operates (events.Deposit s a w) old new s (after_deposit (machine_of old) s a w) x (λ b at. refl) refl (settled (events.Deposit s a w) refl refl refl)
 
-pub told_stop : (old new : Plain) (s : ℕ) (x : Result (Unit {0}) Refusal) → OnOk x (Operates old new s (on_registers (machine_of old) s stopped))
-    → IfErr x (λ z. on_registers (machine_of old) s stopped ≡ Err (reason_of z)) → Told (events.Stop s) old new (answered x)
+pub told_stop : (old new : Plain) (s : ℕ) (x : Result (Unit {0}) Refusal) → OnOk x (Operates old new s (on_registers (machine_of old) s after_stop))
+    → IfErr x (λ z. on_registers (machine_of old) s after_stop ≡ Err (reason_of z)) → Told (events.Stop s) old new (answered x)
 unfolding lined operate
-told_stop old new s x = told_operates (events.Stop s) old new s (on_registers (machine_of old) s stopped) x (λ b at. refl) refl (settled (events.Stop s) refl refl refl)
+told_stop old new s x = told_operates (events.Stop s) old new s (on_registers (machine_of old) s after_stop) x (λ b at. refl) refl (settled (events.Stop s) refl refl refl)
 
-pub told_cont : (old new : Plain) (s : ℕ) (x : Result (Unit {0}) Refusal) → OnOk x (Operates old new s (on_registers (machine_of old) s continued))
-    → IfErr x (λ z. on_registers (machine_of old) s continued ≡ Err (reason_of z)) → Told (events.Cont s) old new (answered x)
+pub told_cont : (old new : Plain) (s : ℕ) (x : Result (Unit {0}) Refusal) → OnOk x (Operates old new s (on_registers (machine_of old) s after_cont))
+    → IfErr x (λ z. on_registers (machine_of old) s after_cont ≡ Err (reason_of z)) → Told (events.Cont s) old new (answered x)
 unfolding lined operate
-told_cont old new s x = told_operates (events.Cont s) old new s (on_registers (machine_of old) s continued) x (λ b at. refl) refl (settled (events.Cont s) refl refl refl)
+told_cont old new s x = told_operates (events.Cont s) old new s (on_registers (machine_of old) s after_cont) x (λ b at. refl) refl (settled (events.Cont s) refl refl refl)
 
 -- lines of a LOAD block
 at_load : (old : Plain) (s : ℕ) (b : Block) → old.place ≡ spots.Load s → Speaks old.place b → b.slot ≡ s
 at_load old s b e at = subst (λ p. Speaks p b) e at
 
-pub told_words : (old new : Plain) (s a : ℕ) (ws : ArrayVec ℕ) (x : Result (Unit {0}) Refusal) → old.place ≡ spots.Load s → OnOk x (Operates old new s (words_loaded (machine_of old) s a ws.items))
-    → IfErr x (λ z. words_loaded (machine_of old) s a ws.items ≡ Err (reason_of z)) → Told (events.Words a ws) old new (answered x)
+pub told_words : (old new : Plain) (s a : ℕ) (ws : ArrayVec ℕ) (x : Result (Unit {0}) Refusal) → old.place ≡ spots.Load s → OnOk x (Operates old new s (with_words_loaded (machine_of old) s a ws.items))
+    → IfErr x (λ z. with_words_loaded (machine_of old) s a ws.items ≡ Err (reason_of z)) → Told (events.Words a ws) old new (answered x)
 unfolding lined operate
-told_words old new s a ws x e = told_operates (events.Words a ws) old new s (words_loaded (machine_of old) s a ws.items) x (λ b at. ap (λ (k : ℕ). Done (disturbs k b (words_loaded (machine_of old) k a ws.items))) (at_load old s b e at)) refl (settled (events.Words a ws) refl refl refl)
+told_words old new s a ws x e = told_operates (events.Words a ws) old new s (with_words_loaded (machine_of old) s a ws.items) x (λ b at. ap (λ (k : ℕ). Done (disturbs k b (with_words_loaded (machine_of old) k a ws.items))) (at_load old s b e at)) refl (settled (events.Words a ws) refl refl refl)
 
-pub told_read_only : (old new : Plain) (s page : ℕ) (x : Result (Unit {0}) Refusal) → old.place ≡ spots.Load s → OnOk x (Operates old new s (page_protected (machine_of old) s page))
-    → IfErr x (λ z. page_protected (machine_of old) s page ≡ Err (reason_of z)) → Told (events.ReadOnly page) old new (answered x)
+pub told_read_only : (old new : Plain) (s page : ℕ) (x : Result (Unit {0}) Refusal) → old.place ≡ spots.Load s → OnOk x (Operates old new s (with_page_protected (machine_of old) s page))
+    → IfErr x (λ z. with_page_protected (machine_of old) s page ≡ Err (reason_of z)) → Told (events.ReadOnly page) old new (answered x)
 unfolding lined operate
-told_read_only old new s page x e = told_operates (events.ReadOnly page) old new s (page_protected (machine_of old) s page) x (λ b at. ap (λ (k : ℕ). Done (disturbs k b (page_protected (machine_of old) k page))) (at_load old s b e at)) refl (settled (events.ReadOnly page) refl refl refl)
+told_read_only old new s page x e = told_operates (events.ReadOnly page) old new s (with_page_protected (machine_of old) s page) x (λ b at. ap (λ (k : ℕ). Done (disturbs k b (with_page_protected (machine_of old) k page))) (at_load old s b e at)) refl (settled (events.ReadOnly page) refl refl refl)
 
-pub told_symbol : (old new : Plain) (s name a : ℕ) (x : Result (Unit {0}) Refusal) → old.place ≡ spots.Load s → OnOk x (Keeps old new (symbol_kept (machine_of old) s name a))
-    → IfErr x (λ z. symbol_kept (machine_of old) s name a ≡ Err (reason_of z)) → Told (events.Symbol name a) old new (answered x)
+pub told_symbol : (old new : Plain) (s name a : ℕ) (x : Result (Unit {0}) Refusal) → old.place ≡ spots.Load s → OnOk x (Keeps old new (with_symbol_kept (machine_of old) s name a))
+    → IfErr x (λ z. with_symbol_kept (machine_of old) s name a ≡ Err (reason_of z)) → Told (events.Symbol name a) old new (answered x)
 unfolding lined operate
-told_symbol old new s name a x e = told_keeps (events.Symbol name a) old new (symbol_kept (machine_of old) s name a) x (λ b at. ap (λ (k : ℕ). Done (quietly b (symbol_kept (machine_of old) k name a))) (at_load old s b e at)) refl (settled (events.Symbol name a) refl refl refl)
+told_symbol old new s name a x e = told_keeps (events.Symbol name a) old new (with_symbol_kept (machine_of old) s name a) x (λ b at. ap (λ (k : ℕ). Done (quietly b (with_symbol_kept (machine_of old) k name a))) (at_load old s b e at)) refl (settled (events.Symbol name a) refl refl refl)
 
 -- lines of a FILE block
 at_file : (old : Plain) (n : Names) (b : Block) → old.place ≡ spots.File n → Speaks old.place b → b.file ≡ n
 at_file old n b e at = subst (λ p. Speaks p b) e at
 
-pub told_append : (old new : Plain) (n : Names) (ws : ArrayVec ℕ) (x : Result (Unit {0}) Refusal) → old.place ≡ spots.File n → OnOk x (Keeps old new (words_added (machine_of old) n ws.items))
-    → IfErr x (λ z. words_added (machine_of old) n ws.items ≡ Err (reason_of z)) → Told (events.Append ws) old new (answered x)
+pub told_append : (old new : Plain) (n : Names) (ws : ArrayVec ℕ) (x : Result (Unit {0}) Refusal) → old.place ≡ spots.File n → OnOk x (Keeps old new (with_words_added (machine_of old) n ws.items))
+    → IfErr x (λ z. with_words_added (machine_of old) n ws.items ≡ Err (reason_of z)) → Told (events.Append ws) old new (answered x)
 unfolding lined operate
-told_append old new n ws x e = told_keeps (events.Append ws) old new (words_added (machine_of old) n ws.items) x (λ b at. ap (λ (k : Names). Done (quietly b (words_added (machine_of old) k ws.items))) (at_file old n b e at)) refl (settled (events.Append ws) refl refl refl)
+told_append old new n ws x e = told_keeps (events.Append ws) old new (with_words_added (machine_of old) n ws.items) x (λ b at. ap (λ (k : Names). Done (quietly b (with_words_added (machine_of old) k ws.items))) (at_file old n b e at)) refl (settled (events.Append ws) refl refl refl)
 
-pub told_file : (old new : Plain) (d x y : ℕ) (r : Result (Unit {0}) Refusal) → OnOk r (Leads old new (spots.File (names_of d x y)) (file_made (machine_of old) (names_of d x y)))
-    → IfErr r (λ z. file_made (machine_of old) (names_of d x y) ≡ Err (reason_of z)) → Told (events.File d x y) old new (answered r)
+pub told_file : (old new : Plain) (d x y : ℕ) (r : Result (Unit {0}) Refusal) → OnOk r (Leads old new (spots.File (names_of d x y)) (with_file_made (machine_of old) (names_of d x y)))
+    → IfErr r (λ z. with_file_made (machine_of old) (names_of d x y) ≡ Err (reason_of z)) → Told (events.File d x y) old new (answered r)
 unfolding lined operate
 told_file old new d x y (Ok u) done refused = λ b at. record {
   comes = Done (Does (machine_of new) [] nobody (record b { file = names_of d x y }));
@@ -136,8 +136,8 @@ told_file old new d x y (Ok u) done refused = λ b at. record {
 told_file old new d x y (Err z) done refused = λ b at. ap (λ r. Done (quietly (record b { file = names_of d x y }) r)) refused
 
 -- CLOCK
-pub told_clock : (old new : Plain) (n : ℕ) (x : Result (Unit {0}) Refusal) → OnOk x (Clocks old new n (clocked (machine_of old) n))
-    → IfErr x (λ z. clocked (machine_of old) n ≡ Err (reason_of z)) → Told (events.Clock n) old new (answered x)
+pub told_clock : (old new : Plain) (n : ℕ) (x : Result (Unit {0}) Refusal) → OnOk x (Clocks old new n (after_clock (machine_of old) n))
+    → IfErr x (λ z. after_clock (machine_of old) n ≡ Err (reason_of z)) → Told (events.Clock n) old new (answered x)
 unfolding lined operate
 told_clock old new n (Ok u) done refused = λ b at. record {
   comes = Done (Does (machine_of new) [] (due ((machine_of old).clock + n) (machine_of old).jobs) b);
@@ -189,7 +189,7 @@ told_state old new s (Ok u) done refused = λ b at. let o = state_out (state_sho
 told_state old new s (Err z) done refused = λ b at. ap (λ r. Done (by_state (machine_of old) b s r)) refused
 
 -- LOAD, TYPE and DRAIN
-pub told_load : (old new : Plain) (u j s : ℕ) (console : Option ℕ) → Loads old new s (loaded (machine_of old) u j console) → Told (events.Load u j console) old new (Ok (Slot s))
+pub told_load : (old new : Plain) (u j s : ℕ) (console : Option ℕ) → Loads old new s (after_load (machine_of old) u j console) → Told (events.Load u j console) old new (Ok (Slot s))
 unfolding lined operate
 told_load old new u j s console done = λ b at. record {
   comes = Done (Does (machine_of new) (printed.Loaded s ∷ []) (only s) (record b { slot = s }));
@@ -198,59 +198,59 @@ told_load old new u j s console done = λ b at. record {
   leads = ap spot_place done.place;
 }
 
-pub told_load_refused : (old new : Plain) (u j : ℕ) (console : Option ℕ) (z : Refusal) → loaded (machine_of old) u j console ≡ Err (reason_of z) → Told (events.Load u j console) old new (Err z)
+pub told_load_refused : (old new : Plain) (u j : ℕ) (console : Option ℕ) (z : Refusal) → after_load (machine_of old) u j console ≡ Err (reason_of z) → Told (events.Load u j console) old new (Err z)
 unfolding lined operate
 told_load_refused old new u j console z refused = λ b at. ap (λ r. Done (by_load b r)) refused
 
-pub told_type : (old new : Plain) (c n : ℕ) (bytes : ArrayVec ℕ) → n ≡ dropped ((machine_of old).consoles c) bytes.items → Stands old new (typed c bytes.items (machine_of old)) → Told (events.TypeIn c bytes) old new (Ok (Dropped n))
+pub told_type : (old new : Plain) (c n : ℕ) (bytes : ArrayVec ℕ) → n ≡ dropped ((machine_of old).consoles c) bytes.items → Stands old new (with_typed c bytes.items (machine_of old)) → Told (events.TypeIn c bytes) old new (Ok (Dropped n))
 unfolding lined operate
 told_type old new c n bytes is done = λ b at. record {
-  comes = Done (Does (typed c bytes.items (machine_of old)) (printed.Typed c (dropped ((machine_of old).consoles c) bytes.items) ∷ []) nobody b);
+  comes = Done (Does (with_typed c bytes.items (machine_of old)) (printed.Typed c (dropped ((machine_of old).consoles c) bytes.items) ∷ []) nobody b);
   is = refl;
   obeys = (done.machine, done.touched, subst (λ p. Speaks p b) (sym done.place) at, ap (λ (k : ℕ). printed.Typed c k ∷ []) (sym is));
   leads = stands_at (events.TypeIn c bytes) old new (settled (events.TypeIn c bytes) refl refl refl) done.place;
 }
 
-pub told_drain : (old new : Plain) (c n : ℕ) (bytes : ArrayVec ℕ) → bytes.items ≡ take n ((machine_of old).consoles c).output → Stands old new (drained c n (machine_of old)) → Told (events.Drain c n) old new (Ok (Drained bytes))
+pub told_drain : (old new : Plain) (c n : ℕ) (bytes : ArrayVec ℕ) → bytes.items ≡ take n ((machine_of old).consoles c).output → Stands old new (after_drain c n (machine_of old)) → Told (events.Drain c n) old new (Ok (Drained bytes))
 unfolding lined operate
 told_drain old new c n bytes is done = λ b at. record {
-  comes = Done (Does (drained c n (machine_of old)) (printed.Drained c (take n ((machine_of old).consoles c).output) ∷ []) nobody b);
+  comes = Done (Does (after_drain c n (machine_of old)) (printed.Drained c (take n ((machine_of old).consoles c).output) ∷ []) nobody b);
   is = refl;
   obeys = (done.machine, done.touched, subst (λ p. Speaks p b) (sym done.place) at, ap (λ (k : List ℕ). printed.Drained c k ∷ []) (sym is));
   leads = stands_at (events.Drain c n) old new (settled (events.Drain c n) refl refl refl) done.place;
 }
 
 -- the words of a line as a slice
-pub told_words_in : (old new : Plain) (s a : ℕ) (ws : ArrayVec ℕ) (xs : List ℕ) (x : Result (Unit {0}) Refusal) → xs ≡ ws.items → old.place ≡ spots.Load s → OnOk x (Operates old new s (words_loaded (machine_of old) s a xs))
-    → IfErr x (λ z. words_loaded (machine_of old) s a xs ≡ Err (reason_of z)) → Told (events.Words a ws) old new (answered x)
+pub told_words_in : (old new : Plain) (s a : ℕ) (ws : ArrayVec ℕ) (xs : List ℕ) (x : Result (Unit {0}) Refusal) → xs ≡ ws.items → old.place ≡ spots.Load s → OnOk x (Operates old new s (with_words_loaded (machine_of old) s a xs))
+    → IfErr x (λ z. with_words_loaded (machine_of old) s a xs ≡ Err (reason_of z)) → Told (events.Words a ws) old new (answered x)
 told_words_in old new s a ws xs x is e done refused =
-    told_words old new s a ws x e (subst (λ (l : List ℕ). OnOk x (Operates old new s (words_loaded (machine_of old) s a l))) is done)
-    (subst (λ (l : List ℕ). IfErr x (λ z. words_loaded (machine_of old) s a l ≡ Err (reason_of z))) is refused)
+    told_words old new s a ws x e (subst (λ (l : List ℕ). OnOk x (Operates old new s (with_words_loaded (machine_of old) s a l))) is done)
+    (subst (λ (l : List ℕ). IfErr x (λ z. with_words_loaded (machine_of old) s a l ≡ Err (reason_of z))) is refused)
 
-pub told_append_in : (old new : Plain) (n : Names) (ws : ArrayVec ℕ) (xs : List ℕ) (x : Result (Unit {0}) Refusal) → xs ≡ ws.items → old.place ≡ spots.File n → OnOk x (Keeps old new (words_added (machine_of old) n xs))
-    → IfErr x (λ z. words_added (machine_of old) n xs ≡ Err (reason_of z)) → Told (events.Append ws) old new (answered x)
+pub told_append_in : (old new : Plain) (n : Names) (ws : ArrayVec ℕ) (xs : List ℕ) (x : Result (Unit {0}) Refusal) → xs ≡ ws.items → old.place ≡ spots.File n → OnOk x (Keeps old new (with_words_added (machine_of old) n xs))
+    → IfErr x (λ z. with_words_added (machine_of old) n xs ≡ Err (reason_of z)) → Told (events.Append ws) old new (answered x)
 told_append_in old new n ws xs x is e done refused =
-    told_append old new n ws x e (subst (λ (l : List ℕ). OnOk x (Keeps old new (words_added (machine_of old) n l))) is done)
-    (subst (λ (l : List ℕ). IfErr x (λ z. words_added (machine_of old) n l ≡ Err (reason_of z))) is refused)
+    told_append old new n ws x e (subst (λ (l : List ℕ). OnOk x (Keeps old new (with_words_added (machine_of old) n l))) is done)
+    (subst (λ (l : List ℕ). IfErr x (λ z. with_words_added (machine_of old) n l ≡ Err (reason_of z))) is refused)
 
-pub told_type_in : (old new : Plain) (c n : ℕ) (bytes : ArrayVec ℕ) (xs : List ℕ) → xs ≡ bytes.items → n ≡ dropped ((machine_of old).consoles c) xs → Stands old new (typed c xs (machine_of old)) → Told (events.TypeIn c bytes) old new (Ok (Dropped n))
+pub told_type_in : (old new : Plain) (c n : ℕ) (bytes : ArrayVec ℕ) (xs : List ℕ) → xs ≡ bytes.items → n ≡ dropped ((machine_of old).consoles c) xs → Stands old new (with_typed c xs (machine_of old)) → Told (events.TypeIn c bytes) old new (Ok (Dropped n))
 told_type_in old new c n bytes xs is lost done =
-    told_type old new c n bytes (subst (λ (l : List ℕ). n ≡ dropped ((machine_of old).consoles c) l) is lost) (subst (λ (l : List ℕ). Stands old new (typed c l (machine_of old))) is done)
+    told_type old new c n bytes (subst (λ (l : List ℕ). n ≡ dropped ((machine_of old).consoles c) l) is lost) (subst (λ (l : List ℕ). Stands old new (with_typed c l (machine_of old))) is done)
 
 -- GO and EOF, which end a block
-pub told_go : (old mid new : Plain) (s a : ℕ) → old.place ≡ spots.Load s → Operates old mid s (on_registers (machine_of old) s (started a)) → new ≡ record mid { place = spots.Plain } → Told (events.Go a) old new (Ok Nothing)
+pub told_go : (old mid new : Plain) (s a : ℕ) → old.place ≡ spots.Load s → Operates old mid s (on_registers (machine_of old) s (after_go a)) → new ≡ record mid { place = spots.Plain } → Told (events.Go a) old new (Ok Nothing)
 unfolding lined operate
 told_go old mid new s a e done placed = λ b at. record {
   comes = Done (Does (machine_of mid) [] (only s) b);
-  is = ap (λ (k : ℕ). Done (disturbs k b (on_registers (machine_of old) k (started a)))) (at_load old s b e at) ∙ ap (λ y. Done (disturbs s b y)) done.is;
+  is = ap (λ (k : ℕ). Done (disturbs k b (on_registers (machine_of old) k (after_go a)))) (at_load old s b e at) ∙ ap (λ y. Done (disturbs s b y)) done.is;
   obeys = (placed_machine mid new spots.Plain placed, (λ k. ap (λ (p : Plain). is_touched p k) placed ∙ done.touched k), subst (λ p. Speaks p b) (sym (ap (λ (p : Plain). p.place) placed)) tt, refl);
   leads = ap (λ (p : Plain). spot_place p.place) placed;
 }
 
-pub told_go_refused : (old new : Plain) (s a : ℕ) (z : Refusal) → old.place ≡ spots.Load s → on_registers (machine_of old) s (started a) ≡ Err (reason_of z) → Told (events.Go a) old new (Err z)
+pub told_go_refused : (old new : Plain) (s a : ℕ) (z : Refusal) → old.place ≡ spots.Load s → on_registers (machine_of old) s (after_go a) ≡ Err (reason_of z) → Told (events.Go a) old new (Err z)
 unfolding lined operate
 told_go_refused old new s a z e refused = λ b at.
-    ap (λ (k : ℕ). Done (disturbs k b (on_registers (machine_of old) k (started a)))) (at_load old s b e at) ∙ ap (λ y. Done (disturbs s b y)) refused
+    ap (λ (k : ℕ). Done (disturbs k b (on_registers (machine_of old) k (after_go a)))) (at_load old s b e at) ∙ ap (λ y. Done (disturbs s b y)) refused
 
 ok_is : (m n : Machine) (r : Result Machine Reason) → r ≡ Ok m → r ≡ Ok n → n ≡ m
 ok_is m n r e f = cc
@@ -265,10 +265,10 @@ told_end old new done = λ b at. record {
 }
 
 -- VERSION
-pub told_version : (old new : Plain) (v : ℕ) → Stands old new (versioned (machine_of old) v) → Told (events.Version v) old new (Ok Nothing)
+pub told_version : (old new : Plain) (v : ℕ) → Stands old new (with_version (machine_of old) v) → Told (events.Version v) old new (Ok Nothing)
 unfolding lined operate
 told_version old new v done = λ b at. record {
-  comes = Done (Does (versioned (machine_of old) v) [] nobody b);
+  comes = Done (Does (with_version (machine_of old) v) [] nobody b);
   is = refl;
   obeys = (done.machine, done.touched, subst (λ p. Speaks p b) (sym done.place) at, refl);
   leads = stands_at (events.Version v) old new (settled (events.Version v) refl refl refl) done.place;

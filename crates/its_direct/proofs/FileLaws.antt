@@ -27,7 +27,7 @@ use Rattle.its_plain.specs.Machine.{Names, File, Machine}
 use Rattle.its_plain.specs.Machine as machines
 use Rattle.its_plain.specs.Operator.{and_then}
 use Rattle.its_plain.specs.OperatorClock.{clock_end}
-use Rattle.its_plain.specs.OperatorFiles.{channels_of, with_files, file_made_if, file_made, word_added_if, word_added_to, word_added, words_added}
+use Rattle.its_plain.specs.OperatorFiles.{channels_of, with_files, with_file_made_if, with_file_made, with_word_added_if, with_word_added_to, with_word_added, with_words_added}
 use Rattle.its_plain.proofs.MachineLaws.{machine_is}
 use Rattle.its_machine.specs.Across.{Across, channel_by, channel_at, writers}
 use Rattle.its_machine.specs.Parts.{alarm_at, bare, chan_of, console_at, holder_at, symbols_at, raw_of}
@@ -113,20 +113,20 @@ module _ (old new : Plain) (x : Store) (b : FilesBecome old new x) (stays : (k n
 abbrev new_file : Names → File
 new_file n = record { names = n; words = [] }
 
-made_on : (p : Plain) (n : Names) → file_made (machine_of p) n ≡ file_made_if (machine_of p) n (is_some (found p.files n)) (nat_lt (length p.files.order) most_files)
-unfolding file_made
+made_on : (p : Plain) (n : Names) → with_file_made (machine_of p) n ≡ with_file_made_if (machine_of p) n (is_some (found p.files n)) (nat_lt (length p.files.order) most_files)
+unfolding with_file_made
 made_on p n =
-    ap (λ fs. file_made_if (machine_of p) n (has_file n fs) (nat_lt (length fs) most_files)) (files_are p)
-    ∙ ap (λ b. file_made_if (machine_of p) n b (nat_lt (length (directory p.files)) most_files)) (has_named p.files n)
-    ∙ ap (λ k. file_made_if (machine_of p) n (is_some (found p.files n)) (nat_lt k most_files)) (length-map p.files.order (file_at p.files))
+    ap (λ fs. with_file_made_if (machine_of p) n (has_file n fs) (nat_lt (length fs) most_files)) (files_are p)
+    ∙ ap (λ b. with_file_made_if (machine_of p) n b (nat_lt (length (directory p.files)) most_files)) (has_named p.files n)
+    ∙ ap (λ k. with_file_made_if (machine_of p) n (is_some (found p.files n)) (nat_lt k most_files)) (length-map p.files.order (file_at p.files))
 
-pub file_exists : (p : Plain) (n : Names) (o : Option ℕ) (b : Bool) → o ≡ found p.files n → b ≡ is_some o → b ≡ true → file_made (machine_of p) n ≡ Err reasons.Exists
-file_exists p n o b is e t = made_on p n ∙ ap (λ c. file_made_if (machine_of p) n c (nat_lt (length p.files.order) most_files)) (sym (ap is_some is) ∙ sym e ∙ t)
+pub file_exists : (p : Plain) (n : Names) (o : Option ℕ) (b : Bool) → o ≡ found p.files n → b ≡ is_some o → b ≡ true → with_file_made (machine_of p) n ≡ Err reasons.Exists
+file_exists p n o b is e t = made_on p n ∙ ap (λ c. with_file_made_if (machine_of p) n c (nat_lt (length p.files.order) most_files)) (sym (ap is_some is) ∙ sym e ∙ t)
 
-pub file_full : (p : Plain) (n : Names) (o : Option ℕ) (b : Bool) (k : ℕ) → o ≡ found p.files n → b ≡ is_some o → b ≡ false → k ≡ length p.files.order → most_files ≤ k → file_made (machine_of p) n ≡ Err reasons.Full
+pub file_full : (p : Plain) (n : Names) (o : Option ℕ) (b : Bool) (k : ℕ) → o ≡ found p.files n → b ≡ is_some o → b ≡ false → k ≡ length p.files.order → most_files ≤ k → with_file_made (machine_of p) n ≡ Err reasons.Full
 file_full p n o b k is e f count le =
-    made_on p n ∙ ap (λ c. file_made_if (machine_of p) n c (nat_lt (length p.files.order) most_files)) (sym (ap is_some is) ∙ sym e ∙ f)
-    ∙ ap (file_made_if (machine_of p) n false) (ap (λ m. nat_lt m most_files) (sym count) ∙ le-ltb k most_files le)
+    made_on p n ∙ ap (λ c. with_file_made_if (machine_of p) n c (nat_lt (length p.files.order) most_files)) (sym (ap is_some is) ∙ sym e ∙ f)
+    ∙ ap (with_file_made_if (machine_of p) n false) (ap (λ m. nat_lt m most_files) (sym count) ∙ le-ltb k most_files le)
 
 free_draft : (o : Option Entry) → o ≡ None → is_draft o ≡ false
 free_draft o e = ap is_draft e
@@ -147,10 +147,10 @@ module _ (old new : Plain) (id : ℕ) (n : Names) (tidy : Tidy old) (few : lengt
   made_chans = chan_stays old.files (with_file old.files id n) old.jobs tidy.across id entry_made.others words_made.others (free_draft (entry_at old.files id) free)
       (λ h. absurd (free_file (entry_at old.files id) free h))
 
-  pub made_row : file_made (machine_of old) n ≡ Ok (machine_of new)
+  pub made_row : with_file_made (machine_of old) n ≡ Ok (machine_of new)
   made_row =
-      made_on old n ∙ ap (λ o. file_made_if (machine_of old) n (is_some o) (nat_lt (length old.files.order) most_files)) fresh
-      ∙ ap (file_made_if (machine_of old) n false) (lt-ltb (length old.files.order) most_files few)
+      made_on old n ∙ ap (λ o. with_file_made_if (machine_of old) n (is_some o) (nat_lt (length old.files.order) most_files)) fresh
+      ∙ ap (with_file_made_if (machine_of old) n false) (lt-ltb (length old.files.order) most_files few)
       ∙ ap (λ fs. Ok (with_files (machine_of old) (fs ++ new_file n ∷ []))) (files_are old)
       ∙ ap (λ fs. Ok (with_files (machine_of old) fs)) (sym files ∙ ap directory b.files)
       ∙ ap Ok (sym (files_machine old new (with_file old.files id n) b made_chans))
@@ -176,8 +176,8 @@ pub placed_machine : (p new : Plain) (x : Spot) → new ≡ record p { place = x
 unfolding machine_of
 placed_machine p new x e = ap machine_of e
 
-pub file_done : (old mid at new : Plain) (n : Names) → file_made (machine_of old) n ≡ Ok (machine_of mid) → at ≡ record mid { place = spots.File n } → new ≡ record at { touched = no_slots }
-    → Leads old new (spots.File n) (file_made (machine_of old) n)
+pub file_done : (old mid at new : Plain) (n : Names) → with_file_made (machine_of old) n ≡ Ok (machine_of mid) → at ≡ record mid { place = spots.File n } → new ≡ record at { touched = no_slots }
+    → Leads old new (spots.File n) (with_file_made (machine_of old) n)
 file_done old mid at new n made placed e = record {
   is = made ∙ ap Ok (sym (touched_machine at new no_slots e ∙ placed_machine mid at (spots.File n) placed));
   touched = none_touched new.touched (ap (λ (p : Plain). p.touched) e);
@@ -214,21 +214,21 @@ file_no_draft (Some (Draft names)) h = cc
 file_no_draft None h = refl
 
 module _ (p : Plain) (whole : IsStore p.files) (tidy : Tidy p) (id : ℕ) (file : is_file (entry_at p.files id) ≡ true) (most : blocks_used p.files.stored ≤ 2048) where
-  added_on : (w : ℕ) → word_added (machine_of p) (names_at p.files id) w ≡ word_added_if (machine_of p) (names_at p.files id) w (store_is_full p.files.stored id)
-  unfolding word_added
+  added_on : (w : ℕ) → with_word_added (machine_of p) (names_at p.files id) w ≡ with_word_added_if (machine_of p) (names_at p.files id) w (store_is_full p.files.stored id)
+  unfolding with_word_added
   added_on w =
       let m = machine_of p in
       let n = names_at p.files id in
-      ap (λ fs. word_added_to m n w (file_named n fs)) (files_are p) ∙ ap (word_added_to m n w) (named_self p.files whole id file)
-      ∙ ap (λ fs. word_added_if m n w (is_full fs (channels_of m) (words_at p.files id))) (files_are p)
-      ∙ ap (λ cs. word_added_if m n w (is_full (directory p.files) cs (words_at p.files id))) (chans_are p)
-      ∙ ap (word_added_if m n w) (sym (full_on p.files whole tidy.unmarked p.jobs id tidy.across most))
+      ap (λ fs. with_word_added_to m n w (file_named n fs)) (files_are p) ∙ ap (with_word_added_to m n w) (named_self p.files whole id file)
+      ∙ ap (λ fs. with_word_added_if m n w (is_full fs (channels_of m) (words_at p.files id))) (files_are p)
+      ∙ ap (λ cs. with_word_added_if m n w (is_full (directory p.files) cs (words_at p.files id))) (chans_are p)
+      ∙ ap (with_word_added_if m n w) (sym (full_on p.files whole tidy.unmarked p.jobs id tidy.across most))
 
-  pub added_full : (w : ℕ) → store_is_full p.files.stored id ≡ true → word_added (machine_of p) (names_at p.files id) w ≡ Err reasons.Full
-  added_full w full = added_on w ∙ ap (word_added_if (machine_of p) (names_at p.files id) w) full
+  pub added_full : (w : ℕ) → store_is_full p.files.stored id ≡ true → with_word_added (machine_of p) (names_at p.files id) w ≡ Err reasons.Full
+  added_full w full = added_on w ∙ ap (with_word_added_if (machine_of p) (names_at p.files id) w) full
 
-  pub added_room : (w : ℕ) → store_is_full p.files.stored id ≡ true → IsOk (word_added (machine_of p) (names_at p.files id) w) → ⊥
-  added_room w full ok = no_error (word_added (machine_of p) (names_at p.files id) w) reasons.Full (added_full w full) ok
+  pub added_room : (w : ℕ) → store_is_full p.files.stored id ≡ true → IsOk (with_word_added (machine_of p) (names_at p.files id) w) → ⊥
+  added_room w full ok = no_error (with_word_added (machine_of p) (names_at p.files id) w) reasons.Full (added_full w full) ok
 
   module _ (new : Plain) (w : ℕ) (b : FilesBecome p new (with_word p.files id w)) (entry : Same (entry_at p.files) (entry_at new.files))
       (words : Only (words_at p.files) (words_at new.files) id (words_at p.files id ++ w ∷ [])) (files : directory new.files ≡ with_changed (names_at p.files id) (longer w) (directory p.files)) where
@@ -241,11 +241,11 @@ module _ (p : Plain) (whole : IsStore p.files) (tidy : Tidy p) (id : ℕ) (file 
     added_chans : (k m : ℕ) (c : Channel) → channel_at p.jobs k m ≡ c → chan_of (with_word p.files id w) c ≡ chan_of p.files c
     added_chans = chan_stays p.files (with_word p.files id w) p.jobs tidy.across id (λ k ne. refl) added_words.others (file_no_draft (entry_at p.files id) file) (λ h. refl)
 
-    pub added_row : store_is_full p.files.stored id ≡ false → word_added (machine_of p) (names_at p.files id) w ≡ Ok (machine_of new)
+    pub added_row : store_is_full p.files.stored id ≡ false → with_word_added (machine_of p) (names_at p.files id) w ≡ Ok (machine_of new)
     added_row room =
         let m = machine_of p in
         let n = names_at p.files id in
-        added_on w ∙ ap (word_added_if m n w) room ∙ ap (λ fs. Ok (with_files m (with_changed n (longer w) fs))) (files_are p)
+        added_on w ∙ ap (with_word_added_if m n w) room ∙ ap (λ fs. Ok (with_files m (with_changed n (longer w) fs))) (files_are p)
         ∙ ap (λ fs. Ok (with_files m fs)) (sym files ∙ ap directory b.files)
         ∙ ap Ok (sym (files_machine p new (with_word p.files id w) b added_chans))
 
@@ -294,13 +294,13 @@ longer_only : (p : Plain) (id w : ℕ) → FilesBecome p (with_longer p id w) (w
 longer_only p id w = record { files = refl; core = refl; jobs = refl; consoles = refl; holders = refl; clock = refl; alarms = refl; version = refl; symbols = refl; pipes = refl; place = refl; touched = refl }
 
 room_for : (p : Plain) (id : ℕ) (ws : List ℕ) → IsStore p.files → Tidy p → is_file (entry_at p.files id) ≡ true → blocks_used p.files.stored ≤ 2048
-    → Within (room_behind p.files.stored id) (length ws) (words_added (machine_of p) (names_at p.files id) ws)
+    → Within (room_behind p.files.stored id) (length ws) (with_words_added (machine_of p) (names_at p.files id) ws)
 room_for p id [] whole tidy file most = omega arith
 room_for p id (w ∷ ws) whole tidy file most = elim (cases_Bool (store_is_full p.files.stored id)) [
   | inl t ↦
       let none : room_behind p.files.stored id ≡ 0 = eqb-true (room_behind p.files.stored id) 0 (sym (no_room p.files.stored id most) ∙ t) in
       subst (Within (room_behind p.files.stored id) (suc (length ws)))
-      (sym (ap (λ r. and_then r (λ k. words_added k (names_at p.files id) ws)) (added_full p whole tidy id file most w t))) (refl, omega arith)
+      (sym (ap (λ r. and_then r (λ k. with_words_added k (names_at p.files id) ws)) (added_full p whole tidy id file most w t))) (refl, omega arith)
   | inr f ↦
       let q = with_longer p id w in
       let b = longer_only p id w in
@@ -310,8 +310,8 @@ room_for p id (w ∷ ws) whole tidy file most = elim (cases_Bool (store_is_full 
       let lt = long p.files whole id w file in
       let rest = room_for q id ws (longer_store p.files whole id w file) (added_tidy p whole tidy id file most q w b entry words files) file (most_appended p.files.stored id w lt most f) in
       subst (Within (room_behind p.files.stored id) (suc (length ws)))
-      (sym (ap (λ r. and_then r (λ k. words_added k (names_at p.files id) ws)) (added_row p whole tidy id file most q w b entry words files f)))
-      (one_more (room_behind q.files.stored id) (room_behind p.files.stored id) (length ws) (words_added (machine_of q) (names_at p.files id) ws) (room_appended p.files.stored id w lt most f) rest)
+      (sym (ap (λ r. and_then r (λ k. with_words_added k (names_at p.files id) ws)) (added_row p whole tidy id file most q w b entry words files f)))
+      (one_more (room_behind q.files.stored id) (room_behind p.files.stored id) (length ws) (with_words_added (machine_of q) (names_at p.files id) ws) (room_appended p.files.stored id w lt most f) rest)
 ]
   where
     one_more : (x y n : ℕ) (r : Result Machine Reason) → x + 1 ≡ y → Within x n r → Within y (suc n) r
@@ -319,18 +319,18 @@ room_for p id (w ∷ ws) whole tidy file most = elim (cases_Bool (store_is_full 
     one_more x y n (Err z) e h = let l = h.1 in (h.0, omega arith)
 
 module _ (p : Plain) (id room : ℕ) (ws : List ℕ) (whole : IsStore p.files) (tidy : Tidy p) (file : is_file (entry_at p.files id) ≡ true) (most : blocks_used p.files.stored ≤ 2048) (room_is : room ≡ room_behind p.files.stored id) where
-  fits : Within room (length ws) (words_added (machine_of p) (names_at p.files id) ws)
-  fits = subst (λ k. Within k (length ws) (words_added (machine_of p) (names_at p.files id) ws)) (sym room_is) (room_for p id ws whole tidy file most)
+  fits : Within room (length ws) (with_words_added (machine_of p) (names_at p.files id) ws)
+  fits = subst (λ k. Within k (length ws) (with_words_added (machine_of p) (names_at p.files id) ws)) (sym room_is) (room_for p id ws whole tidy file most)
 
-  pub adding_room : length ws ≤ room → IsOk (words_added (machine_of p) (names_at p.files id) ws)
-  adding_room le = within_ok room (length ws) (words_added (machine_of p) (names_at p.files id) ws) fits le
+  pub adding_room : length ws ≤ room → IsOk (with_words_added (machine_of p) (names_at p.files id) ws)
+  adding_room le = within_ok room (length ws) (with_words_added (machine_of p) (names_at p.files id) ws) fits le
 
-  pub adding_full : room < length ws → words_added (machine_of p) (names_at p.files id) ws ≡ Err reasons.Full
-  adding_full lt = within_full room (length ws) (words_added (machine_of p) (names_at p.files id) ws) fits lt
+  pub adding_full : room < length ws → with_words_added (machine_of p) (names_at p.files id) ws ≡ Err reasons.Full
+  adding_full lt = within_full room (length ws) (with_words_added (machine_of p) (names_at p.files id) ws) fits lt
 
 -- the words in their order: those before place k are added
 pub record Adding (old now : Plain) (id : ℕ) (ws : List ℕ) (k : ℕ) : Type 0 where
-  pub rest : words_added (machine_of now) (names_at old.files id) (drop k ws) ≡ words_added (machine_of old) (names_at old.files id) ws
+  pub rest : with_words_added (machine_of now) (names_at old.files id) (drop k ws) ≡ with_words_added (machine_of old) (names_at old.files id) ws
   pub file : is_file (entry_at now.files id) ≡ true
   pub names : names_at now.files id ≡ names_at old.files id
   pub place : now.place ≡ old.place
@@ -340,34 +340,34 @@ pub adding_starts : (p : Plain) (id : ℕ) (ws : List ℕ) → is_file (entry_at
 adding_starts p id ws file tidy = record { rest = refl; file = file; names = refl; place = refl; tidy = tidy }
 
 added_next : (old now : Plain) (id k w d : ℕ) (ws : List ℕ) → Adding old now id ws k → k < length ws → w ≡ get_or ws k d
-    → and_then (word_added (machine_of now) (names_at now.files id) w) (λ n. words_added n (names_at old.files id) (drop (k + 1) ws)) ≡ words_added (machine_of old) (names_at old.files id) ws
+    → and_then (with_word_added (machine_of now) (names_at now.files id) w) (λ n. with_words_added n (names_at old.files id) (drop (k + 1) ws)) ≡ with_words_added (machine_of old) (names_at old.files id) ws
 added_next old now id k w d ws h l is =
-    ap (λ ns. and_then (word_added (machine_of now) ns w) (λ n. words_added n (names_at old.files id) (drop (k + 1) ws))) h.names
-    ∙ ap (λ x. words_added (machine_of now) (names_at old.files id) (x ∷ drop (k + 1) ws)) is
-    ∙ ap (words_added (machine_of now) (names_at old.files id)) (sym (drop_more ws k d l)) ∙ h.rest
+    ap (λ ns. and_then (with_word_added (machine_of now) ns w) (λ n. with_words_added n (names_at old.files id) (drop (k + 1) ws))) h.names
+    ∙ ap (λ x. with_words_added (machine_of now) (names_at old.files id) (x ∷ drop (k + 1) ws)) is
+    ∙ ap (with_words_added (machine_of now) (names_at old.files id)) (sym (drop_more ws k d l)) ∙ h.rest
 
-pub adding_next : (old now : Plain) (id k w d : ℕ) (ws : List ℕ) → Adding old now id ws k → k < length ws → w ≡ get_or ws k d → IsOk (words_added (machine_of old) (names_at old.files id) ws)
-    → IsOk (word_added (machine_of now) (names_at now.files id) w)
+pub adding_next : (old now : Plain) (id k w d : ℕ) (ws : List ℕ) → Adding old now id ws k → k < length ws → w ≡ get_or ws k d → IsOk (with_words_added (machine_of old) (names_at old.files id) ws)
+    → IsOk (with_word_added (machine_of now) (names_at now.files id) w)
 adding_next old now id k w d ws h l is ok =
-    first_ok (word_added (machine_of now) (names_at now.files id) w) (λ n. words_added n (names_at old.files id) (drop (k + 1) ws)) (subst (λ (r : Result Machine Reason). IsOk r) (sym (added_next old now id k w d ws h l is)) ok)
+    first_ok (with_word_added (machine_of now) (names_at now.files id) w) (λ n. with_words_added n (names_at old.files id) (drop (k + 1) ws)) (subst (λ (r : Result Machine Reason). IsOk r) (sym (added_next old now id k w d ws h l is)) ok)
 
 pub adding_more : (old now new : Plain) (id k w d : ℕ) (ws : List ℕ) → Adding old now id ws k → k < length ws → w ≡ get_or ws k d
-    → word_added (machine_of now) (names_at now.files id) w ≡ Ok (machine_of new) → is_file (entry_at new.files id) ≡ true → names_at new.files id ≡ names_at now.files id → new.place ≡ now.place → Tidy new
+    → with_word_added (machine_of now) (names_at now.files id) w ≡ Ok (machine_of new) → is_file (entry_at new.files id) ≡ true → names_at new.files id ≡ names_at now.files id → new.place ≡ now.place → Tidy new
     → Adding old new id ws (k + 1)
 adding_more old now new id k w d ws h l is made file names place tidy = record {
-  rest = sym (ap (λ r. and_then r (λ n. words_added n (names_at old.files id) (drop (k + 1) ws))) made) ∙ added_next old now id k w d ws h l is;
+  rest = sym (ap (λ r. and_then r (λ n. with_words_added n (names_at old.files id) (drop (k + 1) ws))) made) ∙ added_next old now id k w d ws h l is;
   file = file;
   names = names ∙ h.names;
   place = place ∙ h.place;
   tidy = tidy;
 }
 
-pub adding_ends : (old now : Plain) (id k n : ℕ) (ws : List ℕ) → Adding old now id ws k → n ≡ length ws → n ≤ k → words_added (machine_of old) (names_at old.files id) ws ≡ Ok (machine_of now)
-adding_ends old now id k n ws h is l = sym h.rest ∙ ap (words_added (machine_of now) (names_at old.files id)) (drop_of_length-le ws (omega arith))
+pub adding_ends : (old now : Plain) (id k n : ℕ) (ws : List ℕ) → Adding old now id ws k → n ≡ length ws → n ≤ k → with_words_added (machine_of old) (names_at old.files id) ws ≡ Ok (machine_of now)
+adding_ends old now id k n ws h is l = sym h.rest ∙ ap (with_words_added (machine_of now) (names_at old.files id)) (drop_of_length-le ws (omega arith))
 
 -- the line, if there is such a file, and if there is none
-pub appended : (old put new : Plain) (n : Names) (ws : List ℕ) → words_added (machine_of old) n ws ≡ Ok (machine_of put) → put.place ≡ old.place → new ≡ record put { touched = no_slots }
-    → Keeps old new (words_added (machine_of old) n ws)
+pub appended : (old put new : Plain) (n : Names) (ws : List ℕ) → with_words_added (machine_of old) n ws ≡ Ok (machine_of put) → put.place ≡ old.place → new ≡ record put { touched = no_slots }
+    → Keeps old new (with_words_added (machine_of old) n ws)
 appended old put new n ws made place e = record {
   is = made ∙ ap Ok (sym (touched_machine put new no_slots e));
   touched = none_touched new.touched (ap (λ (p : Plain). p.touched) e);
@@ -377,12 +377,12 @@ appended old put new n ws made place e = record {
 nothing_of : {X Y : Type 0} (f : X → Y) (o : Option X) → o ≡ None → option_map f o ≡ None
 nothing_of f o e = ap (option_map f) e
 
-nothing_added : (p : Plain) (n : Names) (ws : List ℕ) → found p.files n ≡ None → words_added (machine_of p) n ws ≡ Ok (machine_of p)
-unfolding word_added
+nothing_added : (p : Plain) (n : Names) (ws : List ℕ) → found p.files n ≡ None → with_words_added (machine_of p) n ws ≡ Ok (machine_of p)
+unfolding with_word_added
 nothing_added p n [] none = refl
 nothing_added p n (w ∷ ws) none =
-    ap (λ o. and_then (word_added_to (machine_of p) n w o) (λ k. words_added k n ws)) (ap (file_named n) (files_are p) ∙ sym (found_named p.files n) ∙ nothing_of (file_at p.files) (found p.files n) none)
+    ap (λ o. and_then (with_word_added_to (machine_of p) n w o) (λ k. with_words_added k n ws)) (ap (file_named n) (files_are p) ∙ sym (found_named p.files n) ∙ nothing_of (file_at p.files) (found p.files n) none)
     ∙ nothing_added p n ws none
 
-pub appended_none : (old new : Plain) (n : Names) (ws : List ℕ) (o : Option ℕ) → o ≡ found old.files n → o ≡ None → new ≡ record old { touched = no_slots } → Keeps old new (words_added (machine_of old) n ws)
+pub appended_none : (old new : Plain) (n : Names) (ws : List ℕ) (o : Option ℕ) → o ≡ found old.files n → o ≡ None → new ≡ record old { touched = no_slots } → Keeps old new (with_words_added (machine_of old) n ws)
 appended_none old new n ws o is none e = appended old old new n ws (nothing_added old n ws (sym is ∙ none)) refl e

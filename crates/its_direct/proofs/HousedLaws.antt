@@ -12,16 +12,16 @@ use Rattle.its_word.specs.declared.session.Reason.{Reason}
 use Rattle.its_word.specs.declared.show.JobShow.{JobShow}
 use Rattle.its_print.specs.Printing.{Line, listed}
 use Rattle.its_session.specs.Fits.{EventFits}
-use Rattle.its_plain.specs.Change.{protected}
+use Rattle.its_plain.specs.Change.{with_protection}
 use Rattle.its_plain.specs.Machine.{Machine, Whole, mapped, with_job}
 use Rattle.its_plain.specs.Operator.{Block, Does, Quits, Refuses, Ticks, and_then, disturbs, quietly}
-use Rattle.its_plain.specs.OperatorClock.{clock_end, clocked, clocked_if, due, rung_if}
-use Rattle.its_plain.specs.OperatorConsoles.{drained, typed}
-use Rattle.its_plain.specs.OperatorFiles.{file_made, file_shown, with_files, words_added}
-use Rattle.its_plain.specs.OperatorJobs.{continued, deposited, deposited_in, examined, interrupted, loaded, on_job, on_registers, page_protected, page_protected_in, started, state_shown, stopped, stored, with_core, with_registers, word_loaded, word_loaded_of, words_barred, words_loaded, words_loaded_if, words_stored}
+use Rattle.its_plain.specs.OperatorClock.{clock_end, after_clock, after_clock_if, due, after_alarm_if}
+use Rattle.its_plain.specs.OperatorConsoles.{after_drain, with_typed}
+use Rattle.its_plain.specs.OperatorFiles.{with_file_made, file_shown, with_files, with_words_added}
+use Rattle.its_plain.specs.OperatorJobs.{after_cont, after_deposit, after_deposit_in, examined, after_int, after_load, on_job, on_registers, with_page_protected, with_page_protected_in, after_go, state_shown, after_stop, with_stored, with_core, with_registers, with_word_loaded, with_word_loaded_of, words_barred, with_words_loaded, with_words_loaded_if, with_words_stored}
 use Rattle.its_plain.specs.OperatorLines.{Done, Lined, Peeks, by_clock, by_exam, by_load, by_state, in_a_line, lined, operate, peeked_at, shows}
-use Rattle.its_plain.specs.OperatorSymbols.{symbol_kept, symbol_kept_if, symbol_kept_of}
-use Rattle.its_plain.specs.OperatorVersion.{versioned}
+use Rattle.its_plain.specs.OperatorSymbols.{with_symbol_kept, with_symbol_kept_if, with_symbol_kept_of}
+use Rattle.its_plain.specs.OperatorVersion.{with_version}
 use Rattle.its_plain.specs.Own.{names_of}
 use Rattle.its_plain.proofs.CallLineLaws.{FilesAlone, added_files, made_files}
 use Rattle.its_stepped.specs.Consoled.{Consoled}
@@ -47,61 +47,61 @@ registers_consoled m s f same h = go (m.jobs s) refl
     go (Some q) is = put_back m s q (record q { job = f q.job }) h is (same q.job)
     go None is = tt
 
-deposited_consoled : (m : Machine) (s a w : ℕ) → Consoled m → ConsoledBy (deposited m s a w)
-unfolding deposited
+deposited_consoled : (m : Machine) (s a w : ℕ) → Consoled m → ConsoledBy (after_deposit m s a w)
+unfolding after_deposit
 deposited_consoled m s a w h = go (m.jobs s) refl
   where
-    go : (o : Option Whole) → m.jobs s ≡ o → ConsoledBy (on_job m s (λ q. with_core m s q (deposited_in q.core a w (can_store q.core a) (is_some (word_at q.core a)))) o)
-    go (Some q) is = core_consoled m s q (deposited_in q.core a w (can_store q.core a) (is_some (word_at q.core a))) h is
+    go : (o : Option Whole) → m.jobs s ≡ o → ConsoledBy (on_job m s (λ q. with_core m s q (after_deposit_in q.core a w (can_store q.core a) (is_some (word_at q.core a)))) o)
+    go (Some q) is = core_consoled m s q (after_deposit_in q.core a w (can_store q.core a) (is_some (word_at q.core a))) h is
     go None is = tt
 
 -- an a/ line
-word_consoled_of : (m : Machine) (s a w : ℕ) (o : Option Whole) → Consoled m → m.jobs s ≡ o → ConsoledBy (word_loaded_of m s a w o)
-word_consoled_of m s a w (Some q) h is = core_consoled m s q (stored (mapped m) q.core a w) h is
+word_consoled_of : (m : Machine) (s a w : ℕ) (o : Option Whole) → Consoled m → m.jobs s ≡ o → ConsoledBy (with_word_loaded_of m s a w o)
+word_consoled_of m s a w (Some q) h is = core_consoled m s q (with_stored (mapped m) q.core a w) h is
 word_consoled_of m s a w None h is = tt
 
-word_consoled : (m : Machine) (s a w : ℕ) → Consoled m → ConsoledBy (word_loaded m s a w)
-unfolding word_loaded
+word_consoled : (m : Machine) (s a w : ℕ) → Consoled m → ConsoledBy (with_word_loaded m s a w)
+unfolding with_word_loaded
 word_consoled m s a w h = word_consoled_of m s a w (m.jobs s) h refl
 
-stored_consoled : (m : Machine) (s a : ℕ) (ws : List ℕ) → Consoled m → ConsoledBy (words_stored m s a ws)
+stored_consoled : (m : Machine) (s a : ℕ) (ws : List ℕ) → Consoled m → ConsoledBy (with_words_stored m s a ws)
 stored_consoled m s a [] h = h
-stored_consoled m s a (w ∷ ws) h = go (word_loaded m s a w) (word_consoled m s a w h) (λ n first. stored_consoled n s (a + 1) ws first)
+stored_consoled m s a (w ∷ ws) h = go (with_word_loaded m s a w) (word_consoled m s a w h) (λ n first. stored_consoled n s (a + 1) ws first)
   where
-    go : (r : Result Machine Reason) → ConsoledBy r → ((n : Machine) → Consoled n → ConsoledBy (words_stored n s (a + 1) ws)) → ConsoledBy (and_then r (λ n. words_stored n s (a + 1) ws))
+    go : (r : Result Machine Reason) → ConsoledBy r → ((n : Machine) → Consoled n → ConsoledBy (with_words_stored n s (a + 1) ws)) → ConsoledBy (and_then r (λ n. with_words_stored n s (a + 1) ws))
     go (Ok n) first rest = rest n first
     go (Err r) first rest = tt
 
-words_consoled_if : (m : Machine) (s a : ℕ) (ws : List ℕ) (barred : Bool) → Consoled m → ConsoledBy (words_loaded_if m s a ws barred)
+words_consoled_if : (m : Machine) (s a : ℕ) (ws : List ℕ) (barred : Bool) → Consoled m → ConsoledBy (with_words_loaded_if m s a ws barred)
 words_consoled_if m s a ws true h = tt
 words_consoled_if m s a ws false h = stored_consoled m s a ws h
 
-pub words_consoled : (m : Machine) (s a : ℕ) (ws : List ℕ) → Consoled m → ConsoledBy (words_loaded m s a ws)
-unfolding words_loaded
+pub words_consoled : (m : Machine) (s a : ℕ) (ws : List ℕ) → Consoled m → ConsoledBy (with_words_loaded m s a ws)
+unfolding with_words_loaded
 words_consoled m s a ws h = words_consoled_if m s a ws (words_barred m s a (length ws)) h
 
 -- RO and SYM
-page_consoled : (m : Machine) (s k : ℕ) → Consoled m → ConsoledBy (page_protected m s k)
-unfolding page_protected
+page_consoled : (m : Machine) (s k : ℕ) → Consoled m → ConsoledBy (with_page_protected m s k)
+unfolding with_page_protected
 page_consoled m s k h = go (m.jobs s) refl
   where
-    put : (q : Whole) (o : Option Page) → m.jobs s ≡ Some q → ConsoledBy (page_protected_in m s k q o)
-    put q (Some p) is = put_back m s q (protected k false q) h is refl
+    put : (q : Whole) (o : Option Page) → m.jobs s ≡ Some q → ConsoledBy (with_page_protected_in m s k q o)
+    put q (Some p) is = put_back m s q (with_protection k false q) h is refl
     put q None is = tt
 
-    go : (o : Option Whole) → m.jobs s ≡ o → ConsoledBy (on_job m s (λ q. page_protected_in m s k q (page_of q.core k)) o)
+    go : (o : Option Whole) → m.jobs s ≡ o → ConsoledBy (on_job m s (λ q. with_page_protected_in m s k q (page_of q.core k)) o)
     go (Some q) is = put q (page_of q.core k) is
     go None is = tt
 
-symbol_consoled : (m : Machine) (s name a : ℕ) → Consoled m → ConsoledBy (symbol_kept m s name a)
-unfolding symbol_kept
+symbol_consoled : (m : Machine) (s name a : ℕ) → Consoled m → ConsoledBy (with_symbol_kept m s name a)
+unfolding with_symbol_kept
 symbol_consoled m s name a h = go (m.jobs s)
   where
-    put : (room : Bool) → ConsoledBy (symbol_kept_if m s (name, a) room)
+    put : (room : Bool) → ConsoledBy (with_symbol_kept_if m s (name, a) room)
     put true = jobs_consoled m _ refl h
     put false = tt
 
-    go : (o : Option Whole) → ConsoledBy (symbol_kept_of m s (name, a) o)
+    go : (o : Option Whole) → ConsoledBy (with_symbol_kept_of m s (name, a) o)
     go (Some q) = put (nat_lt (length (m.symbols s)) most_symbols)
     go None = tt
 
@@ -111,20 +111,20 @@ files_consoled m (Ok n) alone h = subst Consoled (sym alone) (jobs_consoled m (w
 files_consoled m (Err r) alone h = tt
 
 -- VERSION, and CLOCK
-version_consoled : (m : Machine) (v : ℕ) → Consoled m → Consoled (versioned m v)
-unfolding versioned
+version_consoled : (m : Machine) (v : ℕ) → Consoled m → Consoled (with_version m v)
+unfolding with_version
 version_consoled m v h = go (no_job m.jobs)
   where
     go : (b : Bool) → Consoled (if b then record m { version = v } else m)
     go true = jobs_consoled m (record m { version = v }) refl h
     go false = h
 
-rung_housed : (c : ℕ) (b : Bool) (o : Option Whole) → HousedBy o → HousedBy (rung_if c b o)
+rung_housed : (c : ℕ) (b : Bool) (o : Option Whole) → HousedBy o → HousedBy (after_alarm_if c b o)
 rung_housed c true (Some q) h = h
 rung_housed c true None h = h
 rung_housed c false o h = h
 
-clock_consoled : (m : Machine) (n : ℕ) (fits : Bool) → Consoled m → ConsoledBy (clocked_if m n fits)
+clock_consoled : (m : Machine) (n : ℕ) (fits : Bool) → Consoled m → ConsoledBy (after_clock_if m n fits)
 clock_consoled m n true h = record { each = λ k. rung_housed (m.clock + n) (due (m.clock + n) m.jobs k) (m.jobs k) (h.each k) }
 clock_consoled m n false h = tt
 
@@ -144,7 +144,7 @@ quiet : (b : Block) (r : Result Machine Reason) → ConsoledBy r → LinedConsol
 quiet b (Ok n) h = h
 quiet b (Err r) h = tt
 
-loading : (m : Machine) (b : Block) (u j : ℕ) (console : Option ℕ) (r : Result (Machine × ℕ) Reason) → loaded m u j console ≡ r → IfSome console (λ c. c < 8) → Consoled m
+loading : (m : Machine) (b : Block) (u j : ℕ) (console : Option ℕ) (r : Result (Machine × ℕ) Reason) → after_load m u j console ≡ r → IfSome console (λ c. c < 8) → Consoled m
     → LinedConsoled (Done (by_load b r))
 loading m b u j console (Ok (n, s)) is fits h = loaded_consoled m n u j s console fits h is
 loading m b u j console (Err r) is fits h = tt
@@ -170,26 +170,26 @@ peeking s (Some q) = tt
 peeking s None = tt
 
 each_line : (v : ℕ) (m : Machine) (b : Block) (e : Event) → EventFits v e → Consoled m → LinedConsoled (lined m b e)
-unfolding lined operate clocked
+unfolding lined operate after_clock
 each_line v m b (events.Version x) fits h = version_consoled m x h
-each_line v m b (events.Load u j console) fits h = loading m b u j console (loaded m u j console) refl (IfSome_then console fits.2 (λ c l. omega arith)) h
-each_line v m b (events.Words a words) fits h = disturbing b.slot b (words_loaded m b.slot a words.items) (words_consoled m b.slot a words.items h)
-each_line v m b (events.ReadOnly page) fits h = disturbing b.slot b (page_protected m b.slot page) (page_consoled m b.slot page h)
-each_line v m b (events.Symbol name a) fits h = quiet b (symbol_kept m b.slot name a) (symbol_consoled m b.slot name a h)
-each_line v m b (events.Go a) fits h = disturbing b.slot b (on_registers m b.slot (started a)) (registers_consoled m b.slot (started a) (λ j. refl) h)
-each_line v m b (events.File d x y) fits h = quiet (record b { file = names_of d x y }) (file_made m (names_of d x y)) (files_consoled m (file_made m (names_of d x y)) (made_files m (names_of d x y)) h)
-each_line v m b (events.Append words) fits h = quiet b (words_added m b.file words.items) (files_consoled m (words_added m b.file words.items) (added_files m b.file words.items) h)
+each_line v m b (events.Load u j console) fits h = loading m b u j console (after_load m u j console) refl (IfSome_then console fits.2 (λ c l. omega arith)) h
+each_line v m b (events.Words a words) fits h = disturbing b.slot b (with_words_loaded m b.slot a words.items) (words_consoled m b.slot a words.items h)
+each_line v m b (events.ReadOnly page) fits h = disturbing b.slot b (with_page_protected m b.slot page) (page_consoled m b.slot page h)
+each_line v m b (events.Symbol name a) fits h = quiet b (with_symbol_kept m b.slot name a) (symbol_consoled m b.slot name a h)
+each_line v m b (events.Go a) fits h = disturbing b.slot b (on_registers m b.slot (after_go a)) (registers_consoled m b.slot (after_go a) (λ j. refl) h)
+each_line v m b (events.File d x y) fits h = quiet (record b { file = names_of d x y }) (with_file_made m (names_of d x y)) (files_consoled m (with_file_made m (names_of d x y)) (made_files m (names_of d x y)) h)
+each_line v m b (events.Append words) fits h = quiet b (with_words_added m b.file words.items) (files_consoled m (with_words_added m b.file words.items) (added_files m b.file words.items) h)
 each_line v m b (events.Tick s n) fits h = tt
-each_line v m b (events.TypeIn c bytes) fits h = jobs_consoled m (typed c bytes.items m) refl h
-each_line v m b (events.Drain c n) fits h = jobs_consoled m (drained c n m) refl h
-each_line v m b (events.Clock n) fits h = clocking m b n (clocked m n) (clock_consoled m n (nat_lt (m.clock + n) clock_end) h)
-each_line v m b (events.Int s x y) fits h = disturbing s b (on_registers m s (interrupted x y)) (registers_consoled m s (interrupted x y) (λ j. refl) h)
+each_line v m b (events.TypeIn c bytes) fits h = jobs_consoled m (with_typed c bytes.items m) refl h
+each_line v m b (events.Drain c n) fits h = jobs_consoled m (after_drain c n m) refl h
+each_line v m b (events.Clock n) fits h = clocking m b n (after_clock m n) (clock_consoled m n (nat_lt (m.clock + n) clock_end) h)
+each_line v m b (events.Int s x y) fits h = disturbing s b (on_registers m s (after_int x y)) (registers_consoled m s (after_int x y) (λ j. refl) h)
 each_line v m b (events.Exam s a n) fits h = examining m b s (in_a_line s a) (examined m s a n) h
 each_line v m b (events.List s a n) fits h = examining m b s (listed s a) (examined m s a n) h
 each_line v m b (events.State s) fits h = stating m b s (state_shown m s) h
-each_line v m b (events.Deposit s a w) fits h = disturbing s b (deposited m s a w) (deposited_consoled m s a w h)
-each_line v m b (events.Stop s) fits h = disturbing s b (on_registers m s stopped) (registers_consoled m s stopped (λ j. refl) h)
-each_line v m b (events.Cont s) fits h = disturbing s b (on_registers m s continued) (registers_consoled m s continued (λ j. refl) h)
+each_line v m b (events.Deposit s a w) fits h = disturbing s b (after_deposit m s a w) (deposited_consoled m s a w h)
+each_line v m b (events.Stop s) fits h = disturbing s b (on_registers m s after_stop) (registers_consoled m s after_stop (λ j. refl) h)
+each_line v m b (events.Cont s) fits h = disturbing s b (on_registers m s after_cont) (registers_consoled m s after_cont (λ j. refl) h)
 each_line v m b (events.Peek s) fits h = peeking s (m.jobs s)
 each_line v m b (events.Show d x y) fits h = showing m b (file_shown m d x y) h
 each_line v m b events.End fits h = tt

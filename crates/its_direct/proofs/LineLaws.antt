@@ -15,7 +15,7 @@ use Rattle.its_plain.specs.Change.{in_job, on_slot}
 use Rattle.its_plain.specs.Footprint.{among}
 use Rattle.its_plain.specs.Machine.{Whole, Machine, with_job, changed, words_at}
 use Rattle.its_plain.specs.Operator.{only}
-use Rattle.its_plain.specs.OperatorJobs.{on_job, with_registers, on_registers, started, stopped, continued, interrupted, seen, examined, state_shown, shown, with_core, deposited_in, deposited}
+use Rattle.its_plain.specs.OperatorJobs.{on_job, with_registers, on_registers, after_go, after_stop, after_cont, after_int, seen, examined, state_shown, shown, with_core, after_deposit_in, after_deposit}
 use Rattle.its_plain.specs.OperatorSymbols.{symbol_shown}
 use Rattle.its_plain.proofs.MachineLaws.{machine_is}
 use Rattle.its_machine.specs.Parts.{bare, alarm_at}
@@ -83,21 +83,21 @@ pub registers_refused : (p : Plain) (s : ℕ) (f : Job → Job) (o : Option Job)
 unfolding on_registers
 registers_refused p s f o is none = ap (on_job (machine_of p) s (with_registers (machine_of p) s f)) (nobody_is p s (sym is ∙ none))
 
-pub go_done : (old new : Plain) (s a : ℕ) (i k : Job) (o : Option Job) → o ≡ job_at old.jobs s → o ≡ Some i → k ≡ started a i → Rewritten old new s k
-    → Operates old new s (on_registers (machine_of old) s (started a))
-go_done old new s a i k o is some e w = registers_done old new s i k (started a) (sym is ∙ some) e refl w
+pub go_done : (old new : Plain) (s a : ℕ) (i k : Job) (o : Option Job) → o ≡ job_at old.jobs s → o ≡ Some i → k ≡ after_go a i → Rewritten old new s k
+    → Operates old new s (on_registers (machine_of old) s (after_go a))
+go_done old new s a i k o is some e w = registers_done old new s i k (after_go a) (sym is ∙ some) e refl w
 
-pub stop_done : (old new : Plain) (s : ℕ) (i k : Job) (o : Option Job) → o ≡ job_at old.jobs s → o ≡ Some i → k ≡ stopped i → Rewritten old new s k
-    → Operates old new s (on_registers (machine_of old) s stopped)
-stop_done old new s i k o is some e w = registers_done old new s i k stopped (sym is ∙ some) e refl w
+pub stop_done : (old new : Plain) (s : ℕ) (i k : Job) (o : Option Job) → o ≡ job_at old.jobs s → o ≡ Some i → k ≡ after_stop i → Rewritten old new s k
+    → Operates old new s (on_registers (machine_of old) s after_stop)
+stop_done old new s i k o is some e w = registers_done old new s i k after_stop (sym is ∙ some) e refl w
 
-pub cont_done : (old new : Plain) (s : ℕ) (i k : Job) (o : Option Job) → o ≡ job_at old.jobs s → o ≡ Some i → k ≡ continued i → Rewritten old new s k
-    → Operates old new s (on_registers (machine_of old) s continued)
-cont_done old new s i k o is some e w = registers_done old new s i k continued (sym is ∙ some) e refl w
+pub cont_done : (old new : Plain) (s : ℕ) (i k : Job) (o : Option Job) → o ≡ job_at old.jobs s → o ≡ Some i → k ≡ after_cont i → Rewritten old new s k
+    → Operates old new s (on_registers (machine_of old) s after_cont)
+cont_done old new s i k o is some e w = registers_done old new s i k after_cont (sym is ∙ some) e refl w
 
-pub interrupt_done : (old new : Plain) (s v w : ℕ) (i k : Job) (o : Option Job) → o ≡ job_at old.jobs s → o ≡ Some i → k ≡ interrupted v w i → Rewritten old new s k
-    → Operates old new s (on_registers (machine_of old) s (interrupted v w))
-interrupt_done old new s v w i k o is some e r = registers_done old new s i k (interrupted v w) (sym is ∙ some) e refl r
+pub interrupt_done : (old new : Plain) (s v w : ℕ) (i k : Job) (o : Option Job) → o ≡ job_at old.jobs s → o ≡ Some i → k ≡ after_int v w i → Rewritten old new s k
+    → Operates old new s (on_registers (machine_of old) s (after_int v w))
+interrupt_done old new s v w i k o is some e r = registers_done old new s i k (after_int v w) (sym is ∙ some) e refl r
 
 -- STATE
 pub state_done : (old new : Plain) (s : ℕ) (i : Job) (o : Option Job) → s < slots → o ≡ job_at old.jobs s → o ≡ Some i → new ≡ record old { touched = one_slot s } → Looks old new s (state_shown (machine_of old) s)
@@ -145,16 +145,16 @@ exam_refused p s a n o is none = ap (on_job (machine_of p) s (λ q. seen (words_
 
 -- DEPOSIT
 deposited_own : (p : Plain) (s a w : ℕ) (i : Job) → job_at p.jobs s ≡ Some i
-    → deposited (machine_of p) s a w ≡ with_core (machine_of p) s (own_of p s i) (deposited_in (core_at p.core s) a w (can_store (core_at p.core s) a) (is_some (word_at (core_at p.core s) a)))
-unfolding deposited
+    → after_deposit (machine_of p) s a w ≡ with_core (machine_of p) s (own_of p s i) (after_deposit_in (core_at p.core s) a w (can_store (core_at p.core s) a) (is_some (word_at (core_at p.core s) a)))
+unfolding after_deposit
 deposited_own p s a w i had =
-    ap (on_job (machine_of p) s (λ q. with_core (machine_of p) s q (deposited_in q.core a w (can_store q.core a) (is_some (word_at q.core a))))) (own_is p s i had)
+    ap (on_job (machine_of p) s (λ q. with_core (machine_of p) s q (after_deposit_in q.core a w (can_store q.core a) (is_some (word_at q.core a))))) (own_is p s i had)
 
 pub deposit_done : (old put new : Plain) (s a w : ℕ) (i : Job) → s < slots → job_at old.jobs s ≡ Some i → can_store (core_at old.core s) a ≡ true
-    → CoreBecomes old put s (store (core_at old.core s) a w) → new ≡ record put { touched = one_slot s } → Operates old new s (deposited (machine_of old) s a w)
+    → CoreBecomes old put s (store (core_at old.core s) a w) → new ≡ record put { touched = one_slot s } → Operates old new s (after_deposit (machine_of old) s a w)
 deposit_done old put new s a w i l had can b e = record {
   is = deposited_own old s a w i had
-      ∙ ap (λ x. with_core (machine_of old) s (own_of old s i) (deposited_in (core_at old.core s) a w x (is_some (word_at (core_at old.core s) a)))) can
+      ∙ ap (λ x. with_core (machine_of old) s (own_of old s i) (after_deposit_in (core_at old.core s) a w x (is_some (word_at (core_at old.core s) a)))) can
       ∙ ap Ok (sym (touched_machine put new (one_slot s) e ∙ core_machine old put s (store (core_at old.core s) a w) i b had
       ∙ put_slot (machine_of old) s (own_of old s i) (λ q. record q { core = store (core_at old.core s) a w }) (own_is old s i had)));
   touched = only_touched put new s l e;
@@ -165,19 +165,19 @@ pub deposit_tidy : (old put new : Plain) (s : ℕ) (c : Core) (i : Job) → job_
 deposit_tidy old put new s c i had b e tidy = touched_tidy put new (one_slot s) e (core_tidy old put s c i b had tidy)
 
 barred : (m : Machine) (s : ℕ) (q : Whole) (c : Core) (a w : ℕ) (can : Bool) (o : Option ℕ) (e : NoAccess) → putting c a w can o ≡ Err e
-    → with_core m s q (deposited_in c a w can (is_some o)) ≡ Err (reason_of (refusal_of e))
+    → with_core m s q (after_deposit_in c a w can (is_some o)) ≡ Err (reason_of (refusal_of e))
 barred m s q c a w true o e h = cc
 barred m s q c a w false (Some v) e h = let is : ReadOnly ≡ e = cc in ap (λ (x : NoAccess). Err (reason_of (refusal_of x))) is
 barred m s q c a w false None e h = let is : Absent ≡ e = cc in ap (λ (x : NoAccess). Err (reason_of (refusal_of x))) is
 
 pub deposit_barred : (p : Plain) (s a w : ℕ) (i : Job) (o : Option Job) (e : NoAccess) (r : Refusal) → o ≡ job_at p.jobs s → o ≡ Some i → put (core_at p.core s) a w ≡ Err e → r ≡ refusal_of e
-    → deposited (machine_of p) s a w ≡ Err (reason_of r)
+    → after_deposit (machine_of p) s a w ≡ Err (reason_of r)
 deposit_barred p s a w i o e r same some h is =
     deposited_own p s a w i (sym same ∙ some)
     ∙ barred (machine_of p) s (own_of p s i) (core_at p.core s) a w (can_store (core_at p.core s) a) (word_at (core_at p.core s) a) e h
     ∙ ap (λ (x : Refusal). Err (reason_of x)) (sym is)
 
-pub deposit_refused : (p : Plain) (s a w : ℕ) (o : Option Job) → o ≡ job_at p.jobs s → o ≡ None → deposited (machine_of p) s a w ≡ Err reasons.NoJob
-unfolding deposited
+pub deposit_refused : (p : Plain) (s a w : ℕ) (o : Option Job) → o ≡ job_at p.jobs s → o ≡ None → after_deposit (machine_of p) s a w ≡ Err reasons.NoJob
+unfolding after_deposit
 deposit_refused p s a w o is none =
-    ap (on_job (machine_of p) s (λ q. with_core (machine_of p) s q (deposited_in q.core a w (can_store q.core a) (is_some (word_at q.core a))))) (nobody_is p s (sym is ∙ none))
+    ap (on_job (machine_of p) s (λ q. with_core (machine_of p) s q (after_deposit_in q.core a w (can_store q.core a) (is_some (word_at q.core a))))) (nobody_is p s (sym is ∙ none))

@@ -10,7 +10,7 @@ use Rattle.its_files.specs.Files.{Store, directory}
 use Rattle.its_jobs.specs.Table.{job_at}
 use Rattle.its_pipes.specs.Pipes.{piped}
 use Rattle.its_plain.specs.CallLink.{words_in}
-use Rattle.its_plain.specs.Change.{effect, end_closed, in_job, link_or_new, on_link, with_end_opened, with_received, with_sent}
+use Rattle.its_plain.specs.Change.{effect, after_end_close, in_job, link_or_new, on_link, with_end_opened, with_received, with_sent}
 use Rattle.its_plain.specs.Machine.{Linked, Pipe, Shut, Machine}
 use Rattle.its_plain.specs.OperatorClock.{clock_end}
 use Rattle.its_plain.specs.Own.{on_channel}
@@ -82,11 +82,11 @@ joined_row old mid new s n l x y write b c = record {
   touched = c.touched ∙ b.touched;
 }
 
-pub parted_row : (old mid new : Plain) (s n l : ℕ) (write : Bool) → LinkBecomes old mid l (end_closed write (piped old.pipes l))
+pub parted_row : (old mid new : Plain) (s n l : ℕ) (write : Bool) → LinkBecomes old mid l (after_end_close write (piped old.pipes l))
     → Becomes mid new (in_job (machine_of mid) s (on_channel n (λ c. Shut))) → Becomes old new (effect (changes.Part n l write) s (machine_of old))
 unfolding effect
 parted_row old mid new s n l write b c = record {
-  machine = c.machine ∙ ap (λ (m : Machine). in_job m s (on_channel n (λ c. Shut))) (link_machine old mid l (end_closed write) b);
+  machine = c.machine ∙ ap (λ (m : Machine). in_job m s (on_channel n (λ c. Shut))) (link_machine old mid l (after_end_close write) b);
   place = c.place ∙ b.place;
   touched = c.touched ∙ b.touched;
 }

@@ -17,7 +17,7 @@ use Rattle.its_files.specs.Files.{Store, directory}
 use Rattle.its_jobs.specs.Table.{job_at, superior_at}
 use Rattle.its_plain.specs.Change.{console_in, inferior}
 use Rattle.its_plain.specs.Machine.{Machine, whole, changed, limit, with_new}
-use Rattle.its_plain.specs.OperatorJobs.{loaded, loaded_in, new_job, held_by, with_holder}
+use Rattle.its_plain.specs.OperatorJobs.{after_load, after_load_in, new_job, held_by, with_holder}
 use Rattle.its_plain.specs.OperatorClock.{clock_end}
 use Rattle.its_plain.proofs.MachineLaws.{machine_is}
 use Rattle.its_machine.specs.Across.{channel_by, channel_at, Across}
@@ -185,18 +185,18 @@ placed_tidy p new x e h = subst Tidy (sym e) (placed_keeps p x h)
 -- all of it
 pub load_done : (old mid put at new : Plain) (s u j : ℕ) (console : Option ℕ) → s < slots → least_free (limit (machine_of old)) (machine_of old).jobs ≡ Some s
     → machine_of mid ≡ with_new (machine_of old) s (new_job u j console) → machine_of put ≡ with_holder (machine_of mid) s console
-    → at ≡ record put { place = spots.Load s } → new ≡ record at { touched = one_slot s } → Loads old new s (loaded (machine_of old) u j console)
-unfolding loaded
+    → at ≡ record put { place = spots.Load s } → new ≡ record at { touched = one_slot s } → Loads old new s (after_load (machine_of old) u j console)
+unfolding after_load
 load_done old mid put at new s u j console l least made held placed e = record {
-  is = ap (loaded_in (machine_of old) u j console) least
+  is = ap (after_load_in (machine_of old) u j console) least
       ∙ ap (λ (m : Machine). Ok (m, s)) (sym (touched_machine at new (one_slot s) e ∙ ap machine_of placed ∙ placed_machine put (spots.Load s) ∙ held ∙ ap (λ (m : Machine). with_holder m s console) made));
   touched = only_touched at new s l e;
   place = ap (λ (p : Plain). p.place) e ∙ ap (λ (p : Plain). p.place) placed;
 }
 
-pub load_full : (p : Plain) (u j : ℕ) (console : Option ℕ) → least_free (limit (machine_of p)) (machine_of p).jobs ≡ None → loaded (machine_of p) u j console ≡ Err reasons.Full
-unfolding loaded
-load_full p u j console none = ap (loaded_in (machine_of p) u j console) none
+pub load_full : (p : Plain) (u j : ℕ) (console : Option ℕ) → least_free (limit (machine_of p)) (machine_of p).jobs ≡ None → after_load (machine_of p) u j console ≡ Err reasons.Full
+unfolding after_load
+load_full p u j console none = ap (after_load_in (machine_of p) u j console) none
 
 -- an inferior, in the least free slot of the machine
 pub same_free : (p : Plain) (s k : ℕ) → least_free (limit (machine_of p)) (machine_of p).jobs ≡ Some s → least_free p.jobs.limit (job_at p.jobs) ≡ Some k → k ≡ s

@@ -18,7 +18,7 @@ use Rattle.its_files.specs.Files.{Store}
 use Rattle.its_jobs.specs.Table.{job_at, superior_at}
 use Rattle.its_plain.specs.Machine.{Whole, Machine, mapped, core_of}
 use Rattle.its_plain.specs.Operator.{and_then}
-use Rattle.its_plain.specs.OperatorJobs.{with_core, stored_in, stored, word_loaded_of, word_loaded, words_stored, any_barred, barred_in, words_loaded_if, words_loaded}
+use Rattle.its_plain.specs.OperatorJobs.{with_core, with_stored_in, with_stored, with_word_loaded_of, with_word_loaded, with_words_stored, any_barred, barred_in, with_words_loaded_if, with_words_loaded}
 use Rattle.its_machine.specs.Parts.{alarm_at, raw_of}
 use Rattle.its_direct.specs.Plain.{machine_of, Tidy, Aside, CoreBecomes}
 use Rattle.its_direct.specs.Lines.{one_slot, Operates, pages_made}
@@ -59,11 +59,11 @@ abbrev room : Plain → Bool
 room p = nat_lt (pages_mapped (core_at p.core)) most_pages
 
 word_on : (p : Plain) (s a x : ℕ) (i : Job) → job_at p.jobs s ≡ Some i → Tidy p
-    → word_loaded (machine_of p) s a x ≡ with_core (machine_of p) s (own_of p s i) (stored_in (core_at p.core s) a x (can p s a) (there p s a) (room p))
-unfolding word_loaded stored
+    → with_word_loaded (machine_of p) s a x ≡ with_core (machine_of p) s (own_of p s i) (with_stored_in (core_at p.core s) a x (can p s a) (there p s a) (room p))
+unfolding with_word_loaded with_stored
 word_on p s a x i had tidy =
-    ap (word_loaded_of (machine_of p) s a x) (own_is p s i had)
-    ∙ ap (λ n. with_core (machine_of p) s (own_of p s i) (stored_in (core_at p.core s) a x (can p s a) (there p s a) (nat_lt n most_pages))) (mapped_is p tidy)
+    ap (with_word_loaded_of (machine_of p) s a x) (own_is p s i had)
+    ∙ ap (λ n. with_core (machine_of p) s (own_of p s i) (with_stored_in (core_at p.core s) a x (can p s a) (there p s a) (nat_lt n most_pages))) (mapped_is p tidy)
 
 some_of : {X : Type 0} (o : Option X) → is_some o ≡ true → (x : X) × (o ≡ Some x)
 some_of (Some x) h = (x, refl)
@@ -81,10 +81,10 @@ module _ (old : Plain) (s a x : ℕ) (job : is_some (job_at old.jobs s) ≡ true
   had : (i : Job) × (job_at old.jobs s ≡ Some i)
   had = some_of (job_at old.jobs s) job
 
-  pub word_stored : (new : Plain) → can_store (core_at old.core s) a ≡ true → CoreBecomes old new s (store (core_at old.core s) a x) → word_loaded (machine_of old) s a x ≡ Ok (machine_of new)
+  pub word_stored : (new : Plain) → can_store (core_at old.core s) a ≡ true → CoreBecomes old new s (store (core_at old.core s) a x) → with_word_loaded (machine_of old) s a x ≡ Ok (machine_of new)
   word_stored new t b =
       word_on old s a x had.0 had.1 tidy
-      ∙ ap (λ y. with_core (machine_of old) s (own_of old s had.0) (stored_in (core_at old.core s) a x y (there old s a) (room old))) t
+      ∙ ap (λ y. with_core (machine_of old) s (own_of old s had.0) (with_stored_in (core_at old.core s) a x y (there old s a) (room old))) t
       ∙ becomes_is old new s (store (core_at old.core s) a x) had.0 had.1 b
 
   absent_word : 16 ≤ a → page_of (core_at old.core s) (a / 1024) ≡ None → (can old s a ≡ false) × (there old s a ≡ false)
@@ -94,40 +94,40 @@ module _ (old : Plain) (s a x : ℕ) (job : is_some (job_at old.jobs s) ≡ true
       (rw (t, h) refl, rw (t, h) refl)
 
   absent_on : 16 ≤ a → page_of (core_at old.core s) (a / 1024) ≡ None
-      → word_loaded (machine_of old) s a x ≡ with_core (machine_of old) s (own_of old s had.0) (stored_in (core_at old.core s) a x false false (room old))
+      → with_word_loaded (machine_of old) s a x ≡ with_core (machine_of old) s (own_of old s had.0) (with_stored_in (core_at old.core s) a x false false (room old))
   absent_on l h =
       let f = absent_word l h in
       word_on old s a x had.0 had.1 tidy
-      ∙ ap (λ y. with_core (machine_of old) s (own_of old s had.0) (stored_in (core_at old.core s) a x y (there old s a) (room old))) f.0
-      ∙ ap (λ y. with_core (machine_of old) s (own_of old s had.0) (stored_in (core_at old.core s) a x false y (room old))) f.1
+      ∙ ap (λ y. with_core (machine_of old) s (own_of old s had.0) (with_stored_in (core_at old.core s) a x y (there old s a) (room old))) f.0
+      ∙ ap (λ y. with_core (machine_of old) s (own_of old s had.0) (with_stored_in (core_at old.core s) a x false y (room old))) f.1
 
   pub word_made : (new : Plain) → 16 ≤ a → page_of (core_at old.core s) (a / 1024) ≡ None → pages_mapped (core_at old.core) < most_pages
-      → CoreBecomes old new s (store (with_page (core_at old.core s) (a / 1024) (Some zero_page)) a x) → word_loaded (machine_of old) s a x ≡ Ok (machine_of new)
+      → CoreBecomes old new s (store (with_page (core_at old.core s) (a / 1024) (Some zero_page)) a x) → with_word_loaded (machine_of old) s a x ≡ Ok (machine_of new)
   word_made new l h r b =
       absent_on l h
-      ∙ ap (λ y. with_core (machine_of old) s (own_of old s had.0) (stored_in (core_at old.core s) a x false false y)) (lt-ltb (pages_mapped (core_at old.core)) most_pages r)
+      ∙ ap (λ y. with_core (machine_of old) s (own_of old s had.0) (with_stored_in (core_at old.core s) a x false false y)) (lt-ltb (pages_mapped (core_at old.core)) most_pages r)
       ∙ becomes_is old new s (store (with_page (core_at old.core s) (a / 1024) (Some zero_page)) a x) had.0 had.1 b
 
-  word_full : 16 ≤ a → page_of (core_at old.core s) (a / 1024) ≡ None → most_pages ≤ pages_mapped (core_at old.core) → word_loaded (machine_of old) s a x ≡ Err reasons.Full
+  word_full : 16 ≤ a → page_of (core_at old.core s) (a / 1024) ≡ None → most_pages ≤ pages_mapped (core_at old.core) → with_word_loaded (machine_of old) s a x ≡ Err reasons.Full
   word_full l h r =
       absent_on l h
-      ∙ ap (λ y. with_core (machine_of old) s (own_of old s had.0) (stored_in (core_at old.core s) a x false false y)) (le-ltb (pages_mapped (core_at old.core)) most_pages r)
+      ∙ ap (λ y. with_core (machine_of old) s (own_of old s had.0) (with_stored_in (core_at old.core s) a x false false y)) (le-ltb (pages_mapped (core_at old.core)) most_pages r)
 
   barred_by : (b : Bool) (o : Option ℕ) → putting (core_at old.core s) a x b o ≡ Err ReadOnly
-      → with_core (machine_of old) s (own_of old s had.0) (stored_in (core_at old.core s) a x b (is_some o) (room old)) ≡ Err reasons.ReadOnly
+      → with_core (machine_of old) s (own_of old s had.0) (with_stored_in (core_at old.core s) a x b (is_some o) (room old)) ≡ Err reasons.ReadOnly
   barred_by true o h = cc
   barred_by false (Some v) h = refl
   barred_by false None h = cc
 
-  word_barred : put (core_at old.core s) a x ≡ Err ReadOnly → word_loaded (machine_of old) s a x ≡ Err reasons.ReadOnly
+  word_barred : put (core_at old.core s) a x ≡ Err ReadOnly → with_word_loaded (machine_of old) s a x ≡ Err reasons.ReadOnly
   word_barred h = word_on old s a x had.0 had.1 tidy ∙ barred_by (can old s a) (word_at (core_at old.core s) a) h
 
   -- a word for which there is room
-  pub word_room : 16 ≤ a → page_of (core_at old.core s) (a / 1024) ≡ None → IsOk (word_loaded (machine_of old) s a x) → pages_mapped (core_at old.core) < most_pages
-  word_room l h ok = elim (cases_lt (pages_mapped (core_at old.core)) most_pages) [ inl r ↦ r | inr r ↦ no_error (word_loaded (machine_of old) s a x) reasons.Full (word_full l h r) ok ]
+  pub word_room : 16 ≤ a → page_of (core_at old.core s) (a / 1024) ≡ None → IsOk (with_word_loaded (machine_of old) s a x) → pages_mapped (core_at old.core) < most_pages
+  word_room l h ok = elim (cases_lt (pages_mapped (core_at old.core)) most_pages) [ inl r ↦ r | inr r ↦ no_error (with_word_loaded (machine_of old) s a x) reasons.Full (word_full l h r) ok ]
 
-  pub word_free : put (core_at old.core s) a x ≡ Err ReadOnly → IsOk (word_loaded (machine_of old) s a x) → ⊥
-  word_free h ok = no_error (word_loaded (machine_of old) s a x) reasons.ReadOnly (word_barred h) ok
+  pub word_free : put (core_at old.core s) a x ≡ Err ReadOnly → IsOk (with_word_loaded (machine_of old) s a x) → ⊥
+  word_free h ok = no_error (with_word_loaded (machine_of old) s a x) reasons.ReadOnly (word_barred h) ok
 
   module _ (new : Plain) (c : Core) (b : CoreBecomes old new s c) where
     pub word_tidy : Tidy new
@@ -147,83 +147,83 @@ page_becomes old new s c core reserved jobs aside = record {
 
 -- the words in their order: those before place k are stored
 pub record Storing (old now : Plain) (s a : ℕ) (ws : List ℕ) (k : ℕ) : Type 0 where
-  pub rest : words_stored (machine_of now) s (a + k) (drop k ws) ≡ words_stored (machine_of old) s a ws
+  pub rest : with_words_stored (machine_of now) s (a + k) (drop k ws) ≡ with_words_stored (machine_of old) s a ws
   pub job : is_some (job_at now.jobs s) ≡ true
   pub place : now.place ≡ old.place
   pub tidy : Tidy now
 
 pub storing_starts : (p : Plain) (s a : ℕ) (ws : List ℕ) → is_some (job_at p.jobs s) ≡ true → Tidy p → Storing p p s a ws 0
-storing_starts p s a ws job tidy = record { rest = let e : a + 0 ≡ a = omega arith in ap (λ i. words_stored (machine_of p) s i ws) e; job = job; place = refl; tidy = tidy }
+storing_starts p s a ws job tidy = record { rest = let e : a + 0 ≡ a = omega arith in ap (λ i. with_words_stored (machine_of p) s i ws) e; job = job; place = refl; tidy = tidy }
 
 stored_next : (old now : Plain) (s a k w d : ℕ) (ws : List ℕ) → Storing old now s a ws k → k < length ws → w ≡ get_or ws k d
-    → and_then (word_loaded (machine_of now) s (a + k) w) (λ n. words_stored n s (a + (k + 1)) (drop (k + 1) ws)) ≡ words_stored (machine_of old) s a ws
+    → and_then (with_word_loaded (machine_of now) s (a + k) w) (λ n. with_words_stored n s (a + (k + 1)) (drop (k + 1) ws)) ≡ with_words_stored (machine_of old) s a ws
 stored_next old now s a k w d ws h l is =
     let f : a + k + 1 ≡ a + (k + 1) = omega arith in
-    ap (λ i. and_then (word_loaded (machine_of now) s (a + k) w) (λ n. words_stored n s i (drop (k + 1) ws))) (sym f)
-    ∙ ap (λ x. words_stored (machine_of now) s (a + k) (x ∷ drop (k + 1) ws)) is
-    ∙ ap (words_stored (machine_of now) s (a + k)) (sym (drop_more ws k d l)) ∙ h.rest
+    ap (λ i. and_then (with_word_loaded (machine_of now) s (a + k) w) (λ n. with_words_stored n s i (drop (k + 1) ws))) (sym f)
+    ∙ ap (λ x. with_words_stored (machine_of now) s (a + k) (x ∷ drop (k + 1) ws)) is
+    ∙ ap (with_words_stored (machine_of now) s (a + k)) (sym (drop_more ws k d l)) ∙ h.rest
 
 pub first_ok : {A B E : Type 0} (r : Result A E) (f : A → Result B E) → IsOk (and_then r f) → IsOk r
 first_ok (Ok x) f h = refl
 first_ok (Err e) f h = h
 
-pub storing_room : (old now : Plain) (s a k w d : ℕ) (ws : List ℕ) → Storing old now s a ws k → k < length ws → w ≡ get_or ws k d → IsOk (words_stored (machine_of old) s a ws)
-    → IsOk (word_loaded (machine_of now) s (a + k) w)
+pub storing_room : (old now : Plain) (s a k w d : ℕ) (ws : List ℕ) → Storing old now s a ws k → k < length ws → w ≡ get_or ws k d → IsOk (with_words_stored (machine_of old) s a ws)
+    → IsOk (with_word_loaded (machine_of now) s (a + k) w)
 storing_room old now s a k w d ws h l is ok =
-    first_ok (word_loaded (machine_of now) s (a + k) w) (λ n. words_stored n s (a + (k + 1)) (drop (k + 1) ws)) (subst (λ (r : Result Machine Reason). IsOk r) (sym (stored_next old now s a k w d ws h l is)) ok)
+    first_ok (with_word_loaded (machine_of now) s (a + k) w) (λ n. with_words_stored n s (a + (k + 1)) (drop (k + 1) ws)) (subst (λ (r : Result Machine Reason). IsOk r) (sym (stored_next old now s a k w d ws h l is)) ok)
 
-pub storing_more : (old now new : Plain) (s a k w d : ℕ) (ws : List ℕ) → Storing old now s a ws k → k < length ws → w ≡ get_or ws k d → word_loaded (machine_of now) s (a + k) w ≡ Ok (machine_of new)
+pub storing_more : (old now new : Plain) (s a k w d : ℕ) (ws : List ℕ) → Storing old now s a ws k → k < length ws → w ≡ get_or ws k d → with_word_loaded (machine_of now) s (a + k) w ≡ Ok (machine_of new)
     → is_some (job_at new.jobs s) ≡ true → new.place ≡ now.place → Tidy new → Storing old new s a ws (k + 1)
 storing_more old now new s a k w d ws h l is made job place tidy = record {
-  rest = sym (ap (λ r. and_then r (λ n. words_stored n s (a + (k + 1)) (drop (k + 1) ws))) made) ∙ stored_next old now s a k w d ws h l is;
+  rest = sym (ap (λ r. and_then r (λ n. with_words_stored n s (a + (k + 1)) (drop (k + 1) ws))) made) ∙ stored_next old now s a k w d ws h l is;
   job = job;
   place = place ∙ h.place;
   tidy = tidy;
 }
 
-pub storing_ends : (old now : Plain) (s a k n : ℕ) (ws : List ℕ) → Storing old now s a ws k → n ≡ length ws → n ≤ k → words_stored (machine_of old) s a ws ≡ Ok (machine_of now)
-storing_ends old now s a k n ws h is l = sym h.rest ∙ ap (words_stored (machine_of now) s (a + k)) (drop_of_length-le ws (omega arith))
+pub storing_ends : (old now : Plain) (s a k n : ℕ) (ws : List ℕ) → Storing old now s a ws k → n ≡ length ws → n ≤ k → with_words_stored (machine_of old) s a ws ≡ Ok (machine_of now)
+storing_ends old now s a k n ws h is l = sym h.rest ∙ ap (with_words_stored (machine_of now) s (a + k)) (drop_of_length-le ws (omega arith))
 
 -- the line
-line_on : (p : Plain) (s a : ℕ) (ws : List ℕ) (i : Job) → job_at p.jobs s ≡ Some i → words_loaded (machine_of p) s a ws ≡ words_loaded_if (machine_of p) s a ws (any_barred (core_at p.core s) a (length ws))
-unfolding words_loaded
-line_on p s a ws i had = ap (λ (o : Option Whole). words_loaded_if (machine_of p) s a ws (barred_in o a (length ws))) (own_is p s i had)
+line_on : (p : Plain) (s a : ℕ) (ws : List ℕ) (i : Job) → job_at p.jobs s ≡ Some i → with_words_loaded (machine_of p) s a ws ≡ with_words_loaded_if (machine_of p) s a ws (any_barred (core_at p.core s) a (length ws))
+unfolding with_words_loaded
+line_on p s a ws i had = ap (λ (o : Option Whole). with_words_loaded_if (machine_of p) s a ws (barred_in o a (length ws))) (own_is p s i had)
 
 module _ (old : Plain) (s a : ℕ) (ws : List ℕ) (i : Job) (had : job_at old.jobs s ≡ Some i) (b : Bool) (barred : b ≡ any_barred (core_at old.core s) a (length ws)) where
-  pub line_barred : b ≡ true → words_loaded (machine_of old) s a ws ≡ Err reasons.ReadOnly
-  line_barred t = line_on old s a ws i had ∙ ap (words_loaded_if (machine_of old) s a ws) (sym barred ∙ t)
+  pub line_barred : b ≡ true → with_words_loaded (machine_of old) s a ws ≡ Err reasons.ReadOnly
+  line_barred t = line_on old s a ws i had ∙ ap (with_words_loaded_if (machine_of old) s a ws) (sym barred ∙ t)
 
   module _ (free : b ≡ false) where
-    stored_line : words_loaded (machine_of old) s a ws ≡ words_stored (machine_of old) s a ws
-    stored_line = line_on old s a ws i had ∙ ap (words_loaded_if (machine_of old) s a ws) (sym barred ∙ free)
+    stored_line : with_words_loaded (machine_of old) s a ws ≡ with_words_stored (machine_of old) s a ws
+    stored_line = line_on old s a ws i had ∙ ap (with_words_loaded_if (machine_of old) s a ws) (sym barred ∙ free)
 
     -- n pages are mapped, and so many are made
     module _ (tidy : Tidy old) (slot : s < slots) (end : a + length ws ≤ 2 ^ 18) (whole : IsWhole (core_at old.core s)) (n made : ℕ) (number : n ≡ pages_mapped (core_at old.core)) (few : n ≤ most_pages)
         (made_is : made ≡ pages_made (core_at old.core s) a (length ws)) where
-      within : Within most_pages (n + made) (words_stored (machine_of old) s a ws)
+      within : Within most_pages (n + made) (with_words_stored (machine_of old) s a ws)
       within =
           let mapped_now : mapped (machine_of old) ≡ n = mapped_is old tidy ∙ sym number in
-          subst (λ k. Within most_pages (n + k) (words_stored (machine_of old) s a ws)) (sym made_is)
-          (subst (λ k. Within most_pages (k + pages_made (core_at old.core s) a (length ws)) (words_stored (machine_of old) s a ws)) mapped_now
+          subst (λ k. Within most_pages (n + k) (with_words_stored (machine_of old) s a ws)) (sym made_is)
+          (subst (λ k. Within most_pages (k + pages_made (core_at old.core s) a (length ws)) (with_words_stored (machine_of old) s a ws)) mapped_now
           (room_of s a ws (machine_of old) (own_of old s i) (own_is old s i had) slot (ready_whole (core_at old.core s) a (length ws) whole (sym barred ∙ free)) end (subst (λ k. k ≤ most_pages) (sym mapped_now) few)))
 
-      pub line_room : n + made ≤ most_pages → IsOk (words_stored (machine_of old) s a ws)
-      line_room le = within_ok most_pages (n + made) (words_stored (machine_of old) s a ws) within le
+      pub line_room : n + made ≤ most_pages → IsOk (with_words_stored (machine_of old) s a ws)
+      line_room le = within_ok most_pages (n + made) (with_words_stored (machine_of old) s a ws) within le
 
-      pub line_full : most_pages < n + made → words_loaded (machine_of old) s a ws ≡ Err reasons.Full
-      line_full lt = stored_line ∙ within_full most_pages (n + made) (words_stored (machine_of old) s a ws) within lt
+      pub line_full : most_pages < n + made → with_words_loaded (machine_of old) s a ws ≡ Err reasons.Full
+      line_full lt = stored_line ∙ within_full most_pages (n + made) (with_words_stored (machine_of old) s a ws) within lt
 
-    pub line_done : (put new : Plain) → s < slots → words_stored (machine_of old) s a ws ≡ Ok (machine_of put) → put.place ≡ old.place → new ≡ record put { touched = one_slot s }
-        → Operates old new s (words_loaded (machine_of old) s a ws)
+    pub line_done : (put new : Plain) → s < slots → with_words_stored (machine_of old) s a ws ≡ Ok (machine_of put) → put.place ≡ old.place → new ≡ record put { touched = one_slot s }
+        → Operates old new s (with_words_loaded (machine_of old) s a ws)
     line_done put new l made place e = record {
       is = stored_line ∙ made ∙ ap Ok (sym (touched_machine put new (one_slot s) e));
       touched = only_touched put new s l e;
       place = ap (λ (p : Plain). p.place) e ∙ place;
     }
 
-pub line_refused : (p : Plain) (s a : ℕ) (ws : List ℕ) → 1 ≤ length ws → job_at p.jobs s ≡ None → words_loaded (machine_of p) s a ws ≡ Err reasons.NoJob
-unfolding words_loaded word_loaded
+pub line_refused : (p : Plain) (s a : ℕ) (ws : List ℕ) → 1 ≤ length ws → job_at p.jobs s ≡ None → with_words_loaded (machine_of p) s a ws ≡ Err reasons.NoJob
+unfolding with_words_loaded with_word_loaded
 line_refused p s a [] some none = absurd (omega arith)
 line_refused p s a (w ∷ ws) some none =
-    ap (λ (o : Option Whole). words_loaded_if (machine_of p) s a (w ∷ ws) (barred_in o a (length (w ∷ ws)))) (nobody_is p s none)
-    ∙ ap (λ (o : Option Whole). and_then (word_loaded_of (machine_of p) s a w o) (λ n. words_stored n s (a + 1) ws)) (nobody_is p s none)
+    ap (λ (o : Option Whole). with_words_loaded_if (machine_of p) s a (w ∷ ws) (barred_in o a (length (w ∷ ws)))) (nobody_is p s none)
+    ∙ ap (λ (o : Option Whole). and_then (with_word_loaded_of (machine_of p) s a w o) (λ n. with_words_stored n s (a + 1) ws)) (nobody_is p s none)

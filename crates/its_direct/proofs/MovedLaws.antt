@@ -11,8 +11,8 @@ use Rattle.its_word.specs.declared.calls.Operand.{Operand}
 use Rattle.its_word.specs.declared.plan.Store.{Store}
 use Rattle.its_frame.specs.declared.decision.Held.{Held}
 use Rattle.its_core.specs.Cores.{core_at}
-use Rattle.its_plain.specs.Arguments.{debts, input, revalued, store_of, stores_of, value_in, valued}
-use Rattle.its_plain.specs.CallStep.{deposited, moved, with_held}
+use Rattle.its_plain.specs.Arguments.{debts, input, with_new_values, store_of, stores_of, value_in, operands_with_values}
+use Rattle.its_plain.specs.CallStep.{deposited, after_moves, with_held}
 use Rattle.its_plain.specs.Change.{in_job, on_slot}
 use Rattle.its_plain.specs.Machine.{Machine, Whole, core_of}
 use Rattle.its_plain.specs.Own.{with_stores}
@@ -27,13 +27,13 @@ use Rattle.its_direct.proofs.ActLaws.{becomes_then, twice}
 use Rattle.its_direct.proofs.EffectLaws.{core_is, poke_can}
 
 -- the value of an input among those that have new values
-valued_at : (os : List Operand) (vs : List ℕ) (k : ℕ) (o : Operand) → slice_get os k ≡ Some o → value_in (slice_get (valued os vs) k) ≡ unwrap_or (slice_get vs k) o.value
+valued_at : (os : List Operand) (vs : List ℕ) (k : ℕ) (o : Operand) → slice_get os k ≡ Some o → value_in (slice_get (operands_with_values os vs) k) ≡ unwrap_or (slice_get vs k) o.value
 valued_at [] vs k o h = cc
 valued_at (x ∷ os) [] k o h = ap value_in h
 valued_at (x ∷ os) (v ∷ vs) zero o h = refl
 valued_at (x ∷ os) (v ∷ vs) (suc k) o h = valued_at os vs k o h
 
-valued_past : (os : List Operand) (vs : List ℕ) (k : ℕ) → slice_get os k ≡ None → slice_get (valued os vs) k ≡ None
+valued_past : (os : List Operand) (vs : List ℕ) (k : ℕ) → slice_get os k ≡ None → slice_get (operands_with_values os vs) k ≡ None
 valued_past [] [] k h = h
 valued_past [] (v ∷ vs) k h = h
 valued_past (x ∷ os) [] k h = h
@@ -42,7 +42,7 @@ valued_past (x ∷ os) (v ∷ vs) (suc k) h = valued_past os vs k h
 
 -- of the inputs with n that keep theirs
 abbrev behind : ℕ → List Operand → List ℕ → List Operand
-behind n xs vs = take n xs ++ valued (drop n xs) vs
+behind n xs vs = take n xs ++ operands_with_values (drop n xs) vs
 
 kept_at : (n : ℕ) (xs : List Operand) (vs : List ℕ) (k : ℕ) (o : Operand) → slice_get xs k ≡ Some o → k < n → value_in (slice_get (behind n xs vs) k) ≡ o.value
 kept_at zero xs vs k o h l = absurd (omega arith)
@@ -72,30 +72,30 @@ get_none [] k l = refl
 get_none (y ∷ xs) zero l = absurd (omega arith)
 get_none (y ∷ xs) (suc k) l = get_none xs k (omega arith)
 
-pub new_none : (a : Ask) (vs : List ℕ) (k : ℕ) → length a.inputs.items ≤ k → input (revalued a vs) k ≡ 0
-unfolding revalued
+pub new_none : (a : Ask) (vs : List ℕ) (k : ℕ) → length a.inputs.items ≤ k → input (with_new_values a vs) k ≡ 0
+unfolding with_new_values
 new_none a vs k l = ap value_in (past_at (length a.inputs.items - length vs) a.inputs.items vs k (get_none a.inputs.items k l))
 
 pub new_kept : (a : Ask) (vs : List ℕ) (n k : ℕ) (o : Operand) → k < length a.inputs.items → o ≡ slice_index_or a.inputs.items k o → n ≡ length a.inputs.items - length vs → k < n
-    → input (revalued a vs) k ≡ o.value
-unfolding revalued
+    → input (with_new_values a vs) k ≡ o.value
+unfolding with_new_values
 new_kept a vs n k o l is e below = kept_at (length a.inputs.items - length vs) a.inputs.items vs k o (get_is a.inputs.items k o l is) (omega arith)
 
 pub new_set : (a : Ask) (vs : List ℕ) (n k v : ℕ) (o : Operand) → k < length a.inputs.items → o ≡ slice_index_or a.inputs.items k o → n ≡ length a.inputs.items - length vs → n ≤ k
-    → v ≡ slice_index_or vs (k - n) v → input (revalued a vs) k ≡ v
-unfolding revalued
+    → v ≡ slice_index_or vs (k - n) v → input (with_new_values a vs) k ≡ v
+unfolding with_new_values
 new_set a vs n k v o l is e from at =
     set_at (length a.inputs.items - length vs) a.inputs.items vs k (k - n) o (get_is a.inputs.items k o l is) (omega arith)
     ∙ ap (λ (x : Option ℕ). unwrap_or x o.value) (get_is vs (k - n) v (omega arith) at)
 
 -- the stores of new values are those of the last inputs
-length_valued : (os : List Operand) (vs : List ℕ) → length (valued os vs) ≡ length os
+length_valued : (os : List Operand) (vs : List ℕ) → length (operands_with_values os vs) ≡ length os
 length_valued [] [] = refl
 length_valued [] (v ∷ vs) = refl
 length_valued (o ∷ os) [] = refl
 length_valued (o ∷ os) (v ∷ vs) = ap suc (length_valued os vs)
 
-no_operands : (vs : List ℕ) → valued [] vs ≡ []
+no_operands : (vs : List ℕ) → operands_with_values [] vs ≡ []
 no_operands [] = refl
 no_operands (v ∷ vs) = refl
 
@@ -104,12 +104,12 @@ drop_taken zero xs ys h = refl
 drop_taken (suc k) [] ys h = absurd (omega arith)
 drop_taken (suc k) (x ∷ xs) ys h = drop_taken k xs ys (omega arith)
 
-debts_are : (a : Ask) (vs : List ℕ) → debts (revalued a vs) (length vs) ≡ stores_of (valued (drop (length a.inputs.items - length vs) a.inputs.items) vs)
-unfolding debts revalued
+debts_are : (a : Ask) (vs : List ℕ) → debts (with_new_values a vs) (length vs) ≡ stores_of (operands_with_values (drop (length a.inputs.items - length vs) a.inputs.items) vs)
+unfolding debts with_new_values
 debts_are a vs =
     let xs = a.inputs.items in
     let kept : ℕ = length xs - length vs in
-    let ys = valued (drop kept xs) vs in
+    let ys = operands_with_values (drop kept xs) vs in
     let l : length (take kept xs ++ ys) - length vs ≡ kept =
     (let t = length-append (take kept xs) ys in let u = length-take kept xs in let v = length_valued (drop kept xs) vs in let w = length-drop kept xs in omega arith) in
     ap (λ n. stores_of (drop n (take kept xs ++ ys))) l ∙ ap stores_of (drop_taken kept xs ys (omega arith))
@@ -122,21 +122,21 @@ store_more v None ss = refl
 pub record Valuing (a : Ask) (vs : List ℕ) (kept k : ℕ) (stores : List Store) : Type 0 where
   pub kept_is : kept ≡ length a.inputs.items - length vs
   pub few : length stores ≤ k
-  pub rest : stores ++ stores_of (valued (drop (kept + k) a.inputs.items) (drop k vs)) ≡ stores_of (valued (drop kept a.inputs.items) vs)
+  pub rest : stores ++ stores_of (operands_with_values (drop (kept + k) a.inputs.items) (drop k vs)) ≡ stores_of (operands_with_values (drop kept a.inputs.items) vs)
 
 pub valuing_start : (a : Ask) (vs : List ℕ) (kept : ℕ) → kept ≡ length a.inputs.items - length vs → Valuing a vs kept 0 []
 valuing_start a vs kept e = record {
   kept_is = e;
   few = omega arith;
-  rest = ap (λ (n : ℕ). stores_of (valued (drop n a.inputs.items) vs)) (plus_none kept);
+  rest = ap (λ (n : ℕ). stores_of (operands_with_values (drop n a.inputs.items) vs)) (plus_none kept);
 }
   where
     plus_none : (n : ℕ) → n + 0 ≡ n
     plus_none n = omega arith
 
 valued_here : (xs : List Operand) (vs : List ℕ) (i k v : ℕ) (o : Operand) → i < length xs → k < length vs → o ≡ slice_index_or xs i o → v ≡ slice_index_or vs k v
-    → stores_of (valued (drop i xs) (drop k vs)) ≡ store_of (record { value = v; place = o.place }) (stores_of (valued (drop (i + 1) xs) (drop (k + 1) vs)))
-valued_here xs vs i k v o lx lv io iv = λ t. stores_of (valued (head_x t) (head_v t))
+    → stores_of (operands_with_values (drop i xs) (drop k vs)) ≡ store_of (record { value = v; place = o.place }) (stores_of (operands_with_values (drop (i + 1) xs) (drop (k + 1) vs)))
+valued_here xs vs i k v o lx lv io iv = λ t. stores_of (operands_with_values (head_x t) (head_v t))
   where
     one : (n : ℕ) → suc n ≡ n + 1
     one n = omega arith
@@ -154,10 +154,10 @@ valuing_set a vs kept k v o old new h lv lx io iv e most = record {
   kept_is = h.kept_is;
   few = let f = h.few in omega arith;
   rest =
-      let X = stores_of (valued (drop (kept + (k + 1)) a.inputs.items) (drop (k + 1) vs)) in
+      let X = stores_of (operands_with_values (drop (kept + (k + 1)) a.inputs.items) (drop (k + 1) vs)) in
       ap (λ (ss : List Store). ss ++ X) e ∙ append_assoc old (store_of (record { value = v; place = o.place }) []) X
       ∙ ap (λ (ss : List Store). old ++ ss) (sym (store_more v o.place X))
-      ∙ ap (λ (n : ℕ). old ++ store_of (record { value = v; place = o.place }) (stores_of (valued (drop n a.inputs.items) (drop (k + 1) vs)))) (further kept k)
+      ∙ ap (λ (n : ℕ). old ++ store_of (record { value = v; place = o.place }) (stores_of (operands_with_values (drop n a.inputs.items) (drop (k + 1) vs)))) (further kept k)
       ∙ ap (λ (ss : List Store). old ++ ss) (sym (valued_here a.inputs.items vs (kept + k) k v o lx lv io iv))
       ∙ h.rest;
 }
@@ -165,8 +165,8 @@ valuing_set a vs kept k v o old new h lv lx io iv e most = record {
     further : (n m : ℕ) → n + (m + 1) ≡ n + m + 1
     further n m = omega arith
 
-nothing_left : (xs : List Operand) (vs : List ℕ) (i : ℕ) → length xs ≤ i → stores_of (valued (drop i xs) vs) ≡ []
-nothing_left xs vs i le = ap (λ (os : List Operand). stores_of (valued os vs)) (drop_all i xs le) ∙ ap stores_of (no_operands vs)
+nothing_left : (xs : List Operand) (vs : List ℕ) (i : ℕ) → length xs ≤ i → stores_of (operands_with_values (drop i xs) vs) ≡ []
+nothing_left xs vs i le = ap (λ (os : List Operand). stores_of (operands_with_values os vs)) (drop_all i xs le) ∙ ap stores_of (no_operands vs)
 
 pub valuing_past : (a : Ask) (vs : List ℕ) (kept k : ℕ) (stores : List Store) → Valuing a vs kept k stores → length a.inputs.items ≤ kept + k → Valuing a vs kept (k + 1) stores
 valuing_past a vs kept k stores h le = record {
@@ -175,11 +175,11 @@ valuing_past a vs kept k stores h le = record {
   rest = ap (λ (ss : List Store). stores ++ ss) (nothing_left a.inputs.items (drop (k + 1) vs) (kept + (k + 1)) (omega arith) ∙ sym (nothing_left a.inputs.items (drop k vs) (kept + k) le)) ∙ h.rest;
 }
 
-pub valuing_end : (a : Ask) (vs : List ℕ) (kept k : ℕ) (stores : List Store) → Valuing a vs kept k stores → length vs ≤ k → stores ≡ debts (revalued a vs) (length vs)
+pub valuing_end : (a : Ask) (vs : List ℕ) (kept k : ℕ) (stores : List Store) → Valuing a vs kept k stores → length vs ≤ k → stores ≡ debts (with_new_values a vs) (length vs)
 valuing_end a vs kept k stores h le =
     let e = h.kept_is in
     sym (append-nil stores) ∙ ap (λ (ss : List Store). stores ++ ss) (sym (nothing_left a.inputs.items (drop k vs) (kept + k) (omega arith)))
-    ∙ h.rest ∙ ap (λ (n : ℕ). stores_of (valued (drop n a.inputs.items) vs)) e ∙ sym (debts_are a vs)
+    ∙ h.rest ∙ ap (λ (n : ℕ). stores_of (operands_with_values (drop n a.inputs.items) vs)) e ∙ sym (debts_are a vs)
 
 -- what a job becomes is asked of that job alone
 same_here : (m : Machine) (s : ℕ) (f g : Whole → Whole) → ((q : Whole) → m.jobs s ≡ Some q → f q ≡ g q) → in_job m s f ≡ in_job m s g
@@ -234,9 +234,9 @@ debts_can mid put n s a h ss e job is can =
     ∙ ap (λ (c : Core). first_fault c ss) (held_core n s a h job) ∙ can
 
 -- the part as a whole
-pub went_on : (old mid put new : Plain) (s : ℕ) (m : Machine) (a : Ask) (h : Option Held) (vs : List ℕ) → Becomes old mid m → Becomes mid put (in_job (machine_of mid) s (with_held (revalued a vs) h))
-    → Becomes put new (in_job (machine_of put) s (with_stores (debts (revalued a vs) (length vs)))) → Becomes old new (in_job m s (moved a h vs))
+pub went_on : (old mid put new : Plain) (s : ℕ) (m : Machine) (a : Ask) (h : Option Held) (vs : List ℕ) → Becomes old mid m → Becomes mid put (in_job (machine_of mid) s (with_held (with_new_values a vs) h))
+    → Becomes put new (in_job (machine_of put) s (with_stores (debts (with_new_values a vs) (length vs)))) → Becomes old new (in_job m s (after_moves a h vs))
 went_on old mid put new s m a h vs x y z =
-    becomes_then old put new (in_job m s (with_held (revalued a vs) h)) (in_job m s (moved a h vs)) (λ n. in_job n s (with_stores (debts (revalued a vs) (length vs))))
-    (becomes_then old mid put m (in_job m s (with_held (revalued a vs) h)) (λ n. in_job n s (with_held (revalued a vs) h)) x y refl) z
-    (twice m s (with_held (revalued a vs) h) (with_stores (debts (revalued a vs) (length vs))))
+    becomes_then old put new (in_job m s (with_held (with_new_values a vs) h)) (in_job m s (after_moves a h vs)) (λ n. in_job n s (with_stores (debts (with_new_values a vs) (length vs))))
+    (becomes_then old mid put m (in_job m s (with_held (with_new_values a vs) h)) (λ n. in_job n s (with_held (with_new_values a vs) h)) x y refl) z
+    (twice m s (with_held (with_new_values a vs) h) (with_stores (debts (with_new_values a vs) (length vs))))

@@ -15,8 +15,8 @@ use Rattle.its_session.specs.Events.{place_after}
 use Rattle.its_plain.specs.CallFile.{has_file, is_full, file_named, most_files}
 use Rattle.its_plain.specs.Machine.{Names, File, Whole, Machine, limit}
 use Rattle.its_plain.specs.Operator.{Block, Does, Refuses, Ticks, Quits, and_then, disturbs, quietly}
-use Rattle.its_plain.specs.OperatorFiles.{channels_of, file_made, file_made_if, word_added, word_added_if, word_added_to, words_added}
-use Rattle.its_plain.specs.OperatorJobs.{loaded, loaded_in}
+use Rattle.its_plain.specs.OperatorFiles.{channels_of, with_file_made, with_file_made_if, with_word_added, with_word_added_if, with_word_added_to, with_words_added}
+use Rattle.its_plain.specs.OperatorJobs.{after_load, after_load_in}
 use Rattle.its_plain.specs.OperatorLines.{Lined, Done, Peeks, by_load, lined, operate}
 use Rattle.its_plain.specs.Own.{names_of}
 use Rattle.its_plain.proofs.CallLineLaws.{SlotKept, Stays, Made, LineKeepsBy, line_keeps}
@@ -48,13 +48,13 @@ plain_placed (Done Quits) = tt
 plain_placed (Peeks s) = tt
 
 -- LOAD makes the job, and the lines of its block leave it
-load_placed : (m : Machine) (b : Block) (u j : ℕ) (console o : Option ℕ) → least_free (limit m) m.jobs ≡ o → PlacedBy places.Load (Done (by_load b (loaded_in m u j console o)))
+load_placed : (m : Machine) (b : Block) (u j : ℕ) (console o : Option ℕ) → least_free (limit m) m.jobs ≡ o → PlacedBy places.Load (Done (by_load b (after_load_in m u j console o)))
 load_placed m b u j console None is = tt
 load_placed m b u j console (Some s) is =
     let below : s < limit m = least_below (limit m) m.jobs s is in let few = limit_few m.version in
     by_console console (omega arith)
   where
-    by_console : (c : Option ℕ) → s < slots → PlacedBy places.Load (Done (by_load b (loaded_in m u j c (Some s))))
+    by_console : (c : Option ℕ) → s < slots → PlacedBy places.Load (Done (by_load b (after_load_in m u j c (Some s))))
     by_console (Some c) l = (l, rw (eq-eqb s s refl) refl)
     by_console None l = (l, rw (eq-eqb s s refl) refl)
 
@@ -81,7 +81,7 @@ has_last : (n : Names) (ws : List ℕ) (fs : List File) → has_file n (fs ++ re
 has_last n ws [] = rw (same_refl n) refl
 has_last n ws (g ∷ gs) = first_has (same_names n g.names) g (file_named n (gs ++ record { names = n; words = ws } ∷ [])) (has_last n ws gs)
 
-file_placed : (m : Machine) (b : Block) (n : Names) (there room : Bool) → PlacedBy places.File (Done (quietly (record b { file = n }) (file_made_if m n there room)))
+file_placed : (m : Machine) (b : Block) (n : Names) (there room : Bool) → PlacedBy places.File (Done (quietly (record b { file = n }) (with_file_made_if m n there room)))
 file_placed m b n true room = tt
 file_placed m b n false true = has_last n [] m.files
 file_placed m b n false false = tt
@@ -106,28 +106,28 @@ abbrev HasBy : Names → Machine → Result Machine Reason → Type 0
 HasBy n m (Ok k) = has_file n k.files ≡ has_file n m.files
 HasBy n m (Err r) = Unit {0}
 
-added_has_if : (m : Machine) (n : Names) (w : ℕ) (full : Bool) → HasBy n m (word_added_if m n w full)
+added_has_if : (m : Machine) (n : Names) (w : ℕ) (full : Bool) → HasBy n m (with_word_added_if m n w full)
 added_has_if m n w true = tt
 added_has_if m n w false = has_changed n n w m.files
 
-added_has_to : (m : Machine) (n : Names) (w : ℕ) (o : Option File) → HasBy n m (word_added_to m n w o)
+added_has_to : (m : Machine) (n : Names) (w : ℕ) (o : Option File) → HasBy n m (with_word_added_to m n w o)
 added_has_to m n w (Some f) = added_has_if m n w (is_full m.files (channels_of m) f.words)
 added_has_to m n w None = refl
 
-added_has : (m : Machine) (n : Names) (w : ℕ) → HasBy n m (word_added m n w)
-unfolding word_added
+added_has : (m : Machine) (n : Names) (w : ℕ) → HasBy n m (with_word_added m n w)
+unfolding with_word_added
 added_has m n w = added_has_to m n w (file_named n m.files)
 
 has_further : (n : Names) (m k : Machine) (r : Result Machine Reason) → has_file n k.files ≡ has_file n m.files → HasBy n k r → HasBy n m r
 has_further n m k (Ok l) a b = b ∙ a
 has_further n m k (Err r) a b = tt
 
-words_has : (m : Machine) (n : Names) (ws : List ℕ) → HasBy n m (words_added m n ws)
+words_has : (m : Machine) (n : Names) (ws : List ℕ) → HasBy n m (with_words_added m n ws)
 words_has m n [] = refl
-words_has m n (w ∷ ws) = go (word_added m n w) (added_has m n w) (λ k. words_has k n ws)
+words_has m n (w ∷ ws) = go (with_word_added m n w) (added_has m n w) (λ k. words_has k n ws)
   where
-    go : (r : Result Machine Reason) → HasBy n m r → ((k : Machine) → HasBy n k (words_added k n ws)) → HasBy n m (and_then r (λ k. words_added k n ws))
-    go (Ok k) a h = has_further n m k (words_added k n ws) a (h k)
+    go : (r : Result Machine Reason) → HasBy n m r → ((k : Machine) → HasBy n k (with_words_added k n ws)) → HasBy n m (and_then r (λ k. with_words_added k n ws))
+    go (Ok k) a h = has_further n m k (with_words_added k n ws) a (h k)
     go (Err r) a h = tt
 
 words_placed : (m : Machine) (b : Block) (r : Result Machine Reason) → HasBy b.file m r → Placed m b places.File → PlacedBy places.File (Done (quietly b r))
@@ -136,7 +136,7 @@ words_placed m b (Err r) e h = tt
 
 -- each line
 pub line_placed : (m : Machine) (b : Block) (place : Place) (e : Event) → MayStand place e → Placed m b place → PlacedBy (place_after place e) (lined m b e)
-unfolding lined operate loaded file_made
+unfolding lined operate after_load with_file_made
 line_placed m b places.First events.Nothing at h = tt
 line_placed m b places.Plain events.Nothing at h = tt
 line_placed m b places.Load events.Nothing at h = h
@@ -155,7 +155,7 @@ line_placed m b place (events.Go a) at h = plain_placed (lined m b (events.Go a)
 line_placed m b place (events.File d x y) at h = file_placed m b (names_of d x y) (has_file (names_of d x y) m.files) (nat_lt (length m.files) most_files)
 line_placed m b place (events.Append words) at h =
     subst (λ (p : Place). PlacedBy (place_after p (events.Append words)) (lined m b (events.Append words))) (sym at)
-    (words_placed m b (words_added m b.file words.items) (words_has m b.file words.items) (subst (Placed m b) at h))
+    (words_placed m b (with_words_added m b.file words.items) (words_has m b.file words.items) (subst (Placed m b) at h))
 line_placed m b place events.EndFile at h = tt
 line_placed m b place e at h = subst (λ (p : Place). PlacedBy (place_after p e) (lined m b e)) (sym at) (plain_placed (lined m b e))
 

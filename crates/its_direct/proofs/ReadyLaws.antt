@@ -18,7 +18,7 @@ use Rattle.its_frame.specs.declared.decision.Decision.{Decision}
 use Rattle.its_frame.specs.declared.decision.Decision.TheVariants.{Waits, Goes, Ends, Gone}
 use Rattle.its_frame.specs.declared.decision.Held.{Held}
 use Rattle.its_jobs.specs.Table.{job_at}
-use Rattle.its_plain.specs.Arguments.{input, store_of, stores_of, debts, revalued}
+use Rattle.its_plain.specs.Arguments.{input, store_of, stores_of, debts, with_new_values}
 use Rattle.its_plain.specs.Decode.{ask}
 use Rattle.its_plain.specs.CallStep.{Transition, decision, deposited}
 use Rattle.its_plain.specs.Change.{effect, effects}
@@ -86,11 +86,11 @@ owes_many a n e =
     omega arith
 
 -- a part of a call
-held_goes : (c : Core) (a : Ask) (vs : List ℕ) (h : Option Held) (olds : List Store) → length (debts (revalued a vs) (length vs)) ≡ length vs
-    → IfSome h (λ b. duties.HeldFits c olds (length vs) b) → IfSome h (λ b. has_size (input (revalued a vs) 1) ≡ true) → IfSome h (HeldFits c (revalued a vs))
+held_goes : (c : Core) (a : Ask) (vs : List ℕ) (h : Option Held) (olds : List Store) → length (debts (with_new_values a vs) (length vs)) ≡ length vs
+    → IfSome h (λ b. duties.HeldFits c olds (length vs) b) → IfSome h (λ b. has_size (input (with_new_values a vs) 1) ≡ true) → IfSome h (HeldFits c (with_new_values a vs))
 held_goes c a vs None olds read f size = tt
 held_goes c a vs (Some b) olds read f size = record {
-  many = (let n = owes_many (revalued a vs) (length vs) read in let two = f.two in omega arith);
+  many = (let n = owes_many (with_new_values a vs) (length vs) read in let two = f.two in omega arith);
   below = (let l = mod_below b.place (2 ^ 18) (omega arith) in let e = f.placed in omega arith);
   can = f.can;
   size = size;
@@ -98,10 +98,10 @@ held_goes c a vs (Some b) olds read f size = record {
 
 goes_on : (v : State) (j : ℕ) (q : Whole) (s : Site) (a : Ask) (n : ℕ) (cs : List Change) (h : Option Held) (vs : List ℕ) → Going v j q s a n cs h vs → GoesOn q.core a h vs
 goes_on v j q s a n cs h vs g = record {
-  few = (let l = g.debts.few in let most = most_few (revalued a vs) in omega arith);
+  few = (let l = g.debts.few in let most = most_few (with_new_values a vs) in omega arith);
   held = held_goes q.core a vs h (debts a n) g.debts.read g.held g.size;
   read = g.debts.read;
-  debts = held_fault q.core (revalued a vs) h (debts (revalued a vs) (length vs)) (none_refused q.core (debts (revalued a vs) (length vs)) g.debts.stored);
+  debts = held_fault q.core (with_new_values a vs) h (debts (with_new_values a vs) (length vs)) (none_refused q.core (debts (with_new_values a vs) (length vs)) g.debts.stored);
 }
 
 -- the caller's job after the changes

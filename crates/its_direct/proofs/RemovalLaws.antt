@@ -14,7 +14,7 @@ use Rattle.its_files.specs.Files.{Store, directory}
 use Rattle.its_jobs.specs.Table.{job_at, superior_at, in_tree, IsTree, Without}
 use Rattle.its_jobs.proofs.TreeLaws.{past_none}
 use Rattle.its_pipes.specs.Pipes.{piped}
-use Rattle.its_plain.specs.Change.{channel_in, ends_left, in_job, left_job, on_slot, passed_on, removed, shut_on, superiors, symbols_left}
+use Rattle.its_plain.specs.Change.{channel_in, ends_after_removal, in_job, job_after_removal, on_slot, holder_after_removal, after_removal, after_shut, superiors, symbols_after_removal}
 use Rattle.its_plain.specs.Machine.{Machine, Shut, Symbol, Whole}
 use Rattle.its_plain.specs.OperatorClock.{clock_end}
 use Rattle.its_plain.specs.Own.{on_channel}
@@ -289,7 +289,7 @@ left_same : (gone : ℕ → Bool) (c : Channel) → channel_left gone c ≡ left
 left_same gone (Usr s w at) = refl
 left_same gone _ = refl
 
-raw_left : (x : Store) (c : Core) (u : Option ℕ) (a : Option (ℕ × ℕ)) (gone : ℕ → Bool) (i j : Option Job) → Leaves gone i j → raw_of x c u a j ≡ option_map (shut_on gone) (raw_of x c u a i)
+raw_left : (x : Store) (c : Core) (u : Option ℕ) (a : Option (ℕ × ℕ)) (gone : ℕ → Bool) (i j : Option Job) → Leaves gone i j → raw_of x c u a j ≡ option_map (after_shut gone) (raw_of x c u a i)
 raw_left x c u a gone (Some i) (Some j) h =
     let b : bare j ≡ bare i = let e = h.bare in cc in
     λ t. Some (record { core = c; job = b t; superior = u; channels = λ n. (ap (chan_of x) (h.chans n ∙ left_same gone (slice_index_or i.channels n Closed)) ∙ left_chan x gone (slice_index_or i.channels n Closed)) t; alarm = a })
@@ -305,7 +305,7 @@ none_bare i None e h = refl
 none_bare (Some i) (Some j) e h = cc
 none_bare None (Some j) e h = cc
 
-symbols_if : (b : Bool) (ss : List Symbol) → (if b then [] else ss) ≡ symbols_left b ss
+symbols_if : (b : Bool) (ss : List Symbol) → (if b then [] else ss) ≡ symbols_after_removal b ss
 symbols_if true ss = refl
 symbols_if false ss = refl
 
@@ -314,7 +314,7 @@ pub record Removes (old mid new : Plain) (r : ℕ) : Type 0 where
   pub swept : Swept (in_tree (superior_at old.jobs) r) old mid slots
   pub jobs : Without (in_tree (superior_at mid.jobs) r) (job_at mid.jobs) (job_at new.jobs)
   pub superiors : Without (in_tree (superior_at mid.jobs) r) (superior_at mid.jobs) (superior_at new.jobs)
-  pub holders : (c : ℕ) → holder_at new.holders c ≡ passed_on (in_tree (superior_at mid.jobs) r) (superior_at mid.jobs r) (holder_at mid.holders c)
+  pub holders : (c : ℕ) → holder_at new.holders c ≡ holder_after_removal (in_tree (superior_at mid.jobs) r) (superior_at mid.jobs r) (holder_at mid.holders c)
   pub core : new.core ≡ mid.core
   pub alarms : new.alarms ≡ mid.alarms
   pub symbols : new.symbols ≡ mid.symbols
@@ -322,15 +322,15 @@ pub record Removes (old mid new : Plain) (r : ℕ) : Type 0 where
   pub files : new.files ≡ mid.files
   pub clock : new.clock ≡ mid.clock
   pub version : new.version ≡ mid.version
-  pub links : (l : ℕ) → piped new.pipes l ≡ ends_left (in_tree (superior_at mid.jobs) r) (piped mid.pipes l)
+  pub links : (l : ℕ) → piped new.pipes l ≡ ends_after_removal (in_tree (superior_at mid.jobs) r) (piped mid.pipes l)
   pub place : new.place ≡ mid.place
   pub touched : new.touched ≡ mid.touched
 
 pub removes : (old mid new : Plain) (r : ℕ) → Swept (in_tree (superior_at old.jobs) r) old mid slots → Without (in_tree (superior_at mid.jobs) r) (job_at mid.jobs) (job_at new.jobs)
     → Without (in_tree (superior_at mid.jobs) r) (superior_at mid.jobs) (superior_at new.jobs)
-    → ((c : ℕ) → holder_at new.holders c ≡ passed_on (in_tree (superior_at mid.jobs) r) (superior_at mid.jobs r) (holder_at mid.holders c))
+    → ((c : ℕ) → holder_at new.holders c ≡ holder_after_removal (in_tree (superior_at mid.jobs) r) (superior_at mid.jobs r) (holder_at mid.holders c))
     → new.core ≡ mid.core → new.alarms ≡ mid.alarms → new.symbols ≡ mid.symbols → new.consoles ≡ mid.consoles → new.files ≡ mid.files → new.clock ≡ mid.clock → new.version ≡ mid.version
-    → ((l : ℕ) → piped new.pipes l ≡ ends_left (in_tree (superior_at mid.jobs) r) (piped mid.pipes l)) → new.place ≡ mid.place → new.touched ≡ mid.touched → Removes old mid new r
+    → ((l : ℕ) → piped new.pipes l ≡ ends_after_removal (in_tree (superior_at mid.jobs) r) (piped mid.pipes l)) → new.place ≡ mid.place → new.touched ≡ mid.touched → Removes old mid new r
 removes old mid new r swept jobs superiors holders core alarms symbols consoles files clock version links place touched = record {
   swept = swept;
   jobs = jobs;
@@ -392,7 +392,7 @@ module _ (old mid new : Plain) (r : ℕ) (low : r < slots) (tree : IsTree old.jo
   files_new = b.files ∙ b.swept.shares.files
 
   new_raw : (k : ℕ) (x : Bool) → in_tree (superior_at old.jobs) r k ≡ x
-      → raw_at new.files new.core new.jobs new.alarms.items k ≡ left_job (in_tree (superior_at old.jobs) r) x (raw_at old.files old.core old.jobs old.alarms.items k)
+      → raw_at new.files new.core new.jobs new.alarms.items k ≡ job_after_removal (in_tree (superior_at old.jobs) r) x (raw_at old.files old.core old.jobs old.alarms.items k)
   new_raw k true g = ap (raw_of new.files (core_at new.core k) (superior_at new.jobs k) (alarm_at new.alarms.items k)) (job_gone k g)
   new_raw k false f =
       let core = core_new k ∙ sym (by_kept (in_tree (superior_at old.jobs) r k) no_core (core_at old.core k) f) in
@@ -400,21 +400,21 @@ module _ (old mid new : Plain) (r : ℕ) (low : r < slots) (tree : IsTree old.jo
       (λ t. raw_of (files_new t) (core t) (superior_stays k f t) (alarm t) (job_stays k f t))
       ∙ raw_left old.files (core_at old.core k) (superior_at old.jobs k) (alarm_at old.alarms.items k) (in_tree (superior_at old.jobs) r) (job_at old.jobs k) (job_at mid.jobs k) ((slot_swept k).job f)
 
-  holders_new : (c : ℕ) → holder_at new.holders c ≡ passed_on (in_tree (superior_at old.jobs) r) (superior_at old.jobs r) (holder_at old.holders c)
+  holders_new : (c : ℕ) → holder_at new.holders c ≡ holder_after_removal (in_tree (superior_at old.jobs) r) (superior_at old.jobs r) (holder_at old.holders c)
   holders_new c =
       b.holders c
-      ∙ (λ t. passed_on (same_tree t) (slice_index_or (b.swept.shares.superiors t) r None) (holder_at (b.swept.shares.holders t) c))
+      ∙ (λ t. holder_after_removal (same_tree t) (slice_index_or (b.swept.shares.superiors t) r None) (holder_at (b.swept.shares.holders t) c))
 
-  links_new : (l : ℕ) → piped new.pipes l ≡ ends_left (in_tree (superior_at old.jobs) r) (piped old.pipes l)
-  links_new l = b.links l ∙ (λ t. ends_left (same_tree t) (piped (b.swept.shares.pipes t) l))
+  links_new : (l : ℕ) → piped new.pipes l ≡ ends_after_removal (in_tree (superior_at old.jobs) r) (piped old.pipes l)
+  links_new l = b.links l ∙ (λ t. ends_after_removal (same_tree t) (piped (b.swept.shares.pipes t) l))
 
-  stripped_machine : machine_of new ≡ removed (superior_at old.jobs) r (machine_of old)
-  unfolding machine_of removed
+  stripped_machine : machine_of new ≡ after_removal (superior_at old.jobs) r (machine_of old)
+  unfolding machine_of after_removal
   stripped_machine = machine_is _ _ (λ k. new_raw k (in_tree (superior_at old.jobs) r k) refl)
       (λ k. ap (λ l. console_at l.items k) (b.consoles ∙ b.swept.shares.consoles)) holders_new (ap directory files_new)
       (b.clock ∙ b.swept.shares.clock) (b.version ∙ b.swept.shares.version) (λ k. symbols_new k ∙ symbols_if (in_tree (superior_at old.jobs) r k) (symbols_at old.symbols.items k)) links_new
 
-  pub stripped_row : Becomes old new (removed (superior_at old.jobs) r (machine_of old))
+  pub stripped_row : Becomes old new (after_removal (superior_at old.jobs) r (machine_of old))
   stripped_row = record { machine = stripped_machine; place = b.place ∙ b.swept.shares.place; touched = b.touched ∙ b.swept.shares.touched }
 
   channels_new : (k n : ℕ) → channel_at new.jobs k n ≡ channel_left (in_tree (superior_at old.jobs) r) (channel_at old.jobs k n)
@@ -451,19 +451,19 @@ module _ (old mid new : Plain) (r : ℕ) (low : r < slots) (tree : IsTree old.jo
   }
 
 -- the channels of the tree are closed first
-left_along : (gone : ℕ → Bool) (b : Bool) (o p : Option Whole) → (b ≡ false → p ≡ o) → left_job gone b p ≡ left_job gone b o
+left_along : (gone : ℕ → Bool) (b : Bool) (o p : Option Whole) → (b ≡ false → p ≡ o) → job_after_removal gone b p ≡ job_after_removal gone b o
 left_along gone true o p h = refl
-left_along gone false o p h = ap (option_map (shut_on gone)) (h refl)
+left_along gone false o p h = ap (option_map (after_shut gone)) (h refl)
 
-removed_along : (sup : ℕ → Option ℕ) (r : ℕ) (m n : Machine) → n ≡ record m { jobs = n.jobs } → ((k : ℕ) → in_tree sup r k ≡ false → n.jobs k ≡ m.jobs k) → removed sup r n ≡ removed sup r m
-unfolding removed
+removed_along : (sup : ℕ → Option ℕ) (r : ℕ) (m n : Machine) → n ≡ record m { jobs = n.jobs } → ((k : ℕ) → in_tree sup r k ≡ false → n.jobs k ≡ m.jobs k) → after_removal sup r n ≡ after_removal sup r m
+unfolding after_removal
 removed_along sup r m n rest kept =
-    ap (removed sup r) rest
+    ap (after_removal sup r) rest
     ∙ (λ t. record m {
       jobs = λ k. left_along (in_tree sup r) (in_tree sup r k) (m.jobs k) (n.jobs k) (kept k) t;
-      holders = λ c. passed_on (in_tree sup r) (sup r) (m.holders c);
-      symbols = λ k. symbols_left (in_tree sup r k) (m.symbols k);
-      links = λ l. ends_left (in_tree sup r) (m.links l);
+      holders = λ c. holder_after_removal (in_tree sup r) (sup r) (m.holders c);
+      symbols = λ k. symbols_after_removal (in_tree sup r k) (m.symbols k);
+      links = λ l. ends_after_removal (in_tree sup r) (m.links l);
     })
 
 module _ (old mid : Plain) (r : ℕ) (low : r < slots) (tree : IsTree old.jobs.jobs old.jobs.superiors) (c : ClosesTree (in_tree (superior_at old.jobs) r) old mid slots) where
@@ -485,11 +485,11 @@ module _ (old mid : Plain) (r : ℕ) (low : r < slots) (tree : IsTree old.jobs.j
         | inr past ↦ absurd (both_ways (in_tree (superior_at old.jobs) r k) (past_none old.jobs.superiors r k tree.superior_count low past) here)
       ]
 
-  pub removed_row : (new : Plain) → Becomes mid new (removed (superior_at mid.jobs) r (machine_of mid)) → Becomes old new (removed (superiors (machine_of old)) r (machine_of old))
+  pub removed_row : (new : Plain) → Becomes mid new (after_removal (superior_at mid.jobs) r (machine_of mid)) → Becomes old new (after_removal (superiors (machine_of old)) r (machine_of old))
   removed_row new b = record {
-    machine = b.machine ∙ ap (λ (sup : ℕ → Option ℕ). removed sup r (machine_of mid)) along_tree
+    machine = b.machine ∙ ap (λ (sup : ℕ → Option ℕ). after_removal sup r (machine_of mid)) along_tree
         ∙ removed_along (superior_at old.jobs) r (machine_of old) (machine_of mid) c.rest c.jobs
-        ∙ ap (λ (sup : ℕ → Option ℕ). removed sup r (machine_of old)) (sym (superiors_are old tree));
+        ∙ ap (λ (sup : ℕ → Option ℕ). after_removal sup r (machine_of old)) (sym (superiors_are old tree));
     place = b.place ∙ c.place;
     touched = b.touched ∙ c.touched;
   }

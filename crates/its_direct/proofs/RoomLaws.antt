@@ -12,7 +12,7 @@ use Rattle.its_word.proofs.PageLaws.{page_of-with_page, page_of-with_page_other,
 use Rattle.its_core.specs.Cores.{mark_of}
 use Rattle.its_plain.specs.Machine.{Whole, Machine, changed, with_job, mapped, core_of}
 use Rattle.its_plain.specs.Operator.{and_then}
-use Rattle.its_plain.specs.OperatorJobs.{with_core, stored_in, stored, word_loaded_of, word_loaded, words_stored, is_barred, any_barred}
+use Rattle.its_plain.specs.OperatorJobs.{with_core, with_stored_in, with_stored, with_word_loaded_of, with_word_loaded, with_words_stored, is_barred, any_barred}
 use Rattle.its_machine.proofs.PartLaws.{changed_only}
 use Rattle.its_direct.specs.Lines.{one_unless, pages_absent, pages_made_if, pages_made}
 
@@ -270,29 +270,29 @@ module _ (m : Machine) (s : ℕ) (q : Whole) (is : m.jobs s ≡ Some q) (slot : 
       omega arith
 
   -- the result of a word
-  loaded_here : (a w : ℕ) → can_store q.core a ≡ true → word_loaded m s a w ≡ Ok (with_core_of m s q (store q.core a w))
-  unfolding word_loaded stored
+  loaded_here : (a w : ℕ) → can_store q.core a ≡ true → with_word_loaded m s a w ≡ Ok (with_core_of m s q (store q.core a w))
+  unfolding with_word_loaded with_stored
   loaded_here a w t =
-      ap (word_loaded_of m s a w) is
-      ∙ ap (λ b. with_core m s q (stored_in q.core a w b (is_some (word_at q.core a)) (nat_lt (mapped m) most_pages))) t
+      ap (with_word_loaded_of m s a w) is
+      ∙ ap (λ b. with_core m s q (with_stored_in q.core a w b (is_some (word_at q.core a)) (nat_lt (mapped m) most_pages))) t
 
-  loaded_absent : (a w : ℕ) → can_store q.core a ≡ false → is_some (word_at q.core a) ≡ false → word_loaded m s a w ≡ with_core m s q (stored_in q.core a w false false (nat_lt (mapped m) most_pages))
-  unfolding word_loaded stored
+  loaded_absent : (a w : ℕ) → can_store q.core a ≡ false → is_some (word_at q.core a) ≡ false → with_word_loaded m s a w ≡ with_core m s q (with_stored_in q.core a w false false (nat_lt (mapped m) most_pages))
+  unfolding with_word_loaded with_stored
   loaded_absent a w f g =
-      ap (word_loaded_of m s a w) is
-      ∙ ap (λ b. with_core m s q (stored_in q.core a w b (is_some (word_at q.core a)) (nat_lt (mapped m) most_pages))) f
-      ∙ ap (λ b. with_core m s q (stored_in q.core a w false b (nat_lt (mapped m) most_pages))) g
+      ap (with_word_loaded_of m s a w) is
+      ∙ ap (λ b. with_core m s q (with_stored_in q.core a w b (is_some (word_at q.core a)) (nat_lt (mapped m) most_pages))) f
+      ∙ ap (λ b. with_core m s q (with_stored_in q.core a w false b (nat_lt (mapped m) most_pages))) g
 
   -- a word that is stored, and one for whose page there is no room
   record Goes (a w n : ℕ) : Type 0 where
     core : Core
-    loaded : word_loaded m s a w ≡ Ok (with_core_of m s q core)
+    loaded : with_word_loaded m s a w ≡ Ok (with_core_of m s q core)
     ready : AreaReady core (a + 1) n
     sum : mapped (with_core_of m s q core) + pages_made core (a + 1) n ≡ mapped m + pages_made q.core a (suc n)
     few : mapped (with_core_of m s q core) ≤ most_pages
 
   record Stops (a w n : ℕ) : Type 0 where
-    loaded : word_loaded m s a w ≡ Err Full
+    loaded : with_word_loaded m s a w ≡ Err Full
     many : most_pages < mapped m + pages_made q.core a (suc n)
 
   module _ (a w n : ℕ) (ready : AreaReady q.core a (suc n)) (few : mapped m ≤ most_pages) where
@@ -343,7 +343,7 @@ module _ (m : Machine) (s : ℕ) (q : Whole) (is : m.jobs s ≡ Some q) (slot : 
           (there_stored made a w (a / 1024) ∙ ap is_some (page_here q.core (a / 1024) ready.places (omega arith)))
           (λ j ne. there_stored made a w j ∙ ap is_some (page_there q.core (a / 1024) ready.places (omega arith) j ne))
 
-      is_absent : word_loaded m s a w ≡ with_core m s q (stored_in q.core a w false false (nat_lt (mapped m) most_pages))
+      is_absent : with_word_loaded m s a w ≡ with_core m s q (with_stored_in q.core a w false false (nat_lt (mapped m) most_pages))
       is_absent = loaded_absent a w (ready.can a (omega arith) (omega arith) ∙ no) (ready.word a (omega arith) (omega arith) ∙ no)
 
       goes_made : mapped m < most_pages → Goes a w n
@@ -354,7 +354,7 @@ module _ (m : Machine) (s : ℕ) (q : Whole) (is : m.jobs s ≡ Some q) (slot : 
           let l = past in
           record {
             core = store made a w;
-            loaded = is_absent ∙ ap (λ b. with_core m s q (stored_in q.core a w false false b)) (lt-ltb (mapped m) most_pages room);
+            loaded = is_absent ∙ ap (λ b. with_core m s q (with_stored_in q.core a w false false b)) (lt-ltb (mapped m) most_pages room);
             ready = ready_stored made (a + 1) a n w (ready_paged q.core (a / 1024) ready.places (omega arith) (a + 1) n (omega arith) (ready_less q.core a n ready));
             sum = omega arith;
             few = omega arith;
@@ -364,7 +364,7 @@ module _ (m : Machine) (s : ℕ) (q : Whole) (is : m.jobs s ≡ Some q) (slot : 
       stops none =
           let f = made_sum in
           record {
-            loaded = is_absent ∙ ap (λ b. with_core m s q (stored_in q.core a w false false b)) (le-ltb (mapped m) most_pages none);
+            loaded = is_absent ∙ ap (λ b. with_core m s q (with_stored_in q.core a w false false b)) (le-ltb (mapped m) most_pages none);
             many = omega arith;
           }
 
@@ -376,15 +376,15 @@ module _ (m : Machine) (s : ℕ) (q : Whole) (is : m.jobs s ≡ Some q) (slot : 
 
 -- the words one by one
 pub room_of : (s a : ℕ) (ws : List ℕ) (m : Machine) (q : Whole) → m.jobs s ≡ Some q → s < slots → AreaReady q.core a (length ws) → a + length ws ≤ 2 ^ 18 → mapped m ≤ most_pages
-    → Within most_pages (mapped m + pages_made q.core a (length ws)) (words_stored m s a ws)
+    → Within most_pages (mapped m + pages_made q.core a (length ws)) (with_words_stored m s a ws)
 room_of s a [] m q is slot ready end few = let e = made_none q.core a in omega arith
 room_of s a (w ∷ ws) m q is slot ready end few = elim (word_step m s q is slot a w (length ws) ready few (omega arith)) [
   | inl g ↦
       let n = with_core_of m s q g.core in
       let rest = room_of s (a + 1) ws n (record q { core = g.core }) ((changed_only m.jobs s (Some (record q { core = g.core }))).here) slot g.ready (omega arith) g.few in
-      subst (Within most_pages (mapped m + pages_made q.core a (suc (length ws)))) (sym (ap (λ r. and_then r (λ k. words_stored k s (a + 1) ws)) g.loaded))
-      (subst (λ k. Within most_pages k (words_stored n s (a + 1) ws)) g.sum rest)
-  | inr t ↦ subst (Within most_pages (mapped m + pages_made q.core a (suc (length ws)))) (sym (ap (λ r. and_then r (λ k. words_stored k s (a + 1) ws)) t.loaded)) (refl, t.many)
+      subst (Within most_pages (mapped m + pages_made q.core a (suc (length ws)))) (sym (ap (λ r. and_then r (λ k. with_words_stored k s (a + 1) ws)) g.loaded))
+      (subst (λ k. Within most_pages k (with_words_stored n s (a + 1) ws)) g.sum rest)
+  | inr t ↦ subst (Within most_pages (mapped m + pages_made q.core a (suc (length ws)))) (sym (ap (λ r. and_then r (λ k. with_words_stored k s (a + 1) ws)) t.loaded)) (refl, t.many)
 ]
 
 -- a core of which each word is there, and of which these words are on no read-only page

@@ -4,7 +4,7 @@ use Rattle.std.proofs.Common.{arith, ap, sym, subst, ◌∙◌, inl, inr}
 use Rattle.std.proofs.lemmas.Bool.{cases_eq, and_right}
 use Rattle.its_word.specs.Core.{Core}
 use Rattle.its_word.specs.declared.jobs.Job.{Job}
-use Rattle.its_plain.specs.CallStep.{quiet_step, becomes, faulted, step, transition}
+use Rattle.its_plain.specs.CallStep.{quiet_step, with_core_and_job, with_fault, step, transition}
 use Rattle.its_plain.specs.Change.{in_job, on_slot}
 use Rattle.its_plain.specs.Interrupt.{deliverable}
 use Rattle.its_plain.specs.Job.{bit_of, with_pending}
@@ -41,7 +41,7 @@ use Rattle.its_direct.proofs.UserLaws.{becomes_raw, nobody_is, own_is, own_of}
 
 -- what is left of a job
 abbrev with_left : Left → Whole → Whole
-with_left l = becomes l.core (bare l.job)
+with_left l = with_core_and_job l.core (bare l.job)
 
 -- the job of slot j has this core and these registers, and it runs
 record Runs (m : Machine) (j : ℕ) (q : Whole) (l : Left) : Type 0 where
@@ -96,11 +96,11 @@ module _ (m : Machine) (j : ℕ) (q : Whole) (l : Left) (r : Runs m j q l) (quie
       subst (OneMore m j) is (record {
         is =
             transition_unit m j q (bare_outcome (Faulted f)) r.had runs_here quiet_here (unit_here (Faulted f) u)
-            ∙ ap (λ n. Some (quiet_step n)) (written_alike m j q (faulted f) (with_left (left l.core (with_pending l.job (bit_of f)))) r.had (fault_here f));
+            ∙ ap (λ n. Some (quiet_step n)) (written_alike m j q (with_fault f) (with_left (left l.core (with_pending l.job (bit_of f)))) r.had (fault_here f));
         going = r.going;
       })
     where
-      fault_here : (f : Rattle.its_word.specs.declared.access.Fault.Fault) → faulted f q ≡ with_left (left l.core (with_pending l.job (bit_of f))) q
+      fault_here : (f : Rattle.its_word.specs.declared.access.Fault.Fault) → with_fault f q ≡ with_left (left l.core (with_pending l.job (bit_of f))) q
       fault_here f = λ t. record q { core = r.core t; job = with_pending (r.job t) (bit_of f) }
   outcome_more (Called s) k u e = absurd cc
 

@@ -11,12 +11,12 @@ use Rattle.its_word.specs.declared.session.Reason.TheVariants as reasons
 use Rattle.its_core.specs.Cores.{core_at, clear_at, mark_of}
 use Rattle.its_files.specs.Files.{Store, directory}
 use Rattle.its_jobs.specs.Table.{job_at, superior_in}
-use Rattle.its_plain.specs.Change.{protected}
+use Rattle.its_plain.specs.Change.{with_protection}
 use Rattle.its_plain.specs.Machine.{Symbol, Whole, Machine, with_job}
 use Rattle.its_plain.specs.OperatorClock.{clock_end}
-use Rattle.its_plain.specs.OperatorJobs.{on_job, page_protected_in, page_protected}
-use Rattle.its_plain.specs.OperatorSymbols.{with_symbol, symbol_kept_if, symbol_kept_of, symbol_kept}
-use Rattle.its_plain.specs.OperatorVersion.{versioned}
+use Rattle.its_plain.specs.OperatorJobs.{on_job, with_page_protected_in, with_page_protected}
+use Rattle.its_plain.specs.OperatorSymbols.{with_symbol, with_symbol_kept_if, with_symbol_kept_of, with_symbol_kept}
+use Rattle.its_plain.specs.OperatorVersion.{with_version}
 use Rattle.its_plain.proofs.MachineLaws.{machine_is}
 use Rattle.its_machine.specs.Across.{channel_by, Across}
 use Rattle.its_machine.specs.Parts.{alarm_at, console_at, holder_at, symbols_at, raw_of, raw_at}
@@ -39,14 +39,14 @@ version_machine old new v b = machine_is _ _
     (λ k. ap (λ l. console_at l.items k) b.consoles) (λ k. ap (λ l. holder_at l k) b.holders) (ap directory b.files) b.clock b.version (λ k. ap (λ l. symbols_at l.items k) b.symbols) (λ k. ap (λ l. piped l k) b.pipes)
 
 pub version_put : (old put new : Plain) (v : ℕ) (b : Bool) → b ≡ no_job (job_at old.jobs) → b ≡ true → VersionBecomes old put v → new ≡ record put { touched = no_slots }
-    → Stands old new (versioned (machine_of old) v)
+    → Stands old new (with_version (machine_of old) v)
 version_put old put new v b is empty h t = record {
   machine = touched_machine put new no_slots t ∙ version_machine old put v h ∙ sym (version_set (machine_of old) v (empty_is old ∙ sym is ∙ empty));
   touched = none_touched new.touched (ap (λ (p : Plain). p.touched) t);
   place = ap (λ (p : Plain). p.place) t ∙ h.place;
 }
 
-pub version_stays : (old new : Plain) (v : ℕ) (b : Bool) → b ≡ no_job (job_at old.jobs) → b ≡ false → new ≡ record old { touched = no_slots } → Stands old new (versioned (machine_of old) v)
+pub version_stays : (old new : Plain) (v : ℕ) (b : Bool) → b ≡ no_job (job_at old.jobs) → b ≡ false → new ≡ record old { touched = no_slots } → Stands old new (with_version (machine_of old) v)
 version_stays old new v b is full t = record {
   machine = touched_machine old new no_slots t ∙ sym (same_version (machine_of old) v (empty_is old ∙ sym is ∙ full));
   touched = none_touched new.touched (ap (λ (p : Plain). p.touched) t);
@@ -76,21 +76,21 @@ page_some o m e = ap is_some e ∙ go o
     go (Some p) = refl
     go None = refl
 
-page_own : (p : Plain) (s k : ℕ) (i : Job) → job_at p.jobs s ≡ Some i → page_protected (machine_of p) s k ≡ page_protected_in (machine_of p) s k (own_of p s i) (page_of (core_at p.core s) k)
-unfolding page_protected
-page_own p s k i had = ap (on_job (machine_of p) s (λ q. page_protected_in (machine_of p) s k q (page_of q.core k))) (own_is p s i had)
+page_own : (p : Plain) (s k : ℕ) (i : Job) → job_at p.jobs s ≡ Some i → with_page_protected (machine_of p) s k ≡ with_page_protected_in (machine_of p) s k (own_of p s i) (page_of (core_at p.core s) k)
+unfolding with_page_protected
+page_own p s k i had = ap (on_job (machine_of p) s (λ q. with_page_protected_in (machine_of p) s k q (page_of q.core k))) (own_is p s i had)
 
-page_here : (m : Machine) (s k : ℕ) (q : Whole) (o : Option Page) → is_some o ≡ true → page_protected_in m s k q o ≡ Ok (with_job m s (protected k false q))
+page_here : (m : Machine) (s k : ℕ) (q : Whole) (o : Option Page) → is_some o ≡ true → with_page_protected_in m s k q o ≡ Ok (with_job m s (with_protection k false q))
 page_here m s k q (Some p) h = refl
 page_here m s k q None h = cc
 
-page_gone : (m : Machine) (s k : ℕ) (q : Whole) (o : Option Page) → is_some o ≡ false → page_protected_in m s k q o ≡ Err reasons.NoPage
+page_gone : (m : Machine) (s k : ℕ) (q : Whole) (o : Option Page) → is_some o ≡ false → with_page_protected_in m s k q o ≡ Err reasons.NoPage
 page_gone m s k q (Some p) h = cc
 page_gone m s k q None h = refl
 
 pub read_only_done : (old put new : Plain) (s k : ℕ) (i : Job) (b : Bool) → s < slots → job_at old.jobs s ≡ Some i → b ≡ is_some (page_of (core_at old.core s) k) → b ≡ true
     → CoreBecomes old put s (with_page (core_at old.core s) k (marked (page_of (core_at old.core s) k) false)) → new ≡ record put { touched = one_slot s }
-    → Operates old new s (page_protected (machine_of old) s k)
+    → Operates old new s (with_page_protected (machine_of old) s k)
 read_only_done old put new s k i b l had has there r e = record {
   is = page_own old s k i had ∙ page_here (machine_of old) s k (own_of old s i) (page_of (core_at old.core s) k) (sym has ∙ there)
       ∙ ap Ok (sym (touched_machine put new (one_slot s) e ∙ core_machine old put s (with_page (core_at old.core s) k (marked (page_of (core_at old.core s) k) false)) i r had
@@ -100,12 +100,12 @@ read_only_done old put new s k i b l had has there r e = record {
 }
 
 pub read_only_absent : (p : Plain) (s k : ℕ) (i : Job) (o : Option Job) (b : Bool) → o ≡ job_at p.jobs s → o ≡ Some i → b ≡ is_some (page_of (core_at p.core s) k) → b ≡ false
-    → page_protected (machine_of p) s k ≡ Err reasons.NoPage
+    → with_page_protected (machine_of p) s k ≡ Err reasons.NoPage
 read_only_absent p s k i o b is some has none = page_own p s k i (sym is ∙ some) ∙ page_gone (machine_of p) s k (own_of p s i) (page_of (core_at p.core s) k) (sym has ∙ none)
 
-pub read_only_refused : (p : Plain) (s k : ℕ) (o : Option Job) → o ≡ job_at p.jobs s → o ≡ None → page_protected (machine_of p) s k ≡ Err reasons.NoJob
-unfolding page_protected
-read_only_refused p s k o is none = ap (on_job (machine_of p) s (λ q. page_protected_in (machine_of p) s k q (page_of q.core k))) (nobody_is p s (sym is ∙ none))
+pub read_only_refused : (p : Plain) (s k : ℕ) (o : Option Job) → o ≡ job_at p.jobs s → o ≡ None → with_page_protected (machine_of p) s k ≡ Err reasons.NoJob
+unfolding with_page_protected
+read_only_refused p s k o is none = ap (on_job (machine_of p) s (λ q. with_page_protected_in (machine_of p) s k q (page_of q.core k))) (nobody_is p s (sym is ∙ none))
 
 -- SYM
 symbols_is : (p : Plain) (s : ℕ) → (machine_of p).symbols s ≡ symbols_at p.symbols.items s
@@ -119,26 +119,26 @@ symbols_machine old new s x b = machine_is _ _
     (λ k. ap (λ l. holder_at l k) b.holders) (ap directory b.files) b.clock b.version (changed_at _ _ s _ b.symbols.here b.symbols.others)
     (λ k. ap (λ l. piped l k) b.pipes)
 
-symbol_own : (p : Plain) (s name a : ℕ) (i : Job) → job_at p.jobs s ≡ Some i → symbol_kept (machine_of p) s name a ≡ symbol_kept_if (machine_of p) s (name, a) (nat_lt (length (symbols_at p.symbols.items s)) most_symbols)
-unfolding symbol_kept
-symbol_own p s name a i had = ap (symbol_kept_of (machine_of p) s (name, a)) (own_is p s i had) ∙ ap (λ (ss : List Symbol). symbol_kept_if (machine_of p) s (name, a) (nat_lt (length ss) most_symbols)) (symbols_is p s)
+symbol_own : (p : Plain) (s name a : ℕ) (i : Job) → job_at p.jobs s ≡ Some i → with_symbol_kept (machine_of p) s name a ≡ with_symbol_kept_if (machine_of p) s (name, a) (nat_lt (length (symbols_at p.symbols.items s)) most_symbols)
+unfolding with_symbol_kept
+symbol_own p s name a i had = ap (with_symbol_kept_of (machine_of p) s (name, a)) (own_is p s i had) ∙ ap (λ (ss : List Symbol). with_symbol_kept_if (machine_of p) s (name, a) (nat_lt (length ss) most_symbols)) (symbols_is p s)
 
 pub symbol_done : (old put new : Plain) (s name a : ℕ) (i : Job) (o : Option Job) (b : Bool) → o ≡ job_at old.jobs s → o ≡ Some i → b ≡ nat_lt (length (symbols_at old.symbols.items s)) most_symbols → b ≡ true
-    → SymbolsBecome old put s (symbols_at old.symbols.items s ++ (name, a) ∷ []) → new ≡ record put { touched = no_slots } → Keeps old new (symbol_kept (machine_of old) s name a)
+    → SymbolsBecome old put s (symbols_at old.symbols.items s ++ (name, a) ∷ []) → new ≡ record put { touched = no_slots } → Keeps old new (with_symbol_kept (machine_of old) s name a)
 symbol_done old put new s name a i o b is some has room r t = record {
-  is = symbol_own old s name a i (sym is ∙ some) ∙ ap (symbol_kept_if (machine_of old) s (name, a)) (sym has ∙ room)
+  is = symbol_own old s name a i (sym is ∙ some) ∙ ap (with_symbol_kept_if (machine_of old) s (name, a)) (sym has ∙ room)
       ∙ ap Ok (sym (touched_machine put new no_slots t ∙ symbols_machine old put s (name, a) r));
   touched = none_touched new.touched (ap (λ (p : Plain). p.touched) t);
   place = ap (λ (p : Plain). p.place) t ∙ r.place;
 }
 
 pub symbol_full : (p : Plain) (s name a : ℕ) (i : Job) (o : Option Job) (b : Bool) → o ≡ job_at p.jobs s → o ≡ Some i → b ≡ nat_lt (length (symbols_at p.symbols.items s)) most_symbols → b ≡ false
-    → symbol_kept (machine_of p) s name a ≡ Err reasons.Full
-symbol_full p s name a i o b is some has none = symbol_own p s name a i (sym is ∙ some) ∙ ap (symbol_kept_if (machine_of p) s (name, a)) (sym has ∙ none)
+    → with_symbol_kept (machine_of p) s name a ≡ Err reasons.Full
+symbol_full p s name a i o b is some has none = symbol_own p s name a i (sym is ∙ some) ∙ ap (with_symbol_kept_if (machine_of p) s (name, a)) (sym has ∙ none)
 
-pub symbol_refused : (p : Plain) (s name a : ℕ) (o : Option Job) → o ≡ job_at p.jobs s → o ≡ None → symbol_kept (machine_of p) s name a ≡ Err reasons.NoJob
-unfolding symbol_kept
-symbol_refused p s name a o is none = ap (symbol_kept_of (machine_of p) s (name, a)) (nobody_is p s (sym is ∙ none))
+pub symbol_refused : (p : Plain) (s name a : ℕ) (o : Option Job) → o ≡ job_at p.jobs s → o ≡ None → with_symbol_kept (machine_of p) s name a ≡ Err reasons.NoJob
+unfolding with_symbol_kept
+symbol_refused p s name a o is none = ap (with_symbol_kept_of (machine_of p) s (name, a)) (nobody_is p s (sym is ∙ none))
 
 symbols_keep : (old new : Plain) (s : ℕ) (i : Job) (ss : List Symbol) → job_at old.jobs s ≡ Some i → SymbolsBecome old new s ss → Tidy old → Tidy new
 symbols_keep old new s i ss had b tidy = record {

@@ -11,13 +11,13 @@ use Rattle.its_frame.specs.declared.decision.Decision.{Decision}
 use Rattle.its_frame.specs.declared.decision.Decision.TheVariants.{Waits, Goes, Ends, Gone}
 use Rattle.its_frame.specs.declared.frame.Frame.{Frame}
 use Rattle.its_plain.specs.Decode.{ask}
-use Rattle.its_plain.specs.CallStep.{Transition, acted, among, becomes, by_ask, by_delivery, by_unit, decision, ended, faulted, informs, moved, transition, transition_of, unless_stopped}
-use Rattle.its_plain.specs.Change.{effect, effects, is_gone, removed, superiors}
+use Rattle.its_plain.specs.CallStep.{Transition, acted, among, with_core_and_job, by_ask, by_delivery, by_unit, decision, after_end, with_fault, informs, after_moves, transition, transition_of, unless_stopped}
+use Rattle.its_plain.specs.Change.{effect, effects, is_gone, after_removal, superiors}
 use Rattle.its_plain.specs.Decide.{reach}
 use Rattle.its_plain.specs.Footprint.{Stands}
 use Rattle.its_plain.specs.Interrupt.{deliverable, delivered}
 use Rattle.its_plain.specs.Machine.{Machine, Whole}
-use Rattle.its_plain.specs.Own.{leave}
+use Rattle.its_plain.specs.Own.{after_leave}
 use Rattle.its_plain.specs.Unit.{Called, Changed, Faulted, Outcome, unit}
 use Rattle.its_plain.proofs.StepLaws.{AllOf}
 use Rattle.its_stepped.specs.Commit.{effect_on, effects_on}
@@ -73,7 +73,7 @@ not_gone w j s k f quiet ne at = elim (cases_Bool (is_gone (superiors w.raw) s k
 ]
 
 stays_one : (c : Change) (j k : ℕ) (w : State) (f : Frame) → Quiet c j w → k ≢ j → Stays w k f → Stays (effect_on c j w) k f
-unfolding effect_on effect removed
+unfolding effect_on effect after_removal
 stays_one (changes.Take c) j k w f quiet ne h = record { job = h.job; frame = h.frame }
 stays_one (changes.Put c b) j k w f quiet ne h = record { job = h.job; frame = h.frame }
 stays_one (changes.Hold c s) j k w f quiet ne h = record { job = h.job; frame = h.frame }
@@ -117,8 +117,8 @@ module _ (m : Machine) (j k : ℕ) (s : Site) (a : Ask) (ks : List ℕ) (r : Opt
   acted_keeps : (q : Whole) (d : Decision) → Duty crowded j q s a 0 d → AllOf (Keeps m j k) (acted m j a ks d)
   unfolding acted
   acted_keeps q (Waits x) duty = tt
-  acted_keeps q (Goes cs h vs) duty = λ some ne apart. slot_some (effects cs.items j m).jobs j (moved a h vs.items) k ∙ changes_keep cs.items duty.quiet some ne apart
-  acted_keeps q (Ends cs ss e) duty = λ some ne apart. slot_some (effects cs.items j m).jobs j (ended ss.items (leave e)) k ∙ changes_keep cs.items duty.quiet some ne apart
+  acted_keeps q (Goes cs h vs) duty = λ some ne apart. slot_some (effects cs.items j m).jobs j (after_moves a h vs.items) k ∙ changes_keep cs.items duty.quiet some ne apart
+  acted_keeps q (Ends cs ss e) duty = λ some ne apart. slot_some (effects cs.items j m).jobs j (after_end ss.items (after_leave e)) k ∙ changes_keep cs.items duty.quiet some ne apart
   acted_keeps q (Gone cs) duty = λ some ne apart. changes_keep (changes.Remove j ∷ cs.items) duty.quiet some ne apart
 
 call_keeps : (m : Machine) (j k : ℕ) (q : Whole) (s : Site) (a : Ask) → Forest m → m.jobs j ≡ Some q → Stands q.core q.job s a
@@ -141,17 +141,17 @@ told_some false o m j k = refl
 module _ (m : Machine) (j k : ℕ) (q : Whole) (forest : Forest m) (here : m.jobs j ≡ Some q) where
   ask_keeps : (s : Site) (r : Result Ask Fault) → unit q.core q.job ≡ Called s → ask q.core s ≡ r → AllOf (Keeps m j k) (by_ask m j q r)
   ask_keeps s (Ok a) u e = call_keeps m j k q s a forest here (record { unit_is = u; ask_is = e })
-  ask_keeps s (Err f) u e = λ some ne apart. slot_some m.jobs j (faulted f) k ∙ some
+  ask_keeps s (Err f) u e = λ some ne apart. slot_some m.jobs j (with_fault f) k ∙ some
 
   unit_keeps : (o : Outcome) → unit q.core q.job ≡ o → AllOf (Keeps m j k) (by_unit m j q o)
-  unit_keeps (Changed c i) u = λ some ne apart. slot_some m.jobs j (becomes c i) k ∙ some
-  unit_keeps (Faulted f) u = λ some ne apart. slot_some m.jobs j (faulted f) k ∙ some
+  unit_keeps (Changed c i) u = λ some ne apart. slot_some m.jobs j (with_core_and_job c i) k ∙ some
+  unit_keeps (Faulted f) u = λ some ne apart. slot_some m.jobs j (with_fault f) k ∙ some
   unit_keeps (Called s) u = ask_keeps s (ask q.core s) u refl
 
   delivery_keeps : (b : Bool) → AllOf (Keeps m j k) (by_delivery m j q b)
   delivery_keeps true = λ some ne apart.
       let d = delivered q.core q.job in
-      slot_some (effects (informs d.stops q.superior) j m).jobs j (becomes d.core d.job) k ∙ told_some d.stops q.superior m j k ∙ some
+      slot_some (effects (informs d.stops q.superior) j m).jobs j (with_core_and_job d.core d.job) k ∙ told_some d.stops q.superior m j k ∙ some
   delivery_keeps false = unit_keeps (unit q.core q.job) refl
 
   running_keeps : (b : Bool) → AllOf (Keeps m j k) (unless_stopped m j q b)

@@ -11,7 +11,7 @@ use Rattle.its_word.specs.declared.jobs.Job.{Job}
 use Rattle.its_core.specs.Cores.{Cores, core_at}
 use Rattle.its_files.specs.Files.{Store}
 use Rattle.its_jobs.specs.Table.{IsTree, Table, job_at, superior_at, superior_in}
-use Rattle.its_plain.specs.CallStep.{quiet_step, becomes, delivery, informs, informed_slots, transition, transition_of, unless_stopped, is_made}
+use Rattle.its_plain.specs.CallStep.{quiet_step, with_core_and_job, delivery, informs, informed_slots, transition, transition_of, unless_stopped, is_made}
 use Rattle.its_plain.specs.Change.{effect, effects, in_job, on_slot, with_inf}
 use Rattle.its_plain.specs.Footprint.{among}
 use Rattle.its_plain.specs.Interrupt.{Delivered, deliverable, delivered}
@@ -49,7 +49,7 @@ unfolding transition
 stopped p s o j is some h = ap (transition_of (machine_of p) s) (own_is p s j (sym is ∙ some)) ∙ ap (unless_stopped (machine_of p) s (own_of p s j)) h
 
 -- what a job is that was left with this core and these registers
-pub becomes_raw : (s : Store) (c d : Core) (superior : Option ℕ) (a : Option (ℕ × ℕ)) (i k : Job) → k.channels ≡ i.channels → becomes d (bare k) (raw_job s c i superior a) ≡ raw_job s d k superior a
+pub becomes_raw : (s : Store) (c d : Core) (superior : Option ℕ) (a : Option (ℕ × ℕ)) (i k : Job) → k.channels ≡ i.channels → with_core_and_job d (bare k) (raw_job s c i superior a) ≡ raw_job s d k superior a
 becomes_raw s c d superior a i k h = λ t. record { core = d; job = bare k; superior = superior; channels = λ n. chan_of s (slice_index_or (sym h t) n Closed); alarm = a }
 
 -- a step of one job alone
@@ -96,8 +96,8 @@ module _ (old mid put new : Plain) (s : ℕ) (i k : Job) (had : job_at old.jobs 
   written : SlotBecomes old put s came.core (Some came.job)
   written = subst (λ (j : Job). SlotBecomes old put s came.core (Some j)) is (put_then old mid put s came.core k a b)
 
-  pub delivery_machine : machine_of new ≡ in_job (machine_of old) s (becomes came.core (bare came.job))
-  delivery_machine = touched_machine put new no_slots e ∙ slot_machine old put s came.core i came.job (becomes came.core (bare came.job)) written had
+  pub delivery_machine : machine_of new ≡ in_job (machine_of old) s (with_core_and_job came.core (bare came.job))
+  delivery_machine = touched_machine put new no_slots e ∙ slot_machine old put s came.core i came.job (with_core_and_job came.core (bare came.job)) written had
       (becomes_raw old.files (core_at old.core s) came.core (superior_at old.jobs s) (alarm_at old.alarms.items s) i came.job (delivered_channels (core_at old.core s) i))
 
   pub delivery_tidy : Tidy old → Tidy new
@@ -115,7 +115,7 @@ module _ (old new : Plain) (s : ℕ) (i : Job) (had : job_at old.jobs s ≡ Some
   made = delivered (core_at old.core s) i
 
   abbrev told : Bool → Machine
-  told b = in_job (effects (informs b (superior_at old.jobs s)) s (machine_of old)) s (becomes made.core (bare made.job))
+  told b = in_job (effects (informs b (superior_at old.jobs s)) s (machine_of old)) s (with_core_and_job made.core (bare made.job))
 
   delivers : transition (machine_of old) s ≡ Some (delivery (machine_of old) s (own_of old s i) (bare_delivered made))
   delivers = transition_delivers (machine_of old) s (own_of old s i) (own_is old s i had) runs (quiet_is old s i true due)
@@ -128,7 +128,7 @@ module _ (old new : Plain) (s : ℕ) (i : Job) (had : job_at old.jobs s ≡ Some
   informs_some false o k = refl
 
   told_some : (b : Bool) (k : ℕ) → is_some ((told b).jobs k) ≡ is_some ((machine_of old).jobs k)
-  told_some b k = slot_some (effects (informs b (superior_at old.jobs s)) s (machine_of old)).jobs s (becomes made.core (bare made.job)) k ∙ informs_some b (superior_at old.jobs s) k
+  told_some b k = slot_some (effects (informs b (superior_at old.jobs s)) s (machine_of old)).jobs s (with_core_and_job made.core (bare made.job)) k ∙ informs_some b (superior_at old.jobs s) k
 
   pub delivery_step : (b : Bool) → made.stops ≡ b → machine_of new ≡ told b → ((k : ℕ) → is_touched new k ≡ among k (informed_slots b (superior_at old.jobs s))) → new.place ≡ old.place
       → SteppedBy old new (transition (machine_of old) s)

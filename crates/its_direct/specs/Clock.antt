@@ -5,7 +5,7 @@ use Rattle.its_word.specs.Only.{Only}
 use Rattle.its_word.specs.declared.session.Reason.{Reason}
 use Rattle.its_plain.specs.Alarm.{is_due}
 use Rattle.its_plain.specs.Machine.{Machine}
-use Rattle.its_plain.specs.OperatorClock.{due, rung_if}
+use Rattle.its_plain.specs.OperatorClock.{due, after_alarm_if}
 use Rattle.its_stepped.specs.Alarmed.{Periodic}
 use Rattle.its_machine.specs.Parts.{alarm_at}
 use Rattle.its_direct.specs.Plain.{machine_of, is_touched}
@@ -39,7 +39,7 @@ pub record AlarmBecomes (old new : Plain) (s : ℕ) (a : Option (ℕ × ℕ)) : 
 -- the alarms that are due at clock c of the slots that pass a test have gone, these slots are also touched, and nothing else has
 -- changed
 pub record Rang (c : ℕ) (test : ℕ → Bool) (old new : Plain) : Type 0 where
-  pub jobs : (k : ℕ) → (machine_of new).jobs k ≡ rung_if c (test k && is_due c (alarm_at old.alarms.items k)) ((machine_of old).jobs k)
+  pub jobs : (k : ℕ) → (machine_of new).jobs k ≡ after_alarm_if c (test k && is_due c (alarm_at old.alarms.items k)) ((machine_of old).jobs k)
   pub rest : machine_of new ≡ record (machine_of old) { jobs = (machine_of new).jobs }
   pub touched : (k : ℕ) → is_touched new k ≡ (is_touched old k || (test k && is_due c (alarm_at old.alarms.items k)))
   pub alarms : (k : ℕ) → test k ≡ false → alarm_at new.alarms.items k ≡ alarm_at old.alarms.items k

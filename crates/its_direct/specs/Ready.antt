@@ -10,7 +10,7 @@ use Rattle.its_frame.specs.declared.change.Change.TheVariants.{Remove}
 use Rattle.its_frame.specs.declared.decision.Decision.{Decision}
 use Rattle.its_frame.specs.declared.decision.Decision.TheVariants.{Waits, Goes, Ends, Gone}
 use Rattle.its_frame.specs.declared.decision.Held.{Held}
-use Rattle.its_plain.specs.Arguments.{input, debts, revalued}
+use Rattle.its_plain.specs.Arguments.{input, debts, with_new_values}
 use Rattle.its_plain.specs.CallStep.{deposited}
 use Rattle.its_plain.specs.Change.{effect, effects}
 use Rattle.its_plain.specs.Machine.{Machine, core_of}
@@ -32,9 +32,9 @@ held_in c a None = c
 -- a part of a call can be made in a core: first a byte that it holds is stored, then its last arguments, all of which are words
 pub record GoesOn (c : Core) (a : Ask) (h : Option Held) (vs : List ℕ) : Type 0 where
   pub few : length vs ≤ 2
-  pub held : IfSome h (HeldFits c (revalued a vs))
-  pub read : length (debts (revalued a vs) (length vs)) ≡ length vs
-  pub debts : first_fault (held_in c (revalued a vs) h) (debts (revalued a vs) (length vs)) ≡ None
+  pub held : IfSome h (HeldFits c (with_new_values a vs))
+  pub read : length (debts (with_new_values a vs) (length vs)) ≡ length vs
+  pub debts : first_fault (held_in c (with_new_values a vs) h) (debts (with_new_values a vs) (length vs)) ≡ None
 
 -- the changes are possible, and slot j has a job after them
 pub record Carries (m : Machine) (j : ℕ) (cs : List Change) : Type 0 where

@@ -4,7 +4,7 @@ ghost use Rattle.its_word.specs.Limits.{slots};
 ghost use Rattle.its_plain.specs.Alarm.{time_after};
 ghost use Rattle.its_plain.specs.CallBasic.{longest_period};
 ghost use Rattle.its_plain.specs.Job.{ALR as ALR_BIT, with_pending};
-ghost use Rattle.its_plain.specs.OperatorClock.{clocked, clock_end};
+ghost use Rattle.its_plain.specs.OperatorClock.{after_clock, clock_end};
 ghost use Rattle.its_stepped.specs.Alarmed.{Alarmed};
 ghost use Rattle.its_machine.specs.Parts.{alarm_at};
 ghost use Rattle.its_direct.specs.Plain.{machine_of, no_slots, Tidy};
@@ -24,8 +24,8 @@ impl Plain {
     pub fn advance(&mut self, n: u64) -> Result<(), Refusal>
         requires alarmed { Alarmed (machine_of self.old) }
         requires tidy { Tidy self.old }
-        ensures done { OnOk result (Clocks self.old self.new n (clocked (machine_of self.old) n)) }
-        ensures refused { IfErr result (λ e. clocked (machine_of self.old) n ≡ Err (reason_of e)) }
+        ensures done { OnOk result (Clocks self.old self.new n (after_clock (machine_of self.old) n)) }
+        ensures refused { IfErr result (λ e. after_clock (machine_of self.old) n ≡ Err (reason_of e)) }
         ensures same { OnErr result (self.new ≡ self.old) }
         ensures tidy { Tidy self.new }
     {

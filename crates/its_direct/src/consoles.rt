@@ -2,7 +2,7 @@
 ghost use Rattle.std.specs.Prelude.{◌≡◌, ◌<◌, ◌≤◌, ◌++◌, [], length, take, drop, slice_get};
 ghost use Rattle.std.specs.List.{cons_option};
 ghost use Rattle.its_word.specs.Console.{most_waiting};
-ghost use Rattle.its_plain.specs.OperatorConsoles.{typed, dropped, drained};
+ghost use Rattle.its_plain.specs.OperatorConsoles.{with_typed, dropped, after_drain};
 ghost use Rattle.its_machine.specs.Parts.{console_at};
 ghost use Rattle.its_direct.specs.Consoles.{lost_of};
 ghost use Rattle.its_direct.specs.Plain.{machine_of, Tidy};
@@ -19,7 +19,7 @@ impl Plain {
         requires few { length bytes.now ≤ 32 }
         requires tidy { Tidy self.old }
         ensures dropped { result ≡ dropped ((machine_of self.old).consoles c) bytes.now }
-        ensures done { Stands self.old self.new (typed c bytes.now (machine_of self.old)) }
+        ensures done { Stands self.old self.new (with_typed c bytes.now (machine_of self.old)) }
         ensures tidy { Tidy self.new }
     {
         let dropped = self.type_at(c, bytes);
@@ -33,7 +33,7 @@ impl Plain {
         requires number { n ≤ 64 }
         requires tidy { Tidy self.old }
         ensures drained { result.items ≡ take n ((machine_of self.old).consoles c).output }
-        ensures done { Stands self.old self.new (drained c n (machine_of self.old)) }
+        ensures done { Stands self.old self.new (after_drain c n (machine_of self.old)) }
         ensures tidy { Tidy self.new }
     {
         let bytes = self.drain_at(c, n);

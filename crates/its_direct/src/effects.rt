@@ -8,9 +8,9 @@ ghost use Rattle.its_word.specs.Tree.{least_free};
 ghost use Rattle.its_word.specs.Stores.{first_fault, stored};
 ghost use Rattle.its_core.specs.Cores.{core_at, clear_at};
 ghost use Rattle.its_jobs.specs.Table.{job_at};
-ghost use Rattle.its_plain.specs.Change.{in_job, inferior, on_console, poke, protected, put_to, taken_from, with_alarm, with_inf, with_page_at};
+ghost use Rattle.its_plain.specs.Change.{in_job, inferior, on_console, poke, with_protection, after_put, after_take, with_alarm, with_inf, with_page_at};
 ghost use Rattle.its_plain.specs.Machine.{changed, core_of, limit, with_new};
-ghost use Rattle.its_plain.specs.Own.{leave, left_with, with_registers, with_stores, with_variable};
+ghost use Rattle.its_plain.specs.Own.{after_leave, after_exit, with_registers, with_stores, with_variable};
 ghost use Rattle.its_machine.specs.Can.{HasJob, HasPage, Maps, Pokes};
 ghost use Rattle.its_machine.specs.Parts.{console_at};
 ghost use Rattle.its_direct.specs.Clock.{AlarmBecomes};
@@ -67,7 +67,7 @@ impl Plain {
         requires job { HasJob (machine_of self.old) slot }
         requires pc { exit.pc < 2 ^ 18 }
         requires tidy { Tidy self.old }
-        ensures row { Becomes self.old self.new (in_job (machine_of self.old) slot (leave exit)) }
+        ensures row { Becomes self.old self.new (in_job (machine_of self.old) slot (after_leave exit)) }
         ensures tidy { Tidy self.new }
     {
         if let Some(job) = self.job(slot) {
@@ -103,7 +103,7 @@ impl Plain {
     #[tactic(auto, using(crate::proofs::ConsoleLaws::console_becomes, crate::proofs::EffectLaws::first_taken))]
     fn take_byte(&mut self, c: u8)
         requires { c < 8 }
-        ensures { ConsoleBecomes self.old self.new c (taken_from (console_at self.old.consoles.items c)) }
+        ensures { ConsoleBecomes self.old self.new c (after_take (console_at self.old.consoles.items c)) }
     {
         let _ = self.consoles[usize::from(c)].take();
     }
@@ -113,7 +113,7 @@ impl Plain {
     pub(crate) fn take(&mut self, c: u8)
         requires console { c < 8 }
         requires tidy { Tidy self.old }
-        ensures row { Becomes self.old self.new (on_console (machine_of self.old) c taken_from) }
+        ensures row { Becomes self.old self.new (on_console (machine_of self.old) c after_take) }
         ensures tidy { Tidy self.new }
     {
         self.take_byte(c);
@@ -124,7 +124,7 @@ impl Plain {
     fn put_byte(&mut self, c: u8, byte: u8)
         requires console { c < 8 }
         requires room { length (console_at self.old.consoles.items c).output < most_waiting }
-        ensures { ConsoleBecomes self.old self.new c (put_to byte (console_at self.old.consoles.items c)) }
+        ensures { ConsoleBecomes self.old self.new c (after_put byte (console_at self.old.consoles.items c)) }
     {
         let _ = self.consoles[usize::from(c)].put(byte);
     }
@@ -135,7 +135,7 @@ impl Plain {
         requires console { c < 8 }
         requires room { length ((machine_of self.old).consoles c).output < most_waiting }
         requires tidy { Tidy self.old }
-        ensures row { Becomes self.old self.new (on_console (machine_of self.old) c (put_to byte)) }
+        ensures row { Becomes self.old self.new (on_console (machine_of self.old) c (after_put byte)) }
         ensures tidy { Tidy self.new }
     {
         self.put_byte(c, byte);
@@ -243,7 +243,7 @@ impl Plain {
     pub(crate) fn protect(&mut self, slot: u8, page: u8, writable: bool)
         requires can { HasPage (machine_of self.old) slot page }
         requires tidy { Tidy self.old }
-        ensures row { Becomes self.old self.new (in_job (machine_of self.old) slot (protected page writable)) }
+        ensures row { Becomes self.old self.new (in_job (machine_of self.old) slot (with_protection page writable)) }
         ensures tidy { Tidy self.new }
     {
         self.core.protect(slot, page, writable);
@@ -277,7 +277,7 @@ fn clear_quarters(core: &mut Core, slot: u8)
 
 /// Registers with those of an exit; the stopped mark, the names, the console and the channels stay.
 fn left_with(job: Job, exit: Exit) -> Job
-    ensures { result ≡ left_with exit job }
+    ensures { result ≡ after_exit exit job }
 {
     Job {
         pc: exit.pc,

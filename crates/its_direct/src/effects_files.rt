@@ -2,7 +2,7 @@
 ghost use Rattle.std.specs.Prelude.{◌≡◌, ◌<◌, true, false, slice_set};
 ghost use Rattle.its_word.specs.Limits.{slots};
 ghost use Rattle.its_plain.specs.CallFile.{has_file};
-ghost use Rattle.its_plain.specs.Change.{files_closed, in_job, renamed, without_file};
+ghost use Rattle.its_plain.specs.Change.{files_after_close, in_job, with_new_names, without_file};
 ghost use Rattle.its_plain.specs.Machine.{Shut};
 ghost use Rattle.its_plain.specs.Own.{at_position, names_of, on_channel, opened_on, with_word};
 ghost use Rattle.its_frame.specs.declared.change.Opened.TheVariants.{Reading as Reads, Writing as Writes};
@@ -178,7 +178,7 @@ impl Plain {
         requires channel { n < 16 }
         requires closes { CanClose (machine_of self.old) (chan_in (machine_of self.old) slot n) }
         requires tidy { Tidy self.old }
-        ensures row { Becomes self.old self.new (record (in_job (machine_of self.old) slot (on_channel n (λ c. Shut))) { files = files_closed (chan_in (machine_of self.old) slot n) (machine_of self.old).files }) }
+        ensures row { Becomes self.old self.new (record (in_job (machine_of self.old) slot (on_channel n (λ c. Shut))) { files = files_after_close (chan_in (machine_of self.old) slot n) (machine_of self.old).files }) }
         ensures tidy { Tidy self.new }
     {
         self.files.seen();
@@ -216,7 +216,7 @@ impl Plain {
         requires unread { Unread (machine_of self.old) (names_of d x y) }
         requires fresh { has_file (names_of d new_x new_y) (machine_of self.old).files ≡ false }
         requires tidy { Tidy self.old }
-        ensures row { Becomes self.old self.new (record (machine_of self.old) { files = renamed (names_of d x y) new_x new_y (machine_of self.old).files }) }
+        ensures row { Becomes self.old self.new (record (machine_of self.old) { files = with_new_names (names_of d x y) new_x new_y (machine_of self.old).files }) }
         ensures tidy { Tidy self.new }
     {
         self.files.seen();

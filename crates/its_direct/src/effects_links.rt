@@ -4,7 +4,7 @@ ghost use Rattle.its_word.specs.Limits.{slots};
 ghost use Rattle.its_word.specs.Links.{most_links, most_linked};
 ghost use Rattle.its_frame.specs.declared.change.Change.TheVariants.{Join, Part};
 ghost use Rattle.its_plain.specs.CallLink.{words_in};
-ghost use Rattle.its_plain.specs.Change.{effect, end_closed, link_or_new, on_link, with_end_opened, with_received, with_sent};
+ghost use Rattle.its_plain.specs.Change.{effect, after_end_close, link_or_new, on_link, with_end_opened, with_received, with_sent};
 ghost use Rattle.its_plain.specs.Machine.{Linked, Shut};
 ghost use Rattle.its_machine.specs.Can.{HasJob, chan_in};
 ghost use Rattle.its_pipes.specs.Pipes.{piped};
@@ -57,7 +57,7 @@ impl Plain {
     /// Closes the end alone.
     fn close_end(&mut self, link: u8, write: bool)
         requires { link < most_links }
-        ensures { LinkBecomes self.old self.new link (end_closed write (piped self.old.pipes link)) }
+        ensures { LinkBecomes self.old self.new link (after_end_close write (piped self.old.pipes link)) }
     {
         self.pipes.part(link, write);
     }

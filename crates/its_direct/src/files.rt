@@ -1,7 +1,7 @@
 //! The lines FILE, its words and EOF.
 ghost use Rattle.std.specs.Prelude.{◌≡◌, ◌<◌, true, None, Ok, Err, OnOk, OnErr, IsOk, IfErr, length};
 ghost use Rattle.its_files.specs.Files.{entry_at, found, is_file, most_files, names_at};
-ghost use Rattle.its_plain.specs.OperatorFiles.{file_made, word_added, words_added};
+ghost use Rattle.its_plain.specs.OperatorFiles.{with_file_made, with_word_added, with_words_added};
 ghost use Rattle.its_plain.specs.Own.{names_of};
 ghost use Rattle.its_direct.specs.Plain.{machine_of, Tidy};
 ghost use Rattle.its_direct.specs.declared.plain.Spot.TheVariants.{Plain as Outside, File as InFile};
@@ -21,8 +21,8 @@ impl Plain {
     #[tactic(auto, using(crate::proofs::FileLaws::file_exists, crate::proofs::FileLaws::file_full))]
     pub fn make_file(&mut self, d: Word, x: Word, y: Word) -> Result<(), Refusal>
         requires tidy { Tidy self.old }
-        ensures done { OnOk result (Leads self.old self.new (InFile (names_of d x y)) (file_made (machine_of self.old) (names_of d x y))) }
-        ensures refused { IfErr result (λ e. file_made (machine_of self.old) (names_of d x y) ≡ Err (reason_of e)) }
+        ensures done { OnOk result (Leads self.old self.new (InFile (names_of d x y)) (with_file_made (machine_of self.old) (names_of d x y))) }
+        ensures refused { IfErr result (λ e. with_file_made (machine_of self.old) (names_of d x y) ≡ Err (reason_of e)) }
         ensures same { OnErr result (self.new ≡ self.old) }
         ensures tidy { Tidy self.new }
     {
@@ -43,8 +43,8 @@ impl Plain {
     #[tactic(auto, using(crate::proofs::FileLaws::appended_none))]
     pub fn append_words(&mut self, d: Word, x: Word, y: Word, words: &[Word]) -> Result<(), Refusal>
         requires tidy { Tidy self.old }
-        ensures done { OnOk result (Keeps self.old self.new (words_added (machine_of self.old) (names_of d x y) words.now)) }
-        ensures refused { IfErr result (λ e. words_added (machine_of self.old) (names_of d x y) words.now ≡ Err (reason_of e)) }
+        ensures done { OnOk result (Keeps self.old self.new (with_words_added (machine_of self.old) (names_of d x y) words.now)) }
+        ensures refused { IfErr result (λ e. with_words_added (machine_of self.old) (names_of d x y) words.now ≡ Err (reason_of e)) }
         ensures same { OnErr result (self.new ≡ self.old) }
         ensures tidy { Tidy self.new }
     {
@@ -61,8 +61,8 @@ impl Plain {
     fn append_to(&mut self, id: u32, words: &[Word]) -> Result<(), Refusal>
         requires file { is_file (entry_at self.old.files id) ≡ true }
         requires tidy { Tidy self.old }
-        ensures done { OnOk result (Keeps self.old self.new (words_added (machine_of self.old) (names_at self.old.files id) words.now)) }
-        ensures refused { IfErr result (λ e. words_added (machine_of self.old) (names_at self.old.files id) words.now ≡ Err (reason_of e)) }
+        ensures done { OnOk result (Keeps self.old self.new (with_words_added (machine_of self.old) (names_at self.old.files id) words.now)) }
+        ensures refused { IfErr result (λ e. with_words_added (machine_of self.old) (names_at self.old.files id) words.now ≡ Err (reason_of e)) }
         ensures same { OnErr result (self.new ≡ self.old) }
         ensures tidy { Tidy self.new }
     {
@@ -79,9 +79,9 @@ impl Plain {
     #[tactic(auto, using(crate::proofs::FileLaws::adding_starts, crate::proofs::FileLaws::adding_ends))]
     fn add_words(&mut self, id: u32, words: &[Word])
         requires file { is_file (entry_at self.old.files id) ≡ true }
-        requires room { IsOk (words_added (machine_of self.old) (names_at self.old.files id) words.now) }
+        requires room { IsOk (with_words_added (machine_of self.old) (names_at self.old.files id) words.now) }
         requires tidy { Tidy self.old }
-        ensures done { words_added (machine_of self.old) (names_at self.old.files id) words.now ≡ Ok (machine_of self.new) }
+        ensures done { with_words_added (machine_of self.old) (names_at self.old.files id) words.now ≡ Ok (machine_of self.new) }
         ensures place { self.new.place ≡ self.old.place }
         ensures tidy { Tidy self.new }
     {
@@ -106,7 +106,7 @@ impl Plain {
         requires tidy { Tidy self.old }
         requires few { length self.old.files.order < most_files }
         requires fresh { found self.old.files (names_of d x y) ≡ None }
-        ensures row { file_made (machine_of self.old) (names_of d x y) ≡ Ok (machine_of self.new) }
+        ensures row { with_file_made (machine_of self.old) (names_of d x y) ≡ Ok (machine_of self.new) }
         ensures tidy { Tidy self.new }
     {
         self.files.new_file(d, x, y);
@@ -116,9 +116,9 @@ impl Plain {
     #[tactic(auto, using(crate::proofs::FileLaws::added_names))]
     fn add_word(&mut self, id: u32, w: Word)
         requires file { is_file (entry_at self.old.files id) ≡ true }
-        requires room { IsOk (word_added (machine_of self.old) (names_at self.old.files id) w) }
+        requires room { IsOk (with_word_added (machine_of self.old) (names_at self.old.files id) w) }
         requires tidy { Tidy self.old }
-        ensures row { word_added (machine_of self.old) (names_at self.old.files id) w ≡ Ok (machine_of self.new) }
+        ensures row { with_word_added (machine_of self.old) (names_at self.old.files id) w ≡ Ok (machine_of self.new) }
         ensures file { is_file (entry_at self.new.files id) ≡ true }
         ensures names { names_at self.new.files id ≡ names_at self.old.files id }
         ensures place { self.new.place ≡ self.old.place }

@@ -4,7 +4,7 @@ ghost use Rattle.its_word.specs.Limits.{slots};
 ghost use Rattle.its_core.specs.Cores.{core_at};
 ghost use Rattle.its_jobs.specs.Table.{job_at};
 ghost use Rattle.its_plain.specs.Machine.{words_at};
-ghost use Rattle.its_plain.specs.OperatorJobs.{on_registers, started, stopped, continued, interrupted, examined, state_shown, deposited};
+ghost use Rattle.its_plain.specs.OperatorJobs.{on_registers, after_go, after_stop, after_cont, after_int, examined, state_shown, after_deposit};
 ghost use Rattle.its_machine.specs.Refusals.{refusal_of};
 ghost use Rattle.its_direct.specs.Plain.{machine_of, Tidy};
 ghost use Rattle.its_word.specs.Refusals.{reason_of};
@@ -20,8 +20,8 @@ impl Plain {
         requires slot { slot < slots }
         requires address { a < 2 ^ 18 }
         requires tidy { Tidy self.old }
-        ensures done { OnOk result (Operates self.old self.new slot (on_registers (machine_of self.old) slot (started a))) }
-        ensures refused { IfErr result (λ e. on_registers (machine_of self.old) slot (started a) ≡ Err (reason_of e)) }
+        ensures done { OnOk result (Operates self.old self.new slot (on_registers (machine_of self.old) slot (after_go a))) }
+        ensures refused { IfErr result (λ e. on_registers (machine_of self.old) slot (after_go a) ≡ Err (reason_of e)) }
         ensures same { OnErr result (self.new ≡ self.old) }
         ensures tidy { Tidy self.new }
     {
@@ -38,8 +38,8 @@ impl Plain {
     pub fn stop(&mut self, slot: u8) -> Result<(), Refusal>
         requires slot { slot < slots }
         requires tidy { Tidy self.old }
-        ensures done { OnOk result (Operates self.old self.new slot (on_registers (machine_of self.old) slot stopped)) }
-        ensures refused { IfErr result (λ e. on_registers (machine_of self.old) slot stopped ≡ Err (reason_of e)) }
+        ensures done { OnOk result (Operates self.old self.new slot (on_registers (machine_of self.old) slot after_stop)) }
+        ensures refused { IfErr result (λ e. on_registers (machine_of self.old) slot after_stop ≡ Err (reason_of e)) }
         ensures same { OnErr result (self.new ≡ self.old) }
         ensures tidy { Tidy self.new }
     {
@@ -56,8 +56,8 @@ impl Plain {
     pub fn cont(&mut self, slot: u8) -> Result<(), Refusal>
         requires slot { slot < slots }
         requires tidy { Tidy self.old }
-        ensures done { OnOk result (Operates self.old self.new slot (on_registers (machine_of self.old) slot continued)) }
-        ensures refused { IfErr result (λ e. on_registers (machine_of self.old) slot continued ≡ Err (reason_of e)) }
+        ensures done { OnOk result (Operates self.old self.new slot (on_registers (machine_of self.old) slot after_cont)) }
+        ensures refused { IfErr result (λ e. on_registers (machine_of self.old) slot after_cont ≡ Err (reason_of e)) }
         ensures same { OnErr result (self.new ≡ self.old) }
         ensures tidy { Tidy self.new }
     {
@@ -74,8 +74,8 @@ impl Plain {
     pub fn interrupt(&mut self, slot: u8, v: Word, w: Word) -> Result<(), Refusal>
         requires slot { slot < slots }
         requires tidy { Tidy self.old }
-        ensures done { OnOk result (Operates self.old self.new slot (on_registers (machine_of self.old) slot (interrupted v w))) }
-        ensures refused { IfErr result (λ e. on_registers (machine_of self.old) slot (interrupted v w) ≡ Err (reason_of e)) }
+        ensures done { OnOk result (Operates self.old self.new slot (on_registers (machine_of self.old) slot (after_int v w))) }
+        ensures refused { IfErr result (λ e. on_registers (machine_of self.old) slot (after_int v w) ≡ Err (reason_of e)) }
         ensures same { OnErr result (self.new ≡ self.old) }
         ensures tidy { Tidy self.new }
     {
@@ -135,8 +135,8 @@ impl Plain {
         requires slot { slot < slots }
         requires address { a < 2 ^ 18 }
         requires tidy { Tidy self.old }
-        ensures done { OnOk result (Operates self.old self.new slot (deposited (machine_of self.old) slot a w)) }
-        ensures refused { IfErr result (λ e. deposited (machine_of self.old) slot a w ≡ Err (reason_of e)) }
+        ensures done { OnOk result (Operates self.old self.new slot (after_deposit (machine_of self.old) slot a w)) }
+        ensures refused { IfErr result (λ e. after_deposit (machine_of self.old) slot a w ≡ Err (reason_of e)) }
         ensures same { OnErr result (self.new ≡ self.old) }
         ensures tidy { Tidy self.new }
     {
@@ -195,7 +195,7 @@ impl Plain {
 
 /// Registers from which a job runs at an address, with no flags.
 fn started(job: &Job, a: u32) -> Job
-    ensures { result ≡ started a job.now }
+    ensures { result ≡ after_go a job.now }
 {
     Job {
         pc: a,
@@ -207,7 +207,7 @@ fn started(job: &Job, a: u32) -> Job
 
 /// Registers with the stopped mark.
 fn stopped(job: &Job) -> Job
-    ensures { result ≡ stopped job.now }
+    ensures { result ≡ after_stop job.now }
 {
     Job {
         stopped: true,
@@ -217,7 +217,7 @@ fn stopped(job: &Job) -> Job
 
 /// Registers without the stopped mark and without a pending fatal bit.
 fn continued(job: &Job) -> Job
-    ensures { result ≡ continued job.now }
+    ensures { result ≡ after_cont job.now }
 {
     Job {
         stopped: false,
@@ -228,7 +228,7 @@ fn continued(job: &Job) -> Job
 
 /// Registers with more bits pending.
 fn interrupted(job: &Job, v: Word, w: Word) -> Job
-    ensures { result ≡ interrupted v w job.now }
+    ensures { result ≡ after_int v w job.now }
 {
     Job {
         pend1: job.pend1 | v,

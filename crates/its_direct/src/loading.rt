@@ -3,7 +3,7 @@ ghost use Rattle.std.specs.Prelude.{◌≡◌, ◌<◌, Some, None, Ok, Err, IfO
 ghost use Rattle.its_word.specs.Limits.{slots};
 ghost use Rattle.its_word.specs.Tree.{least_free};
 ghost use Rattle.its_plain.specs.Machine.{limit, with_new};
-ghost use Rattle.its_plain.specs.OperatorJobs.{loaded, new_job, with_holder};
+ghost use Rattle.its_plain.specs.OperatorJobs.{after_load, new_job, with_holder};
 ghost use Rattle.its_machine.specs.Parts.{holder_at};
 ghost use Rattle.its_direct.specs.Plain.{machine_of, Tidy};
 ghost use Rattle.its_word.specs.Refusals.{reason_of};
@@ -21,8 +21,8 @@ impl Plain {
         requires console { IfSome console (λ c. c < 8) }
         requires tidy { Tidy self.old }
         ensures slot { IfOk result (λ s. s < slots) }
-        ensures done { IfOk result (λ s. Loads self.old self.new s (loaded (machine_of self.old) u j console)) }
-        ensures refused { IfErr result (λ e. loaded (machine_of self.old) u j console ≡ Err (reason_of e)) }
+        ensures done { IfOk result (λ s. Loads self.old self.new s (after_load (machine_of self.old) u j console)) }
+        ensures refused { IfErr result (λ e. after_load (machine_of self.old) u j console ≡ Err (reason_of e)) }
         ensures same { OnErr result (self.new ≡ self.old) }
         ensures tidy { Tidy self.new }
     {

@@ -3,7 +3,7 @@ ghost use Rattle.std.specs.Prelude.{◌≡◌, ◌<◌, [], ℕ, true, false, No
 ghost use Rattle.its_word.specs.Limits.{slots};
 ghost use Rattle.its_word.specs.declared.jobs.Channel.TheVariants.{Closed};
 ghost use Rattle.its_jobs.specs.Table.{superior_at, in_tree};
-ghost use Rattle.its_plain.specs.Change.{passed_on, removed, superiors};
+ghost use Rattle.its_plain.specs.Change.{holder_after_removal, after_removal, superiors};
 ghost use Rattle.its_machine.specs.Across.{channel_at};
 ghost use Rattle.its_direct.specs.Effects.{Becomes};
 ghost use Rattle.its_direct.specs.Lines.{SymbolsBecome};
@@ -24,7 +24,7 @@ impl Plain {
     pub(crate) fn remove(&mut self, root: u8)
         requires slot { root < slots }
         requires tidy { Tidy self.old }
-        ensures row { Becomes self.old self.new (removed (superiors (machine_of self.old)) root (machine_of self.old)) }
+        ensures row { Becomes self.old self.new (after_removal (superiors (machine_of self.old)) root (machine_of self.old)) }
         ensures tidy { Tidy self.new }
     {
         self.jobs.tree();
@@ -65,7 +65,7 @@ impl Plain {
         requires slot { root < slots }
         requires closed { (k n : ℕ) → in_tree (superior_at self.old.jobs) root k ≡ true → channel_at self.old.jobs k n ≡ Closed }
         requires tidy { Tidy self.old }
-        ensures row { Becomes self.old self.new (removed (superior_at self.old.jobs) root (machine_of self.old)) }
+        ensures row { Becomes self.old self.new (after_removal (superior_at self.old.jobs) root (machine_of self.old)) }
         ensures tidy { Tidy self.new }
     {
         self.jobs.tree();
@@ -144,7 +144,7 @@ fn leave_each(jobs: &Jobs, root: u8, channels: &mut [Channel])
 /// Passes the consoles that jobs of a tree hold to the superior of the root, or to nobody if it has none.
 #[tactic(auto, using(crate::proofs::RemovalLaws::turning_start, crate::proofs::RemovalLaws::turning_more, crate::proofs::RemovalLaws::turning_end))]
 fn pass_on(jobs: &Jobs, root: u8, holders: &mut [Option<u8>])
-    ensures { (c : ℕ) → slice_index_or holders.new c None ≡ passed_on (in_tree (superior_at jobs.now) root) (superior_at jobs.now root) (slice_index_or holders.old c None) }
+    ensures { (c : ℕ) → slice_index_or holders.new c None ≡ holder_after_removal (in_tree (superior_at jobs.now) root) (superior_at jobs.now root) (slice_index_or holders.old c None) }
 {
     let heir = jobs.superior(root);
     for c in 0..holders.len() {
@@ -154,7 +154,7 @@ fn pass_on(jobs: &Jobs, root: u8, holders: &mut [Option<u8>])
 
 /// The holder of a console after the removal of a tree, whose consoles pass to an heir.
 fn passed(jobs: &Jobs, root: u8, heir: Option<u8>, holder: Option<u8>) -> Option<u8>
-    ensures { result ≡ passed_on (in_tree (superior_at jobs.now) root) heir holder }
+    ensures { result ≡ holder_after_removal (in_tree (superior_at jobs.now) root) heir holder }
 {
     match holder {
         Some(h) if is_removed(jobs, root, h) => heir,

@@ -4,9 +4,9 @@ ghost use Rattle.its_word.specs.Core.{page_of};
 ghost use Rattle.its_word.specs.Limits.{slots, most_symbols};
 ghost use Rattle.its_core.specs.Cores.{core_at};
 ghost use Rattle.its_jobs.specs.Table.{job_at};
-ghost use Rattle.its_plain.specs.OperatorJobs.{page_protected};
-ghost use Rattle.its_plain.specs.OperatorSymbols.{symbol_kept};
-ghost use Rattle.its_plain.specs.OperatorVersion.{versioned};
+ghost use Rattle.its_plain.specs.OperatorJobs.{with_page_protected};
+ghost use Rattle.its_plain.specs.OperatorSymbols.{with_symbol_kept};
+ghost use Rattle.its_plain.specs.OperatorVersion.{with_version};
 ghost use Rattle.its_machine.specs.Parts.{symbols_at};
 ghost use Rattle.its_direct.specs.Plain.{machine_of, Tidy};
 ghost use Rattle.its_word.specs.Refusals.{reason_of};
@@ -24,7 +24,7 @@ impl Plain {
     pub fn version(&mut self, v: u8)
         requires known { (1 ≤ v) × (v ≤ 2) }
         requires tidy { Tidy self.old }
-        ensures done { Stands self.old self.new (versioned (machine_of self.old) v) }
+        ensures done { Stands self.old self.new (with_version (machine_of self.old) v) }
         ensures tidy { Tidy self.new }
     {
         if self.jobs.is_empty() {
@@ -48,8 +48,8 @@ impl Plain {
     pub fn read_only(&mut self, slot: u8, page: u8) -> Result<(), Refusal>
         requires slot { slot < slots }
         requires tidy { Tidy self.old }
-        ensures done { OnOk result (Operates self.old self.new slot (page_protected (machine_of self.old) slot page)) }
-        ensures refused { IfErr result (λ e. page_protected (machine_of self.old) slot page ≡ Err (reason_of e)) }
+        ensures done { OnOk result (Operates self.old self.new slot (with_page_protected (machine_of self.old) slot page)) }
+        ensures refused { IfErr result (λ e. with_page_protected (machine_of self.old) slot page ≡ Err (reason_of e)) }
         ensures same { OnErr result (self.new ≡ self.old) }
         ensures tidy { Tidy self.new }
     {
@@ -79,8 +79,8 @@ impl Plain {
     pub fn symbol(&mut self, slot: u8, name: Word, a: u32) -> Result<(), Refusal>
         requires slot { slot < slots }
         requires tidy { Tidy self.old }
-        ensures done { OnOk result (Keeps self.old self.new (symbol_kept (machine_of self.old) slot name a)) }
-        ensures refused { IfErr result (λ e. symbol_kept (machine_of self.old) slot name a ≡ Err (reason_of e)) }
+        ensures done { OnOk result (Keeps self.old self.new (with_symbol_kept (machine_of self.old) slot name a)) }
+        ensures refused { IfErr result (λ e. with_symbol_kept (machine_of self.old) slot name a ≡ Err (reason_of e)) }
         ensures same { OnErr result (self.new ≡ self.old) }
         ensures tidy { Tidy self.new }
     {

@@ -3,10 +3,10 @@ ghost use Rattle.std.specs.Prelude.{◌≡◌, ◌<◌, ◌^◌, ◌∷◌, None
 ghost use Rattle.its_word.specs.Limits.{slots};
 ghost use Rattle.its_word.specs.Stores.{first_fault};
 ghost use Rattle.its_frame.specs.declared.change.Change.TheVariants.{Remove};
-ghost use Rattle.its_plain.specs.CallStep.{ended};
+ghost use Rattle.its_plain.specs.CallStep.{after_end};
 ghost use Rattle.its_plain.specs.Change.{effect, effects, in_job};
 ghost use Rattle.its_plain.specs.Machine.{core_of};
-ghost use Rattle.its_plain.specs.Own.{leave};
+ghost use Rattle.its_plain.specs.Own.{after_leave};
 ghost use Rattle.its_machine.specs.Can.{CanMake, CanMakeAll, HasJob};
 ghost use Rattle.its_direct.specs.Effects.{Becomes};
 ghost use Rattle.its_direct.specs.Plain.{machine_of, Tidy};
@@ -98,7 +98,7 @@ impl Plain {
         requires stores { first_fault (core_of ((effects changes.now slot (machine_of self.old)).jobs slot)) stores.now ≡ None }
         requires pc { exit.pc < 2 ^ 18 }
         requires tidy { Tidy self.old }
-        ensures row { Becomes self.old self.new (in_job (effects changes.now slot (machine_of self.old)) slot (ended stores.now (leave exit))) }
+        ensures row { Becomes self.old self.new (in_job (effects changes.now slot (machine_of self.old)) slot (after_end stores.now (after_leave exit))) }
         ensures tidy { Tidy self.new }
     {
         self.apply(slot, changes);

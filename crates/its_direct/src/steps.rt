@@ -4,8 +4,8 @@ ghost use Rattle.its_word.specs.Byte.{has_size};
 ghost use Rattle.its_word.specs.Limits.{slots};
 ghost use Rattle.its_core.specs.Cores.{core_at};
 ghost use Rattle.its_jobs.specs.Table.{job_at};
-ghost use Rattle.its_plain.specs.Arguments.{debts, input, revalued, store_of};
-ghost use Rattle.its_plain.specs.CallStep.{acted, quiet_step, by_ask, decision, deposited, faulted, moved, transition, with_held};
+ghost use Rattle.its_plain.specs.Arguments.{debts, input, with_new_values, store_of};
+ghost use Rattle.its_plain.specs.CallStep.{acted, quiet_step, by_ask, decision, deposited, with_fault, after_moves, transition, with_held};
 ghost use Rattle.its_plain.specs.Change.{effects, in_job};
 ghost use Rattle.its_plain.specs.Decide.{reach};
 ghost use Rattle.its_plain.specs.Footprint.{among};
@@ -99,7 +99,7 @@ impl Plain {
         requires slot { slot < slots }
         requires job { job_at self.old.jobs slot ≡ Some job }
         requires tidy { Tidy self.old }
-        ensures row { Steps self.old self.new (quiet_step (in_job (machine_of self.old) slot (faulted fault))) }
+        ensures row { Steps self.old self.new (quiet_step (in_job (machine_of self.old) slot (with_fault fault))) }
         ensures tidy { Tidy self.new }
     {
         let after = Job {
@@ -230,7 +230,7 @@ impl Plain {
         requires carries { Carries (machine_of self.old) slot changes.now }
         requires part { GoesOn (core_behind (machine_of self.old) slot changes.now) ask.now held values.now }
         requires tidy { Tidy self.old }
-        ensures row { Becomes self.old self.new (in_job (effects changes.now slot (machine_of self.old)) slot (moved ask.now held values.now)) }
+        ensures row { Becomes self.old self.new (in_job (effects changes.now slot (machine_of self.old)) slot (after_moves ask.now held values.now)) }
         ensures tidy { Tidy self.new }
     {
         self.apply(slot, changes);
@@ -242,9 +242,9 @@ impl Plain {
     fn put_held(&mut self, slot: u8, ask: &Ask, held: Option<Held>, values: &[Word])
         requires slot { slot < slots }
         requires job { HasJob (machine_of self.old) slot }
-        requires fits { IfSome held (HeldFits (core_of ((machine_of self.old).jobs slot)) (revalued ask.now values.now)) }
+        requires fits { IfSome held (HeldFits (core_of ((machine_of self.old).jobs slot)) (with_new_values ask.now values.now)) }
         requires tidy { Tidy self.old }
-        ensures row { Becomes self.old self.new (in_job (machine_of self.old) slot (with_held (revalued ask.now values.now) held)) }
+        ensures row { Becomes self.old self.new (in_job (machine_of self.old) slot (with_held (with_new_values ask.now values.now) held)) }
         ensures tidy { Tidy self.new }
     {
         if let Some(h) = held {
@@ -283,7 +283,7 @@ fn deposited(core: &Core, slot: u8, pointer: Word, held: Held) -> Store
 
 /// The value of an input of a call whose last inputs have these new values; 0 if there is no such input.
 fn new_input(ask: &Ask, values: &[Word], k: usize) -> Word
-    ensures { result ≡ input (revalued ask.now values.now) k }
+    ensures { result ≡ input (with_new_values ask.now values.now) k }
 {
     let kept = ask.inputs.len().saturating_sub(values.len());
     let Some(operand) = ask.inputs.get(k) else {
@@ -299,7 +299,7 @@ fn new_input(ask: &Ask, values: &[Word], k: usize) -> Word
 /// The new values of the last inputs of a call, as stores at their places.
 fn new_values(ask: &Ask, values: &[Word]) -> ArrayVec<Store, 2>
     requires { length values.now ≤ 2 }
-    ensures { result.items ≡ debts (revalued ask.now values.now) (length values.now) }
+    ensures { result.items ≡ debts (with_new_values ask.now values.now) (length values.now) }
 {
     let kept = ask.inputs.len().saturating_sub(values.len());
     let mut stores = ArrayVec::new();

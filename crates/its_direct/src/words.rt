@@ -5,7 +5,7 @@ ghost use Rattle.its_word.specs.Limits.{most_pages, slots};
 ghost use Rattle.its_word.specs.Only.{Only, Same};
 ghost use Rattle.its_core.specs.Cores.{clear_at, core_at};
 ghost use Rattle.its_jobs.specs.Table.{job_at};
-ghost use Rattle.its_plain.specs.OperatorJobs.{any_barred, is_barred, word_loaded, words_loaded, words_stored};
+ghost use Rattle.its_plain.specs.OperatorJobs.{any_barred, is_barred, with_word_loaded, with_words_loaded, with_words_stored};
 ghost use Rattle.its_direct.specs.Plain.{machine_of, CoreBecomes, Tidy};
 ghost use Rattle.its_word.specs.Refusals.{reason_of};
 ghost use Rattle.its_direct.specs.Lines.{Operates, pages_absent, pages_made};
@@ -23,8 +23,8 @@ impl Plain {
         requires some { 1 ≤ length words.now }
         requires end { a + length words.now ≤ 2 ^ 18 }
         requires tidy { Tidy self.old }
-        ensures done { OnOk result (Operates self.old self.new slot (words_loaded (machine_of self.old) slot a words.now)) }
-        ensures refused { IfErr result (λ e. words_loaded (machine_of self.old) slot a words.now ≡ Err (reason_of e)) }
+        ensures done { OnOk result (Operates self.old self.new slot (with_words_loaded (machine_of self.old) slot a words.now)) }
+        ensures refused { IfErr result (λ e. with_words_loaded (machine_of self.old) slot a words.now ≡ Err (reason_of e)) }
         ensures same { OnErr result (self.new ≡ self.old) }
         ensures tidy { Tidy self.new }
     {
@@ -49,9 +49,9 @@ impl Plain {
         requires slot { slot < slots }
         requires end { a + length words.now ≤ 2 ^ 18 }
         requires job { is_some (job_at self.old.jobs slot) ≡ true }
-        requires room { IsOk (words_stored (machine_of self.old) slot a words.now) }
+        requires room { IsOk (with_words_stored (machine_of self.old) slot a words.now) }
         requires tidy { Tidy self.old }
-        ensures done { words_stored (machine_of self.old) slot a words.now ≡ Ok (machine_of self.new) }
+        ensures done { with_words_stored (machine_of self.old) slot a words.now ≡ Ok (machine_of self.new) }
         ensures place { self.new.place ≡ self.old.place }
         ensures tidy { Tidy self.new }
     {
@@ -65,9 +65,9 @@ impl Plain {
         requires slot { slot < slots }
         requires address { a < 2 ^ 18 }
         requires job { is_some (job_at self.old.jobs slot) ≡ true }
-        requires room { IsOk (word_loaded (machine_of self.old) slot a w) }
+        requires room { IsOk (with_word_loaded (machine_of self.old) slot a w) }
         requires tidy { Tidy self.old }
-        ensures row { word_loaded (machine_of self.old) slot a w ≡ Ok (machine_of self.new) }
+        ensures row { with_word_loaded (machine_of self.old) slot a w ≡ Ok (machine_of self.new) }
         ensures job { is_some (job_at self.new.jobs slot) ≡ true }
         ensures place { self.new.place ≡ self.old.place }
         ensures tidy { Tidy self.new }

@@ -6,7 +6,7 @@ use Rattle.std.proofs.lemmas.List.{get_or-set_same, get_or-set_other, get_or_app
 use Rattle.std.proofs.lemmas.List.Sums.{sum_by-set}
 use Rattle.std.proofs.lemmas.Option.{slice_get-get_or, slice_get_past, slice_get_within, get_or_from_slice_get}
 use Rattle.its_links.specs.Lists.{Linked, list_at, times, first, rest}
-use Rattle.its_files.specs.Blocks.{text_at, free_blocks, blocks_of, blocks_for, blocks_used, words_left, room_behind, needs_block, is_full, with_block, grown_by, appended, given_up, word_in, block_ready, text_of, stored_in, PlaceIn, IsBlocks, numbers}
+use Rattle.its_files.specs.Blocks.{text_at, free_blocks, blocks_of, blocks_for, blocks_used, words_left, room_behind, needs_block, is_full, with_block, with_growth, with_word_appended, after_giving_up, word_in, block_ready, text_of, stored_in, PlaceIn, IsBlocks, numbers}
 use Rattle.its_files.specs.declared.blocks.Place.{Place}
 use Rattle.its_files.proofs.ListLaws.{sum_alike, push_last, push_before}
 use Rattle.its_files.proofs.ChainLaws.{apart, take_first, rest_first}
@@ -243,12 +243,12 @@ module _ (words : List ℕ) (most : ℕ) (lengths lasts : List ℕ) (free : ℕ)
       text_other
       ∙ ap t (ap (λ m. text_of words (blocks_of ls id) m) n_is ∙ sym (get_or-table numbers f id [] lt))
 
-  appended_view : ms ≡ grown_by (needs_block n) ls id → stored_in (slice_set words (128 * b + n % 128) w) ms (slice_set lengths id (n + 1)) ≡ appended (stored_in words ls lengths) id w
+  appended_view : ms ≡ with_growth (needs_block n) ls id → stored_in (slice_set words (128 * b + n % 128) w) ms (slice_set lengths id (n + 1)) ≡ with_word_appended (stored_in words ls lengths) id w
   appended_view ms_are =
-      let c : (stored_in (slice_set words (128 * b + n % 128) w) ms (slice_set lengths id (n + 1))).chains ≡ (appended (stored_in words ls lengths) id w).chains =
+      let c : (stored_in (slice_set words (128 * b + n % 128) w) ms (slice_set lengths id (n + 1))).chains ≡ (with_word_appended (stored_in words ls lengths) id w).chains =
       chains_are (slice_set words (128 * b + n % 128) w) ms (slice_set lengths id (n + 1)) ∙ ms_are
-      ∙ ap (λ m. grown_by (needs_block m) ls id) (n_is ∙ sym (length_is words ls lengths id lt))
-      ∙ ap (λ xs. grown_by (needs_block (length (text_at (stored_in words ls lengths).texts id))) xs id) (sym (chains_are words ls lengths)) in
+      ∙ ap (λ m. with_growth (needs_block m) ls id) (n_is ∙ sym (length_is words ls lengths id lt))
+      ∙ ap (λ xs. with_growth (needs_block (length (text_at (stored_in words ls lengths).texts id))) xs id) (sym (chains_are words ls lengths)) in
       λ i. record { texts = appended_texts i; chains = c i }
 
 -- the same, if the words of the block are made ready first
@@ -267,11 +267,11 @@ module _ (words vs : List ℕ) (most room : ℕ) (lengths lasts : List ℕ) (fre
       subst (λ xs. IsBlocks xs room (slice_set lengths id (n + 1)) (slice_set lasts id b) left place (record { nodes = knots; lists = ms })) (sym vs_are)
       (appended_blocks (block_ready words b) room lengths lasts free place nodes knots ls ms id n b w ready_first knots_are lt n_is g once made_ready left left_is)
 
-  pub put_view : ms ≡ grown_by (needs_block n) ls id → stored_in vs ms (slice_set lengths id (n + 1)) ≡ appended (stored_in words ls lengths) id w
+  pub put_view : ms ≡ with_growth (needs_block n) ls id → stored_in vs ms (slice_set lengths id (n + 1)) ≡ with_word_appended (stored_in words ls lengths) id w
   put_view ms_are =
       ap (λ xs. stored_in xs ms (slice_set lengths id (n + 1))) vs_are
       ∙ appended_view (block_ready words b) room lengths lasts free place nodes knots ls ms id n b w ready_first knots_are lt n_is g once made_ready ms_are
-      ∙ ap (λ s. appended s id w) (ready_view words (128 * b + 128 - length words) ls lengths)
+      ∙ ap (λ s. with_word_appended s id w) (ready_view words (128 * b + 128 - length words) ls lengths)
 
 -- a number loses its words
 module _ (words : List ℕ) (most : ℕ) (lengths lasts : List ℕ) (free : ℕ) (place : Option Place) (nodes knots : ℕ) (ls ms : List (List ℕ)) (id : ℕ) (h : IsBlocks words most lengths lasts free place (record { nodes = nodes; lists = ls })) (knots_are : knots ≡ nodes) (lt : id < numbers) (ms_is : ms ≡ slice_set (slice_set ls 0 (free_blocks ls ++ blocks_of ls id)) (id + 1) []) where
@@ -347,9 +347,9 @@ module _ (words : List ℕ) (most : ℕ) (lengths lasts : List ℕ) (free : ℕ)
       (nil_from_length (text_of words (blocks_of ms id) (slice_index_or (slice_set lengths id 0) id 0)) (length-table (slice_index_or (slice_set lengths id 0) id 0) (word_in words (blocks_of ms id)) ∙ none_here))
       (λ k kl ne. ap (λ xs. text_of words xs (slice_index_or (slice_set lengths id 0) k 0)) (others_stay k ne) ∙ ap (λ m. text_of words (blocks_of ls k) m) (others_long k ne))
 
-  pub given_view : stored_in words ms (slice_set lengths id 0) ≡ given_up (stored_in words ls lengths) id
+  pub given_view : stored_in words ms (slice_set lengths id 0) ≡ after_giving_up (stored_in words ls lengths) id
   given_view =
-      let c : (stored_in words ms (slice_set lengths id 0)).chains ≡ (given_up (stored_in words ls lengths) id).chains =
+      let c : (stored_in words ms (slice_set lengths id 0)).chains ≡ (after_giving_up (stored_in words ls lengths) id).chains =
       chains_are words ms (slice_set lengths id 0) ∙ ms_is
       ∙ ap (λ xs. slice_set (slice_set xs 0 (free_blocks xs ++ blocks_of xs id)) (id + 1) []) (sym (chains_are words ls lengths)) in
       λ i. record { texts = given_texts i; chains = c i }
@@ -370,7 +370,7 @@ module _ (words : List ℕ) (most : ℕ) (lengths lasts : List ℕ) (free : ℕ)
             subst (λ ms. Grown links.lists ms id n b) e (grown_same links.lists id n b h.heads t (omega arith) at)
       ]
 
-  pub grown_is : (new : Linked) (n b last : ℕ) → (needs_block n ≡ false → (new ≡ links) × (b ≡ last)) → (needs_block n ≡ true → (first (free_blocks links.lists) ≡ Some b) × (new ≡ record links { lists = with_block links.lists id })) → (new.nodes ≡ links.nodes) × (new.lists ≡ grown_by (needs_block n) links.lists id)
+  pub grown_is : (new : Linked) (n b last : ℕ) → (needs_block n ≡ false → (new ≡ links) × (b ≡ last)) → (needs_block n ≡ true → (first (free_blocks links.lists) ≡ Some b) × (new ≡ record links { lists = with_block links.lists id })) → (new.nodes ≡ links.nodes) × (new.lists ≡ with_growth (needs_block n) links.lists id)
   grown_is new n b last same fresh = elim (cases_Bool (needs_block n)) [
     | inl t ↦ rw t (ap (λ l. l.nodes) (fresh t).1, ap (λ l. l.lists) (fresh t).1)
     | inr t ↦ rw t (ap (λ l. l.nodes) (same t).0, ap (λ l. l.lists) (same t).0)

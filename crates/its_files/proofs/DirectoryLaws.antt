@@ -12,8 +12,8 @@ use Rattle.its_files.specs.declared.entry.Entry.TheVariants.{File, Draft}
 use Rattle.its_files.specs.declared.entry.Parts.{Parts}
 use Rattle.its_files.specs.declared.entry.Parts.TheVariants.{Replace, Link, Free}
 use Rattle.its_files.specs.declared.entry.Mark.{Mark}
-use Rattle.its_files.specs.Blocks.{Stored, text_at, given_up, numbers}
-use Rattle.its_files.specs.Files.{Store, entry_at, entry_in, is_file, is_draft, names_by, names_at, words_by, words_at, unlinked_old, with_file, with_draft, with_word, discarded, deleted, renamed, with_readers, marked_with, helped, marked_draft, unlinked, linked, freed, found, file_at, directory, plain_directory, readers_by, file_names_by, draft_file_by, is_marked, But, IsFiles}
+use Rattle.its_files.specs.Blocks.{Stored, text_at, after_giving_up, numbers}
+use Rattle.its_files.specs.Files.{Store, entry_at, entry_in, is_file, is_draft, names_by, names_at, words_by, words_at, unlinked_old, with_file, with_draft, with_word, after_discard, after_delete, after_rename, with_readers, with_mark, after_help, marked_draft, after_unlink_old, after_link_new, after_free_old, found, file_at, directory, plain_directory, readers_by, file_names_by, draft_file_by, is_marked, But, IsFiles}
 use Rattle.its_word.proofs.NamesLaws.{same_sym, same_refl, same_self}
 use Rattle.its_files.proofs.EntryLaws.{within, file_stands, draft_no_file, draft_stands, found_file, found_fresh, ordered, count_other}
 
@@ -178,20 +178,20 @@ module _ (s : Store) (h : IsFiles s.entries s.order s.mark s.stored.texts) where
       let b : text_at t.stored.texts k ≡ text_at s.stored.texts k = ap (λ xs. text_at xs k) x ∙ get_or-set_other s.stored.texts id k [] [] ne in
       file_is t k (ap names_by a) (ap (λ y. words_by y (text_at t.stored.texts k)) a ∙ ap (λ ws. words_by (entry_at s k) ws) b)
 
-  pub discarded_directory : (id : ℕ) → is_draft (entry_at s id) ≡ true → directory (discarded s id) ≡ directory s
+  pub discarded_directory : (id : ℕ) → is_draft (entry_at s id) ≡ true → directory (after_discard s id) ≡ directory s
   discarded_directory id d =
-      directory_same (discarded s id) refl (λ k f. gone_apart (discarded s id) id k refl refl (λ e. both_ways (is_file (entry_at s k)) (ap (λ j. is_file (entry_at s j)) e ∙ draft_no_file (entry_at s id) d) f))
+      directory_same (after_discard s id) refl (λ k f. gone_apart (after_discard s id) id k refl refl (λ e. both_ways (is_file (entry_at s k)) (ap (λ j. is_file (entry_at s j)) e ∙ draft_no_file (entry_at s id) d) f))
 
-  pub deleted_directory : (id : ℕ) → is_file (entry_at s id) ≡ true → directory (deleted s id) ≡ without_names (names_at s id) (directory s)
-  deleted_directory id f = directory_without (deleted s id) id refl f (λ k ne. gone_apart (deleted s id) id k refl refl ne)
+  pub deleted_directory : (id : ℕ) → is_file (entry_at s id) ≡ true → directory (after_delete s id) ≡ without_names (names_at s id) (directory s)
+  deleted_directory id f = directory_without (after_delete s id) id refl f (λ k ne. gone_apart (after_delete s id) id k refl refl ne)
 
-  pub renamed_directory : (id : ℕ) (names : List ℕ) → is_file (entry_at s id) ≡ true → directory (renamed s id names) ≡ with_changed (names_at s id) (named names) (directory s)
+  pub renamed_directory : (id : ℕ) (names : List ℕ) → is_file (entry_at s id) ≡ true → directory (after_rename s id names) ≡ with_changed (names_at s id) (named names) (directory s)
   renamed_directory id names f =
       let l = h.long in
       let lt = within s.entries id (file_stands (entry_at s id) f) in
       let a : entry_in (slice_set s.entries id (Some (File names 0))) id ≡ Some (File names 0) = get_or-set_same s.entries id (Some (File names 0)) None lt in
-      let g : file_at (renamed s id names) id ≡ named names (file_at s id) = λ i. record { names = ap names_by a i; words = (ap (λ x. words_by x (text_at s.stored.texts id)) a ∙ words_stand (entry_at s id) (text_at s.stored.texts id) (file_stands (entry_at s id) f)) i } in
-      directory_changed (renamed s id names) id (named names) refl f g (λ k ne. file_apart id k (Some (File names 0)) ne)
+      let g : file_at (after_rename s id names) id ≡ named names (file_at s id) = λ i. record { names = ap names_by a i; words = (ap (λ x. words_by x (text_at s.stored.texts id)) a ∙ words_stand (entry_at s id) (text_at s.stored.texts id) (file_stands (entry_at s id) f)) i } in
+      directory_changed (after_rename s id names) id (named names) refl f g (λ k ne. file_apart id k (Some (File names 0)) ne)
 
   pub with_readers_directory : (id n : ℕ) → is_file (entry_at s id) ≡ true → directory (with_readers s id n) ≡ directory s
   with_readers_directory id n f =
@@ -206,14 +206,14 @@ module _ (s : Store) (h : IsFiles s.entries s.order s.mark s.stored.texts) where
       ])
 
   -- a close that is marked: the directory with all its parts made is that of the plain machine
-  pub plain_replaced : (id slot old : ℕ) → is_draft (entry_at s id) ≡ true → found s (names_at s id) ≡ Some old → plain_directory (marked_with s slot (Replace old id)) ≡ closed (file_at s id) (directory s)
+  pub plain_replaced : (id slot old : ℕ) → is_draft (entry_at s id) ≡ true → found s (names_at s id) ≡ Some old → plain_directory (with_mark s slot (Replace old id)) ≡ closed (file_at s id) (directory s)
   plain_replaced id slot old d fnd =
       let l = h.long in
       let lt = within s.entries id (draft_stands (entry_at s id) d) in
       let f = found_file s.entries s.order s.mark s.stored.texts h (names_at s id) old fnd in
       let ne : id ≢ old = λ e. both_ways (is_file (entry_at s id)) (draft_no_file (entry_at s id) d) (ap (λ j. is_file (entry_at s j)) e ∙ f.0) in
       let es = slice_set s.entries old None in
-      let t = helped (marked_with s slot (Replace old id)) in
+      let t = after_help (with_mark s slot (Replace old id)) in
       let b : entry_in es id ≡ entry_at s id = entries_apart old id None ne in
       let ls = length-set s.entries old None in
       let here : entry_at t id ≡ Some (File (names_by (entry_in es id)) 0) = get_or-set_same es id (Some (File (names_by (entry_in es id)) 0)) None (omega arith) in
@@ -228,10 +228,10 @@ module _ (s : Store) (h : IsFiles s.entries s.order s.mark s.stored.texts) where
       file_is t k (ap names_by c) (ap (λ z. words_by z (text_at t.stored.texts k)) c ∙ ap (λ ws. words_by (entry_at s k) ws) y))
       d
 
-  pub plain_linked : (id slot : ℕ) → is_draft (entry_at s id) ≡ true → found s (names_at s id) ≡ None → plain_directory (marked_with s slot (Link None id)) ≡ closed (file_at s id) (directory s)
+  pub plain_linked : (id slot : ℕ) → is_draft (entry_at s id) ≡ true → found s (names_at s id) ≡ None → plain_directory (with_mark s slot (Link None id)) ≡ closed (file_at s id) (directory s)
   plain_linked id slot d fresh =
       let lt = within s.entries id (draft_stands (entry_at s id) d) in
-      let t = helped (marked_with s slot (Link None id)) in
+      let t = after_help (with_mark s slot (Link None id)) in
       let here : entry_at t id ≡ Some (File (names_at s id) 0) = get_or-set_same s.entries id (Some (File (names_at s id) 0)) None lt in
       let g : file_at t id ≡ file_at s id =
       file_is t id (ap names_by here)
@@ -239,54 +239,54 @@ module _ (s : Store) (h : IsFiles s.entries s.order s.mark s.stored.texts) where
       directory_closed_new t id refl d fresh g (λ k nk. file_apart id k (Some (File (names_at s id) 0)) nk)
 
 -- making parts leaves the plain directory as it is
-helped_unlinked : (es : List (Option Entry)) (order : List ℕ) (st : Stored) (m : Option Mark) → helped (unlinked (record { entries = es; order = order; mark = m; stored = st })) ≡ helped (record { entries = es; order = order; mark = m; stored = st })
+helped_unlinked : (es : List (Option Entry)) (order : List ℕ) (st : Stored) (m : Option Mark) → after_help (after_unlink_old (record { entries = es; order = order; mark = m; stored = st })) ≡ after_help (record { entries = es; order = order; mark = m; stored = st })
 helped_unlinked es order st None = refl
 helped_unlinked es order st (Some m) = go m.owner m.parts
   where
-    go : (o : ℕ) (p : Parts) → helped (unlinked (record { entries = es; order = order; mark = Some (record { owner = o; parts = p }); stored = st })) ≡ helped (record { entries = es; order = order; mark = Some (record { owner = o; parts = p }); stored = st })
+    go : (o : ℕ) (p : Parts) → after_help (after_unlink_old (record { entries = es; order = order; mark = Some (record { owner = o; parts = p }); stored = st })) ≡ after_help (record { entries = es; order = order; mark = Some (record { owner = o; parts = p }); stored = st })
     go o (Replace old draft) = refl
     go o (Link old draft) = refl
     go o (Free old) = refl
 
-helped_linked : (es : List (Option Entry)) (order : List ℕ) (st : Stored) (m : Option Mark) → directory (helped (linked (record { entries = es; order = order; mark = m; stored = st }))) ≡ directory (helped (record { entries = es; order = order; mark = m; stored = st }))
+helped_linked : (es : List (Option Entry)) (order : List ℕ) (st : Stored) (m : Option Mark) → directory (after_help (after_link_new (record { entries = es; order = order; mark = m; stored = st }))) ≡ directory (after_help (record { entries = es; order = order; mark = m; stored = st }))
 helped_linked es order st None = refl
 helped_linked es order st (Some m) = go m.owner m.parts
   where
-    go : (o : ℕ) (p : Parts) → directory (helped (linked (record { entries = es; order = order; mark = Some (record { owner = o; parts = p }); stored = st }))) ≡ directory (helped (record { entries = es; order = order; mark = Some (record { owner = o; parts = p }); stored = st }))
+    go : (o : ℕ) (p : Parts) → directory (after_help (after_link_new (record { entries = es; order = order; mark = Some (record { owner = o; parts = p }); stored = st }))) ≡ directory (after_help (record { entries = es; order = order; mark = Some (record { owner = o; parts = p }); stored = st }))
     go o (Replace old draft) = refl
     go o (Link None draft) = refl
     go o (Link (Some old) draft) = refl
     go o (Free old) = refl
 
-helped_freed : (es : List (Option Entry)) (order : List ℕ) (st : Stored) (m : Option Mark) → directory (helped (freed (record { entries = es; order = order; mark = m; stored = st }))) ≡ directory (helped (record { entries = es; order = order; mark = m; stored = st }))
+helped_freed : (es : List (Option Entry)) (order : List ℕ) (st : Stored) (m : Option Mark) → directory (after_help (after_free_old (record { entries = es; order = order; mark = m; stored = st }))) ≡ directory (after_help (record { entries = es; order = order; mark = m; stored = st }))
 helped_freed es order st None = refl
 helped_freed es order st (Some m) = go m.owner m.parts
   where
-    go : (o : ℕ) (p : Parts) → directory (helped (freed (record { entries = es; order = order; mark = Some (record { owner = o; parts = p }); stored = st }))) ≡ directory (helped (record { entries = es; order = order; mark = Some (record { owner = o; parts = p }); stored = st }))
+    go : (o : ℕ) (p : Parts) → directory (after_help (after_free_old (record { entries = es; order = order; mark = Some (record { owner = o; parts = p }); stored = st }))) ≡ directory (after_help (record { entries = es; order = order; mark = Some (record { owner = o; parts = p }); stored = st }))
     go o (Replace old draft) = refl
     go o (Link old draft) = refl
     go o (Free old) = refl
 
-pub plain_unlinked_is : (s t : Store) → t ≡ unlinked s → plain_directory t ≡ plain_directory s
+pub plain_unlinked_is : (s t : Store) → t ≡ after_unlink_old s → plain_directory t ≡ plain_directory s
 plain_unlinked_is s t e = ap plain_directory e ∙ ap directory (helped_unlinked s.entries s.order s.stored s.mark)
 
-pub plain_linked_is : (s t : Store) → t ≡ linked s → plain_directory t ≡ plain_directory s
+pub plain_linked_is : (s t : Store) → t ≡ after_link_new s → plain_directory t ≡ plain_directory s
 plain_linked_is s t e = ap plain_directory e ∙ helped_linked s.entries s.order s.stored s.mark
 
-pub plain_freed_is : (s t : Store) → t ≡ freed s → plain_directory t ≡ plain_directory s
+pub plain_freed_is : (s t : Store) → t ≡ after_free_old s → plain_directory t ≡ plain_directory s
 plain_freed_is s t e = ap plain_directory e ∙ helped_freed s.entries s.order s.stored s.mark
 
-helped_done : (es : List (Option Entry)) (order : List ℕ) (st : Stored) (m : Option Mark) → (helped (record { entries = es; order = order; mark = m; stored = st })).mark ≡ None
+helped_done : (es : List (Option Entry)) (order : List ℕ) (st : Stored) (m : Option Mark) → (after_help (record { entries = es; order = order; mark = m; stored = st })).mark ≡ None
 helped_done es order st None = refl
 helped_done es order st (Some m) = go m.owner m.parts
   where
-    go : (o : ℕ) (p : Parts) → (helped (record { entries = es; order = order; mark = Some (record { owner = o; parts = p }); stored = st })).mark ≡ None
+    go : (o : ℕ) (p : Parts) → (after_help (record { entries = es; order = order; mark = Some (record { owner = o; parts = p }); stored = st })).mark ≡ None
     go o (Replace old draft) = refl
     go o (Link None draft) = refl
     go o (Link (Some old) draft) = refl
     go o (Free old) = refl
 
-pub helped_unmarked : (s t : Store) → t ≡ helped s → t.mark ≡ None
+pub helped_unmarked : (s t : Store) → t ≡ after_help s → t.mark ≡ None
 helped_unmarked s t e = ap (λ x. x.mark) e ∙ helped_done s.entries s.order s.stored s.mark
 
 -- a number that is given up or read less is in no directory that results from the mark
@@ -354,7 +354,7 @@ module _ (s t : Store) (le : length t.entries ≡ length s.entries) (lt : length
     text = a.text;
   }
 
-  agree_freed : (old k : ℕ) → Agree s t k → Agree (record s { stored = given_up s.stored old }) (record t { stored = given_up t.stored old }) k
+  agree_freed : (old k : ℕ) → Agree s t k → Agree (record s { stored = after_giving_up s.stored old }) (record t { stored = after_giving_up t.stored old }) k
   agree_freed old k a = record {
     names = a.names;
     stands = a.stands;
@@ -387,13 +387,13 @@ module _ (es fs : List (Option Entry)) (o : List ℕ) (st su : Stored) (le : len
     | inr ne ↦ h k (inl (some ne))
   ]
 
-  helped_by : (w : ℕ) (p : Parts) → Alike (Some (record { owner = w; parts = p })) → directory (helped (of (Some (record { owner = w; parts = p })) fs su)) ≡ directory (helped (of (Some (record { owner = w; parts = p })) es st))
+  helped_by : (w : ℕ) (p : Parts) → Alike (Some (record { owner = w; parts = p })) → directory (after_help (of (Some (record { owner = w; parts = p })) fs su)) ≡ directory (after_help (of (Some (record { owner = w; parts = p })) es st))
   helped_by w (Replace old draft) h =
       let m : Option Mark = Some (record { owner = w; parts = Replace old draft }) in
       let s = of m es st in
       let t = of m fs su in
       let n : length (slice_set fs old None) ≡ length (slice_set es old None) = length-set fs old None ∙ le ∙ sym (length-set es old None) in
-      files_alike (helped s) (helped t) (without old o ++ draft ∷ []) (λ k some. agree_file (helped s) (helped t) k
+      files_alike (after_help s) (after_help t) (without old o ++ draft ∷ []) (λ k some. agree_file (after_help s) (after_help t) k
       (let a = named_by m draft k refl h (λ ne. in_order old draft k some ne) in
       let d = h draft (inr refl) in
       let x = agree_linked (set_entry s old None) (set_entry t old None) n lt draft k (agree_none s t le lt old draft d) (agree_none s t le lt old k a) in
@@ -402,7 +402,7 @@ module _ (es fs : List (Option Entry)) (o : List ℕ) (st su : Stored) (le : len
       let m : Option Mark = Some (record { owner = w; parts = Link None draft }) in
       let s = of m es st in
       let t = of m fs su in
-      files_alike (helped s) (helped t) (o ++ draft ∷ []) (λ k some. agree_file (helped s) (helped t) k
+      files_alike (after_help s) (after_help t) (o ++ draft ∷ []) (λ k some. agree_file (after_help s) (after_help t) k
       (let a = named_by m draft k refl h (λ ne. in_more draft k some ne) in
       let x = agree_linked s t le lt draft k (h draft (inr refl)) a in
       record { names = x.names; stands = x.stands; text = a.text }))
@@ -410,7 +410,7 @@ module _ (es fs : List (Option Entry)) (o : List ℕ) (st su : Stored) (le : len
       let m : Option Mark = Some (record { owner = w; parts = Link (Some old) draft }) in
       let s = of m es st in
       let t = of m fs su in
-      files_alike (helped s) (helped t) (o ++ draft ∷ []) (λ k some. agree_file (helped s) (helped t) k
+      files_alike (after_help s) (after_help t) (o ++ draft ∷ []) (λ k some. agree_file (after_help s) (after_help t) k
       (let a = named_by m draft k refl h (λ ne. in_more draft k some ne) in
       let x = agree_linked s t le lt draft k (h draft (inr refl)) a in
       record { names = x.names; stands = x.stands; text = (agree_freed s t le lt old k a).text }))
@@ -418,7 +418,7 @@ module _ (es fs : List (Option Entry)) (o : List ℕ) (st su : Stored) (le : len
       let m : Option Mark = Some (record { owner = w; parts = Free old }) in
       let s = of m es st in
       let t = of m fs su in
-      files_alike (helped s) (helped t) o (λ k some. agree_file (helped s) (helped t) k
+      files_alike (after_help s) (after_help t) o (λ k some. agree_file (after_help s) (after_help t) k
       (let a = h k (inl some) in
       record { names = a.names; stands = a.stands; text = (agree_freed s t le lt old k a).text }))
 
@@ -428,9 +428,9 @@ module _ (es fs : List (Option Entry)) (o : List ℕ) (st su : Stored) (le : len
 
 module _ (s : Store) (h : IsFiles s.entries s.order s.mark s.stored.texts) where
   -- a draft that is not marked is dropped, or a file is read less, while a close is half made
-  pub discarded_plain : (id : ℕ) → is_draft (entry_at s id) ≡ true → marked_draft s.mark ≢ Some id → plain_directory (discarded s id) ≡ plain_directory s
+  pub discarded_plain : (id : ℕ) → is_draft (entry_at s id) ≡ true → marked_draft s.mark ≢ Some id → plain_directory (after_discard s id) ≡ plain_directory s
   discarded_plain id d ne =
-      helped_alike s.entries (slice_set s.entries id None) s.order s.stored (given_up s.stored id) (length-set s.entries id None) (length-set s.stored.texts id []) s.mark
+      helped_alike s.entries (slice_set s.entries id None) s.order s.stored (after_giving_up s.stored id) (length-set s.entries id None) (length-set s.stored.texts id []) s.mark
       (λ k named_in.
       let far : k ≢ id = λ e. elim named_in [
         | inl some ↦ both_ways (is_file (entry_at s k)) (ap (λ j. is_file (entry_at s j)) e ∙ draft_no_file (entry_at s id) d) (ordered s.entries s.order s.mark s.stored.texts h k some)

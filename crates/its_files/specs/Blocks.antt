@@ -66,20 +66,20 @@ room_behind s id = words_left (length (text_at s.texts id)) + block_words * (blo
 unfoldable pub with_block : List (List ℕ) → ℕ → List (List ℕ)
 with_block chains id = slice_set (slice_set chains 0 (rest (free_blocks chains))) (id + 1) (blocks_of chains id ++ take 1 (free_blocks chains))
 
-abbrev pub grown_by : Bool → List (List ℕ) → ℕ → List (List ℕ)
-grown_by true chains id = with_block chains id
-grown_by false chains id = chains
+abbrev pub with_growth : Bool → List (List ℕ) → ℕ → List (List ℕ)
+with_growth true chains id = with_block chains id
+with_growth false chains id = chains
 
 -- a word more at the end of a text
-abbrev pub appended : Stored → ℕ → ℕ → Stored
-appended s id w = record {
+abbrev pub with_word_appended : Stored → ℕ → ℕ → Stored
+with_word_appended s id w = record {
   texts = slice_set s.texts id (text_at s.texts id ++ w ∷ []);
-  chains = grown_by (needs_block (length (text_at s.texts id))) s.chains id;
+  chains = with_growth (needs_block (length (text_at s.texts id))) s.chains id;
 }
 
 -- a text loses its words, and its blocks go to the end of the free ones, in their order
-abbrev pub given_up : Stored → ℕ → Stored
-given_up s id = record {
+abbrev pub after_giving_up : Stored → ℕ → Stored
+after_giving_up s id = record {
   texts = slice_set s.texts id [];
   chains = slice_set (slice_set s.chains 0 (free_blocks s.chains ++ blocks_of s.chains id)) (id + 1) [];
 }

@@ -16,7 +16,7 @@ use Rattle.its_files.specs.declared.entry.CloseFault.TheVariants.{Locked, NoRoom
 use Rattle.its_files.specs.declared.entry.RenameFault.{RenameFault}
 use Rattle.its_files.specs.declared.entry.RenameFault.TheVariants.{Locked as IsLocked, Exists}
 use Rattle.its_files.specs.declared.entry.Locked.{Locked as LockedFile}
-use Rattle.its_files.specs.Blocks.{Stored, text_at, appended, given_up, numbers}
+use Rattle.its_files.specs.Blocks.{Stored, text_at, with_word_appended, after_giving_up, numbers}
 pub use Rattle.its_files.specs.Blocks.{most_files, most_drafts}
 use Rattle.its_files.specs.Opening.{nothing_stored}
 use Rattle.its_word.specs.Table.{filled}
@@ -100,29 +100,29 @@ with_draft s id names = record s { entries = slice_set s.entries id (Some (Draft
 
 -- a word more
 abbrev pub with_word : Store → ℕ → ℕ → Store
-with_word s id w = record s { stored = appended s.stored id w }
+with_word s id w = record s { stored = with_word_appended s.stored id w }
 
 -- a draft is dropped
-abbrev pub discarded : Store → ℕ → Store
-discarded s id = record s { entries = slice_set s.entries id None; stored = given_up s.stored id }
+abbrev pub after_discard : Store → ℕ → Store
+after_discard s id = record s { entries = slice_set s.entries id None; stored = after_giving_up s.stored id }
 
 -- a file goes
-abbrev pub deleted : Store → ℕ → Store
-deleted s id = record s { entries = slice_set s.entries id None; order = without id s.order; stored = given_up s.stored id }
+abbrev pub after_delete : Store → ℕ → Store
+after_delete s id = record s { entries = slice_set s.entries id None; order = without id s.order; stored = after_giving_up s.stored id }
 
 abbrev pub delete_by : ℕ → Store → ℕ → Result Store LockedFile
-delete_by zero s id = Ok (deleted s id)
+delete_by zero s id = Ok (after_delete s id)
 delete_by (suc n) s id = Err (record {})
 
 abbrev pub delete : Store → ℕ → Result Store LockedFile
 delete s id = delete_by (readers_at s id) s id
 
 -- a file gets other names in its directory, and keeps its place
-abbrev pub renamed : Store → ℕ → List ℕ → Store
-renamed s id names = record s { entries = slice_set s.entries id (Some (File names 0)) }
+abbrev pub after_rename : Store → ℕ → List ℕ → Store
+after_rename s id names = record s { entries = slice_set s.entries id (Some (File names 0)) }
 
 abbrev pub rename_free : Option ℕ → Store → ℕ → List ℕ → Result Store RenameFault
-rename_free None s id names = Ok (renamed s id names)
+rename_free None s id names = Ok (after_rename s id names)
 rename_free (Some other) s id names = Err Exists
 
 abbrev pub rename_by : ℕ → Store → ℕ → List ℕ → Result Store RenameFault
@@ -140,15 +140,15 @@ abbrev pub with_readers : Store → ℕ → ℕ → Store
 with_readers s id n = record s { entries = slice_set s.entries id (Some (File (names_at s id) n)) }
 
 -- a close of a draft is marked: it replaces the file with its names, or it is the last of a directory with room
-abbrev pub marked_with : Store → ℕ → Parts → Store
-marked_with s slot parts = record s { mark = Some (record { owner = slot; parts = parts }) }
+abbrev pub with_mark : Store → ℕ → Parts → Store
+with_mark s slot parts = record s { mark = Some (record { owner = slot; parts = parts }) }
 
 abbrev pub close_old : ℕ → Store → ℕ → ℕ → ℕ → Result Store CloseFault
-close_old zero s slot id old = Ok (marked_with s slot (Replace old id))
+close_old zero s slot id old = Ok (with_mark s slot (Replace old id))
 close_old (suc n) s slot id old = Err Locked
 
 abbrev pub close_new : Bool → Store → ℕ → ℕ → Result Store CloseFault
-close_new true s slot id = Ok (marked_with s slot (Link None id))
+close_new true s slot id = Ok (with_mark s slot (Link None id))
 close_new false s slot id = Err NoRoom
 
 abbrev pub close_by : Option ℕ → Store → ℕ → ℕ → Result Store CloseFault
@@ -170,59 +170,59 @@ owed None = []
 owed (Some m) = parts_owed m.parts
 
 -- the old file is unlinked, if that is the first pending part
-abbrev pub unlinked_by : Parts → ℕ → Store → Store
-unlinked_by (Replace old draft) owner s = record s {
+abbrev pub after_unlink_old_by : Parts → ℕ → Store → Store
+after_unlink_old_by (Replace old draft) owner s = record s {
   entries = slice_set s.entries old None;
   order = without old s.order;
   mark = Some (record { owner = owner; parts = Link (Some old) draft });
 }
-unlinked_by (Link old draft) owner s = s
-unlinked_by (Free old) owner s = s
+after_unlink_old_by (Link old draft) owner s = s
+after_unlink_old_by (Free old) owner s = s
 
-abbrev pub unlinked_at : Option Mark → Store → Store
-unlinked_at None s = s
-unlinked_at (Some m) s = unlinked_by m.parts m.owner s
+abbrev pub after_unlink_old_at : Option Mark → Store → Store
+after_unlink_old_at None s = s
+after_unlink_old_at (Some m) s = after_unlink_old_by m.parts m.owner s
 
-abbrev pub unlinked : Store → Store
-unlinked s = unlinked_at s.mark s
+abbrev pub after_unlink_old : Store → Store
+after_unlink_old s = after_unlink_old_at s.mark s
 
 -- the draft becomes the last file, if that is the first pending part
 abbrev pub after_link : Option ℕ → ℕ → Option Mark
 after_link None owner = None
 after_link (Some old) owner = Some (record { owner = owner; parts = Free old })
 
-abbrev pub linked_by : Parts → ℕ → Store → Store
-linked_by (Replace old draft) owner s = s
-linked_by (Link old draft) owner s = record s {
+abbrev pub after_link_new_by : Parts → ℕ → Store → Store
+after_link_new_by (Replace old draft) owner s = s
+after_link_new_by (Link old draft) owner s = record s {
   entries = slice_set s.entries draft (Some (File (names_at s draft) 0));
   order = s.order ++ draft ∷ [];
   mark = after_link old owner;
 }
-linked_by (Free old) owner s = s
+after_link_new_by (Free old) owner s = s
 
-abbrev pub linked_at : Option Mark → Store → Store
-linked_at None s = s
-linked_at (Some m) s = linked_by m.parts m.owner s
+abbrev pub after_link_new_at : Option Mark → Store → Store
+after_link_new_at None s = s
+after_link_new_at (Some m) s = after_link_new_by m.parts m.owner s
 
-abbrev pub linked : Store → Store
-linked s = linked_at s.mark s
+abbrev pub after_link_new : Store → Store
+after_link_new s = after_link_new_at s.mark s
 
 -- the blocks of the old file become free, if that is the first pending part
-abbrev pub freed_by : Parts → Store → Store
-freed_by (Replace old draft) s = s
-freed_by (Link old draft) s = s
-freed_by (Free old) s = record s { mark = None; stored = given_up s.stored old }
+abbrev pub after_free_old_by : Parts → Store → Store
+after_free_old_by (Replace old draft) s = s
+after_free_old_by (Link old draft) s = s
+after_free_old_by (Free old) s = record s { mark = None; stored = after_giving_up s.stored old }
 
-abbrev pub freed_at : Option Mark → Store → Store
-freed_at None s = s
-freed_at (Some m) s = freed_by m.parts s
+abbrev pub after_free_old_at : Option Mark → Store → Store
+after_free_old_at None s = s
+after_free_old_at (Some m) s = after_free_old_by m.parts s
 
-abbrev pub freed : Store → Store
-freed s = freed_at s.mark s
+abbrev pub after_free_old : Store → Store
+after_free_old s = after_free_old_at s.mark s
 
 -- all pending parts are performed
-abbrev pub helped : Store → Store
-helped s = freed (linked (unlinked s))
+abbrev pub after_help : Store → Store
+after_help s = after_free_old (after_link_new (after_unlink_old s))
 
 -- the files in their order
 abbrev pub file_at : Store → ℕ → PlainFile
@@ -233,7 +233,7 @@ directory s = map (file_at s) s.order
 
 -- the files as the plain machine has them: with all pending parts performed
 abbrev pub plain_directory : Store → List PlainFile
-plain_directory s = directory (helped s)
+plain_directory s = directory (after_help s)
 
 -- the draft that is marked, the number that has lost its file but not its blocks, and whether a draft is about to be linked
 abbrev pub draft_by : Parts → Option ℕ

@@ -1,6 +1,6 @@
 ghost use Rattle.std.specs.Prelude.{◌≡◌, ◌≢◌, ◌<◌, ◌≤◌, ◌+◌, ◌-◌, ◌*◌, ◌/◌, ◌%◌, ◌^◌, ℕ, List, [], ◌∷◌, ◌++◌, true, false, Some, None, length, slice_get, slice_set, is_err, IfOk, OnOk, OnErr};
 ghost use Rattle.its_links.specs.Lists.{first};
-ghost use Rattle.its_files.specs.Blocks.{text_at, free_blocks, blocks_for, blocks_of, blocks_used, is_full, room_behind, appended, given_up, needs_block, with_block, block_ready, PlaceIn, numbers, blocks, block_words};
+ghost use Rattle.its_files.specs.Blocks.{text_at, free_blocks, blocks_for, blocks_of, blocks_used, is_full, room_behind, with_word_appended, after_giving_up, needs_block, with_block, block_ready, PlaceIn, numbers, blocks, block_words};
 ghost use Rattle.its_files.specs.Opening.{first_has, nothing_stored};
 
 use its_links::Links;
@@ -221,7 +221,7 @@ impl Blocks {
     #[tactic(auto, using(crate::proofs::BlockLaws::length_is))]
     pub(crate) fn append(&mut self, id: u32, w: Word) -> Result<(), Full>
         requires { id < numbers }
-        ensures ok { OnOk result (self.new ≡ appended self.old id w) }
+        ensures ok { OnOk result (self.new ≡ with_word_appended self.old id w) }
         ensures full { is_err result ≡ is_full self.old id }
         ensures same { OnErr result (self.new ≡ self.old) }
     {
@@ -260,7 +260,7 @@ impl Blocks {
     /// A number loses its words, and its blocks are free.
     pub(crate) fn give_up(&mut self, id: u32)
         requires { id < numbers }
-        ensures { self.new ≡ given_up self.old id }
+        ensures { self.new ≡ after_giving_up self.old id }
     {
         self.free += blocks_for(self.lengths[id as usize]);
         self.links.splice(id + 1, FREE);

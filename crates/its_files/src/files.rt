@@ -3,7 +3,7 @@ ghost use Rattle.its_word.specs.Only.{Only, Same};
 ghost use Rattle.its_word.specs.Directory.{same_names, without_names, with_changed, longer, named, closed};
 ghost use Rattle.its_links.specs.Lists.{count};
 ghost use Rattle.its_files.specs.Blocks.{is_full, room_behind, numbers, blocks, free_blocks, blocks_used};
-ghost use Rattle.its_files.specs.Files.{entry_at, is_file, is_draft, names_at, readers_at, words_at, drafts, new_names, found, owed, no_files, with_file, with_draft, with_word, discarded, delete, rename, with_readers, close, unlinked, linked, freed, helped, directory, plain_directory, file_at as file_of, marked_draft, one_if, Marked, IsStore, most_files, most_drafts};
+ghost use Rattle.its_files.specs.Files.{entry_at, is_file, is_draft, names_at, readers_at, words_at, drafts, new_names, found, owed, no_files, with_file, with_draft, with_word, after_discard, delete, rename, with_readers, close, after_unlink_old, after_link_new, after_free_old, after_help, directory, plain_directory, file_at as file_of, marked_draft, one_if, Marked, IsStore, most_files, most_drafts};
 
 use super::blocks::{Blocks, Full, NUMBERS};
 use super::directory;
@@ -245,7 +245,7 @@ impl Files {
     pub fn discard(&mut self, id: u32)
         requires draft { is_draft (entry_at self.old id) ≡ true }
         requires other { marked_draft self.old.mark ≢ Some id }
-        ensures dropped { self.new ≡ discarded self.old id }
+        ensures dropped { self.new ≡ after_discard self.old id }
         ensures directory { directory self.new ≡ directory self.old }
         ensures plain { plain_directory self.new ≡ plain_directory self.old }
         ensures entry { Only (entry_at self.old) (entry_at self.new) id None }
@@ -365,7 +365,7 @@ impl Files {
     /// Unlinks the old file, if that is the first pending part.
     #[tactic(auto, using(crate::proofs::DirectoryLaws::plain_unlinked_is))]
     pub fn unlink_old(&mut self)
-        ensures made { self.new ≡ unlinked self.old }
+        ensures made { self.new ≡ after_unlink_old self.old }
         ensures plain { plain_directory self.new ≡ plain_directory self.old }
     {
         let Some(mark) = self.mark else {
@@ -387,7 +387,7 @@ impl Files {
     /// Makes the draft the last file, if that is the first pending part.
     #[tactic(auto, using(crate::proofs::DirectoryLaws::plain_linked_is))]
     pub fn link_new(&mut self)
-        ensures made { self.new ≡ linked self.old }
+        ensures made { self.new ≡ after_link_new self.old }
         ensures plain { plain_directory self.new ≡ plain_directory self.old }
     {
         let Some(mark) = self.mark else {
@@ -404,7 +404,7 @@ impl Files {
     /// Frees the blocks of the old file, if that is the first pending part.
     #[tactic(auto, using(crate::proofs::DirectoryLaws::plain_freed_is))]
     pub fn free_old(&mut self)
-        ensures made { self.new ≡ freed self.old }
+        ensures made { self.new ≡ after_free_old self.old }
         ensures plain { plain_directory self.new ≡ plain_directory self.old }
     {
         let Some(mark) = self.mark else {
@@ -419,7 +419,7 @@ impl Files {
     /// Performs all pending parts.
     #[tactic(auto, using(crate::proofs::DirectoryLaws::helped_unmarked))]
     pub fn help(&mut self)
-        ensures made { self.new ≡ helped self.old }
+        ensures made { self.new ≡ after_help self.old }
         ensures unmarked { self.new.mark ≡ None }
         ensures directory { directory self.new ≡ plain_directory self.old }
     {

@@ -4,7 +4,7 @@ ghost use Rattle.its_word.specs.Only.{Only};
 ghost use Rattle.its_core.specs.Cores.{core_at};
 ghost use Rattle.its_plain.specs.CallBasic.{popped};
 ghost use Rattle.its_plain.specs.Job.{pc_word};
-ghost use Rattle.its_plain.specs.Interrupt.{unguarded, deliverable, pushed, at_handler, above, below, delivered, dismissed};
+ghost use Rattle.its_plain.specs.Interrupt.{unguarded, deliverable, pushed, at_handler, above, below, delivered, after_dismissal};
 
 use super::table::{Found, TableEntry, enabled_1, enabled_2, look_up};
 use its_core::Core;
@@ -111,10 +111,10 @@ pub fn deliver(core: &mut Core, slot: u8, job: &mut Job) -> bool
 
 /// The registers that DISMIS leaves a job with, from the five words that a delivery pushed below the stack pointer
 /// word at p. Mpv if one of the words is absent, else Wro if p is read only.
-#[tactic(auto, unfolding(its_plain::specs::Interrupt::dismissed))]
+#[tactic(auto, unfolding(its_plain::specs::Interrupt::after_dismissal))]
 pub fn dismiss(core: &Core, job: &Job, slot: u8, p: u32) -> Result<Exit, Fault>
     requires { slot < slots }
-    ensures { result ≡ dismissed (core_at core.now slot) job.now p }
+    ensures { result ≡ after_dismissal (core_at core.now slot) job.now p }
 {
     let pointer = core.word(slot, p).ok_or(Fault::Mpv)?;
     let saved = core.word(slot, pointer.right()).ok_or(Fault::Mpv)?;

@@ -16,8 +16,8 @@ use Rattle.its_word.specs.declared.plan.Reached.{Reached}
 use Rattle.its_word.specs.declared.plan.Store.{Store}
 use Rattle.its_frame.specs.declared.variable.Variable.{Variable}
 use Rattle.its_frame.specs.declared.variable.Variable.TheVariants.{Upc}
-use Rattle.its_plain.specs.Interrupt.{Delivered, Entry, at_handler, below, by_entry, by_length, by_pointer, by_stores, by_table, chosen, deliverable, delivered, dismissed, dismissed_at, dismissed_by, enabled_1, enabled_2, entries_of, entry_at, first_entry, meets, pushed, through_table, undelivered, unguarded}
-use Rattle.its_plain.specs.Own.{advanced, exit_of, with_variable}
+use Rattle.its_plain.specs.Interrupt.{Delivered, Entry, at_handler, below, by_entry, by_length, by_pointer, by_stores, by_table, chosen, deliverable, delivered, after_dismissal, after_dismissal_at, after_dismissal_by, enabled_1, enabled_2, entries_of, entry_at, first_entry, meets, pushed, through_table, undelivered, unguarded}
+use Rattle.its_plain.specs.Own.{with_advance, exit_of, with_variable}
 use Rattle.its_plain.specs.UnitPlan.{Planned}
 use Rattle.its_plain.specs.Traced.{Traced, also, word}
 use Rattle.its_plain.specs.Unit.{Outcome, Changed, Faulted, Called, chain, done_by, followed, made, outcome_at, outcome_of, reached, row_of, chain_step, unit}
@@ -179,21 +179,21 @@ pub unit_channels : (c d : Core) (j k : Job) → unit c j ≡ Changed d k → k.
 unit_channels c d j k e = (unit_keeps c j d k e).registers.channels
 
 -- a return from a handler, and a variable that is set
-by_bare : (j : Job) (b : Bool) (x y z : Option ℕ) → dismissed_by (bare j) b x y z ≡ dismissed_by j b x y z
+by_bare : (j : Job) (b : Bool) (x y z : Option ℕ) → after_dismissal_by (bare j) b x y z ≡ after_dismissal_by j b x y z
 by_bare j b (Some w) (Some d2) (Some d1) = refl
 by_bare j b None y z = refl
 by_bare j b (Some w) None z = refl
 by_bare j b (Some w) (Some d2) None = refl
 
-at_bare : (c : Core) (j : Job) (p : ℕ) (o : Option ℕ) → dismissed_at c (bare j) p o ≡ dismissed_at c j p o
+at_bare : (c : Core) (j : Job) (p : ℕ) (o : Option ℕ) → after_dismissal_at c (bare j) p o ≡ after_dismissal_at c j p o
 at_bare c j p (Some s) = by_bare j (can_store c p) (word_at c (right_of s)) (word_at c (below s 1)) (word_at c (below s 2))
 at_bare c j p None = refl
 
-pub dismissed_bare : (c : Core) (j : Job) (p : ℕ) → dismissed c (bare j) p ≡ dismissed c j p
-unfolding dismissed
+pub dismissed_bare : (c : Core) (j : Job) (p : ℕ) → after_dismissal c (bare j) p ≡ after_dismissal c j p
+unfolding after_dismissal
 dismissed_bare c j p = at_bare c j p (word_at c p)
 
-pub set_bare : (x : Variable) (w : ℕ) (j : Job) → exit_of (with_variable x w (advanced 2 (bare j))) ≡ exit_of (with_variable x w (advanced 2 j))
+pub set_bare : (x : Variable) (w : ℕ) (j : Job) → exit_of (with_variable x w (with_advance 2 (bare j))) ≡ exit_of (with_variable x w (with_advance 2 j))
 unfolding with_variable
 set_bare Upc w j = refl
 set_bare x w j = refl

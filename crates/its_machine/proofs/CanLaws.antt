@@ -27,7 +27,7 @@ use Rattle.its_plain.specs.CallTty.{view_console, has_console, is_other, input_w
 use Rattle.its_plain.specs.CallLink.{words_in, is_end_closed, is_dry, is_ended, is_crowded, is_unread, link_named, can_open, joins, makes_link, opens_end, link_tests, opens_link, closes_end, iot_receive, iot_receives, iot_sends, iot_linked, siot_receive, siot_receives, siot_send, siot_sends, siot_linked, first_word}
 use Rattle.its_plain.specs.Transfer.{store_tests, read_tests, word_of, iot_ends, siot_tests, siot_by, next_pointer}
 use Rattle.its_plain.specs.Change.{channel_in, effect}
-use Rattle.its_plain.specs.Interrupt.{dismissed}
+use Rattle.its_plain.specs.Interrupt.{after_dismissal}
 use Rattle.its_plain.specs.Machine.{Names, File, Chan, Shut, TtyIn, TtyOut, Reads, Writes, On, Linked, Console, Pipe, Whole, Machine, limit}
 use Rattle.its_plain.specs.Own.{names_of}
 use Rattle.its_plain.specs.CallFile.{most_files, channels_by, channels_in, is_full, has_file, is_read, words_of, names_from, is_output, opens_as, disk_tests, opens_disk, closes_draft, iot_read, siot_read, siot_write, access_on, access, file_tests, delete, rename, access_to, end_of_core}
@@ -190,7 +190,7 @@ unfolding dismiss
 dismiss_can v j m x a = go (place_of_input a 0)
   where
     go : (o : Option ℕ) → Can v j m (dismiss_at x a o)
-    go (Some p) = dismissed_can v j m x p (input a 0) (dismissed x.own.core x.own.job p)
+    go (Some p) = dismissed_can v j m x p (input a 0) (after_dismissal x.own.core x.own.job p)
     go None = tt
 
 -- USRVAR

@@ -5,7 +5,7 @@ use Rattle.its_word.specs.Core.{Core}
 use Rattle.its_word.specs.declared.jobs.Channel.{Channel}
 use Rattle.its_word.specs.declared.jobs.Channel.TheVariants.{Closed, TtyIn, TtyOut, Reading, Writing, Usr}
 use Rattle.its_word.specs.declared.jobs.Job.{Job}
-use Rattle.its_files.specs.Files.{Store, readers_at, found, names_at, marked_draft, marked_with, close, close_by, close_old, close_new}
+use Rattle.its_files.specs.Files.{Store, readers_at, found, names_at, marked_draft, with_mark, close, close_by, close_old, close_new}
 use Rattle.its_files.specs.declared.entry.CloseFault.{CloseFault}
 use Rattle.its_files.specs.declared.entry.Parts.TheVariants.{Replace, Link}
 use Rattle.its_plain.specs.Change.{channel_in}
@@ -68,12 +68,12 @@ close_marks_by : (s t : Store) (k slot : ℕ) (o : Option ℕ) → close_by o s 
 close_marks_by s t k slot (Some f) e = by_readers (readers_at s f) e
   where
     by_readers : (m : ℕ) → close_old m s slot k f ≡ Ok t → marked_draft t.mark ≡ Some k
-    by_readers zero e = let same : t ≡ marked_with s slot (Replace f k) = cc in ap (λ (x : Store). marked_draft x.mark) same
+    by_readers zero e = let same : t ≡ with_mark s slot (Replace f k) = cc in ap (λ (x : Store). marked_draft x.mark) same
     by_readers (suc m) e = cc
 close_marks_by s t k slot None e = by_room (nat_lt (length s.order) 256) e
   where
     by_room : (b : Bool) → close_new b s slot k ≡ Ok t → marked_draft t.mark ≡ Some k
-    by_room true e = let same : t ≡ marked_with s slot (Link None k) = cc in ap (λ (x : Store). marked_draft x.mark) same
+    by_room true e = let same : t ≡ with_mark s slot (Link None k) = cc in ap (λ (x : Store). marked_draft x.mark) same
     by_room false e = cc
 
 pub close_marks : (s t : Store) (k slot : ℕ) → close s k slot ≡ Ok t → marked_draft t.mark ≡ Some k

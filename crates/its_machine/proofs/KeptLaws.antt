@@ -8,7 +8,7 @@ use Rattle.its_word.specs.Only.{Only, Same}
 use Rattle.its_word.specs.declared.jobs.Channel.{Channel}
 use Rattle.its_word.specs.declared.jobs.Channel.TheVariants.{Closed, TtyIn, TtyOut, Reading, Writing, Usr}
 use Rattle.its_jobs.specs.Table.{Table}
-use Rattle.its_files.specs.Files.{Store, entry_at, is_file, names_by, names_at, readers_at, readers_by, words_at, is_marked, is_marked_by, marked_draft, with_readers, with_draft, with_file, discarded, with_word, delete, delete_by, deleted, rename, rename_by, rename_free, renamed, new_names, found, IsStore, Marked, Replaces, Links_to, Gone, words_by, unlinked, unlinked_at, unlinked_by, linked, linked_at, linked_by, freed, freed_at, freed_by, helped, after_link}
+use Rattle.its_files.specs.Files.{Store, entry_at, is_file, names_by, names_at, readers_at, readers_by, words_at, is_marked, is_marked_by, marked_draft, with_readers, with_draft, with_file, after_discard, with_word, delete, delete_by, after_delete, rename, rename_by, rename_free, after_rename, new_names, found, IsStore, Marked, Replaces, Links_to, Gone, words_by, after_unlink_old, after_unlink_old_at, after_unlink_old_by, after_link_new, after_link_new_at, after_link_new_by, after_free_old, after_free_old_at, after_free_old_by, after_help, after_link}
 use Rattle.its_files.specs.Blocks.{text_at}
 use Rattle.its_files.specs.declared.entry.Mark.{Mark}
 use Rattle.its_files.specs.declared.entry.Parts.{Parts}
@@ -201,7 +201,7 @@ module _ (s u : Store) (t v : Table) (j n d : ℕ) (a : Across s t) (lj : j < sl
         (read_by_none s t a k m d (ap readers_by free)) (written_by_none s t a k m d (ap (λ x. writers x (is_marked s d)) free));
   }
 
-  pub discarded_kept : (ws : List ℕ) → channel_at t j n ≡ Writing d → OneChannel (channel_at t) (channel_at v) j n Closed → u ≡ discarded s d
+  pub discarded_kept : (ws : List ℕ) → channel_at t j n ≡ Writing d → OneChannel (channel_at t) (channel_at v) j n Closed → u ≡ after_discard s d
       → Only (entry_at s) (entry_at u) d None → Only (words_at s) (words_at u) d ws → Kept s u t v j n
   discarded_kept ws was o made entry words =
       let stands = writing_stands s t a j n d was in
@@ -273,22 +273,22 @@ number_stays s u t id e a entry words marks unread unwritten no_reader no_writer
 }
 
 -- a file that is deleted or renamed has no readers
-delete_by_is : (s u : Store) (f n : ℕ) → delete_by n s f ≡ Ok u → (n ≡ 0) × (u ≡ deleted s f)
+delete_by_is : (s u : Store) (f n : ℕ) → delete_by n s f ≡ Ok u → (n ≡ 0) × (u ≡ after_delete s f)
 delete_by_is s u f zero e = (refl, cc)
 delete_by_is s u f (suc n) e = cc
 
-pub delete_is : (s u : Store) (f : ℕ) → delete s f ≡ Ok u → (readers_at s f ≡ 0) × (u ≡ deleted s f)
+pub delete_is : (s u : Store) (f : ℕ) → delete s f ≡ Ok u → (readers_at s f ≡ 0) × (u ≡ after_delete s f)
 delete_is s u f e = delete_by_is s u f (readers_at s f) e
 
-rename_free_is : (s u : Store) (f : ℕ) (names : List ℕ) (o : Option ℕ) → rename_free o s f names ≡ Ok u → u ≡ renamed s f names
+rename_free_is : (s u : Store) (f : ℕ) (names : List ℕ) (o : Option ℕ) → rename_free o s f names ≡ Ok u → u ≡ after_rename s f names
 rename_free_is s u f names None e = cc
 rename_free_is s u f names (Some other) e = cc
 
-rename_by_is : (s u : Store) (f n : ℕ) (names : List ℕ) → rename_by n s f names ≡ Ok u → (n ≡ 0) × (u ≡ renamed s f names)
+rename_by_is : (s u : Store) (f n : ℕ) (names : List ℕ) → rename_by n s f names ≡ Ok u → (n ≡ 0) × (u ≡ after_rename s f names)
 rename_by_is s u f zero names e = (refl, rename_free_is s u f names (found s names) e)
 rename_by_is s u f (suc n) names e = cc
 
-pub rename_is : (s u : Store) (f x y : ℕ) → rename s f x y ≡ Ok u → (readers_at s f ≡ 0) × (u ≡ renamed s f (new_names s f x y))
+pub rename_is : (s u : Store) (f x y : ℕ) → rename s f x y ≡ Ok u → (readers_at s f ≡ 0) × (u ≡ after_rename s f (new_names s f x y))
 rename_is s u f x y e = rename_by_is s u f (readers_at s f) (new_names s f x y) e
 
 -- a file is made, deleted or renamed
@@ -325,15 +325,15 @@ stays_same : (s u : Store) (t : Table) → Across s t → u ≡ s → Stays s u 
 stays_same s u t a e = subst (λ x. Stays s x t) (sym e) (record { across = a; chans = λ k m. refl })
 
 module _ (s : Store) (t : Table) (whole : IsStore s) (a : Across s t) where
-  unlinked_by_mark : (o : Option Mark) → s.mark ≡ o → Stays s (unlinked s) t × IsStore (unlinked s)
-  unlinked_by_mark None is = let e : unlinked s ≡ s = ap (λ m. unlinked_at m s) is in (stays_same s (unlinked s) t a e, subst IsStore (sym e) whole)
+  unlinked_by_mark : (o : Option Mark) → s.mark ≡ o → Stays s (after_unlink_old s) t × IsStore (after_unlink_old s)
+  unlinked_by_mark None is = let e : after_unlink_old s ≡ s = ap (λ m. after_unlink_old_at m s) is in (stays_same s (after_unlink_old s) t a e, subst IsStore (sym e) whole)
   unlinked_by_mark (Some m) is = go m.owner m.parts is
     where
-      go : (owner : ℕ) (p : Parts) → s.mark ≡ marks owner p → Stays s (unlinked s) t × IsStore (unlinked s)
+      go : (owner : ℕ) (p : Parts) → s.mark ≡ marks owner p → Stays s (after_unlink_old s) t × IsStore (after_unlink_old s)
       go owner (Replace old draft) is =
           let r : Replaces s.entries old draft = subst (λ x. Marked s.entries x) is whole.marked in
-          let e : unlinked s ≡ unlinked_by (Replace old draft) owner s = ap (λ x. unlinked_at x s) is in
-          let h = number_stays s (unlinked_by (Replace old draft) owner s) t old None a
+          let e : after_unlink_old s ≡ after_unlink_old_by (Replace old draft) owner s = ap (λ x. after_unlink_old_at x s) is in
+          let h = number_stays s (after_unlink_old_by (Replace old draft) owner s) t old None a
           (record {
             here = get_or-set_same s.entries old None None (within s.entries old (file_stands (entry_at s old) r.file));
             others = λ k ne. get_or-set_other s.entries old k None None ne;
@@ -341,21 +341,21 @@ module _ (s : Store) (t : Table) (whole : IsStore s) (a : Across s t) where
           (λ k ne. ap (λ x. words_by x (text_at s.stored.texts k)) (get_or-set_other s.entries old k None None ne))
           (λ k ne. sym (ap (λ x. is_marked_by (marked_draft x) k) is)) r.unread (file_writers (entry_at s old) (is_marked s old) r.file) refl refl in
           (subst (λ x. Stays s x t) (sym e) h, unlinked_whole s whole owner draft old is)
-      go owner (Link old draft) is = let e : unlinked s ≡ s = ap (λ x. unlinked_at x s) is in (stays_same s (unlinked s) t a e, subst IsStore (sym e) whole)
-      go owner (Free old) is = let e : unlinked s ≡ s = ap (λ x. unlinked_at x s) is in (stays_same s (unlinked s) t a e, subst IsStore (sym e) whole)
+      go owner (Link old draft) is = let e : after_unlink_old s ≡ s = ap (λ x. after_unlink_old_at x s) is in (stays_same s (after_unlink_old s) t a e, subst IsStore (sym e) whole)
+      go owner (Free old) is = let e : after_unlink_old s ≡ s = ap (λ x. after_unlink_old_at x s) is in (stays_same s (after_unlink_old s) t a e, subst IsStore (sym e) whole)
 
-  linked_by_mark : (o : Option Mark) → s.mark ≡ o → Stays s (linked s) t × IsStore (linked s)
-  linked_by_mark None is = let e : linked s ≡ s = ap (λ m. linked_at m s) is in (stays_same s (linked s) t a e, subst IsStore (sym e) whole)
+  linked_by_mark : (o : Option Mark) → s.mark ≡ o → Stays s (after_link_new s) t × IsStore (after_link_new s)
+  linked_by_mark None is = let e : after_link_new s ≡ s = ap (λ m. after_link_new_at m s) is in (stays_same s (after_link_new s) t a e, subst IsStore (sym e) whole)
   linked_by_mark (Some m) is = go m.owner m.parts is
     where
-      go : (owner : ℕ) (p : Parts) → s.mark ≡ marks owner p → Stays s (linked s) t × IsStore (linked s)
-      go owner (Replace old draft) is = let e : linked s ≡ s = ap (λ x. linked_at x s) is in (stays_same s (linked s) t a e, subst IsStore (sym e) whole)
+      go : (owner : ℕ) (p : Parts) → s.mark ≡ marks owner p → Stays s (after_link_new s) t × IsStore (after_link_new s)
+      go owner (Replace old draft) is = let e : after_link_new s ≡ s = ap (λ x. after_link_new_at x s) is in (stays_same s (after_link_new s) t a e, subst IsStore (sym e) whole)
       go owner (Link old draft) is =
           let r : Links_to s.entries old draft = subst (λ x. Marked s.entries x) is whole.marked in
-          let e : linked s ≡ linked_by (Link old draft) owner s = ap (λ x. linked_at x s) is in
+          let e : after_link_new s ≡ after_link_new_by (Link old draft) owner s = ap (λ x. after_link_new_at x s) is in
           let new : Option Entry = Some (File (names_at s draft) 0) in
           let m : is_marked s draft ≡ true = ap (λ x. is_marked_by (marked_draft x) draft) is ∙ eq-eqb draft draft refl in
-          let h = number_stays s (linked_by (Link old draft) owner s) t draft new a
+          let h = number_stays s (after_link_new_by (Link old draft) owner s) t draft new a
           (record {
             here = get_or-set_same s.entries draft new None (within s.entries draft (draft_stands (entry_at s draft) r.draft_stands));
             others = λ k ne. get_or-set_other s.entries draft k new None ne;
@@ -368,39 +368,39 @@ module _ (s : Store) (t : Table) (whole : IsStore s) (a : Across s t) where
           after : (o : Option ℕ) (k : ℕ) → is_marked_by (marked_draft (after_link o owner)) k ≡ false
           after None k = refl
           after (Some x) k = refl
-      go owner (Free old) is = let e : linked s ≡ s = ap (λ x. linked_at x s) is in (stays_same s (linked s) t a e, subst IsStore (sym e) whole)
+      go owner (Free old) is = let e : after_link_new s ≡ s = ap (λ x. after_link_new_at x s) is in (stays_same s (after_link_new s) t a e, subst IsStore (sym e) whole)
 
-  freed_by_mark : (o : Option Mark) → s.mark ≡ o → Stays s (freed s) t
-  freed_by_mark None is = stays_same s (freed s) t a (ap (λ m. freed_at m s) is)
+  freed_by_mark : (o : Option Mark) → s.mark ≡ o → Stays s (after_free_old s) t
+  freed_by_mark None is = stays_same s (after_free_old s) t a (ap (λ m. after_free_old_at m s) is)
   freed_by_mark (Some m) is = go m.owner m.parts is
     where
-      go : (owner : ℕ) (p : Parts) → s.mark ≡ marks owner p → Stays s (freed s) t
-      go owner (Replace old draft) is = stays_same s (freed s) t a (ap (λ x. freed_at x s) is)
-      go owner (Link old draft) is = stays_same s (freed s) t a (ap (λ x. freed_at x s) is)
+      go : (owner : ℕ) (p : Parts) → s.mark ≡ marks owner p → Stays s (after_free_old s) t
+      go owner (Replace old draft) is = stays_same s (after_free_old s) t a (ap (λ x. after_free_old_at x s) is)
+      go owner (Link old draft) is = stays_same s (after_free_old s) t a (ap (λ x. after_free_old_at x s) is)
       go owner (Free old) is =
           let r : Gone s.entries (Some old) = subst (λ x. Marked s.entries x) is whole.marked in
-          let e : freed s ≡ freed_by (Free old) s = ap (λ x. freed_at x s) is in
-          let h = number_stays s (freed_by (Free old) s) t old None a
+          let e : after_free_old s ≡ after_free_old_by (Free old) s = ap (λ x. after_free_old_at x s) is in
+          let h = number_stays s (after_free_old_by (Free old) s) t old None a
           (record { here = r.1; others = λ k ne. refl })
           (λ k ne. ap (words_by (entry_at s k)) (get_or-set_other s.stored.texts old k [] [] ne))
           (λ k ne. sym (ap (λ x. is_marked_by (marked_draft x) k) is)) (ap readers_by r.1) (ap (λ x. writers x (is_marked s old)) r.1) refl refl in
           subst (λ x. Stays s x t) (sym e) h
 
-  pub unlinked_stays : (u : Store) → u ≡ unlinked s → Stays s u t
+  pub unlinked_stays : (u : Store) → u ≡ after_unlink_old s → Stays s u t
   unlinked_stays u e = subst (λ x. Stays s x t) (sym e) (unlinked_by_mark s.mark refl).0
 
-  pub linked_stays : (u : Store) → u ≡ linked s → Stays s u t
+  pub linked_stays : (u : Store) → u ≡ after_link_new s → Stays s u t
   linked_stays u e = subst (λ x. Stays s x t) (sym e) (linked_by_mark s.mark refl).0
 
-  pub freed_stays : (u : Store) → u ≡ freed s → Stays s u t
+  pub freed_stays : (u : Store) → u ≡ after_free_old s → Stays s u t
   freed_stays u e = subst (λ x. Stays s x t) (sym e) (freed_by_mark s.mark refl)
 
 stays_then : (s m u : Store) (t : Table) → Stays s m t → Stays m u t → Stays s u t
 stays_then s m u t a b = record { across = b.across; chans = λ k n. b.chans k n ∙ a.chans k n }
 
-pub helped_stays : (s u : Store) (t : Table) → IsStore s → Across s t → u ≡ helped s → Stays s u t
+pub helped_stays : (s u : Store) (t : Table) → IsStore s → Across s t → u ≡ after_help s → Stays s u t
 helped_stays s u t whole a e =
     let x = unlinked_by_mark s t whole a s.mark refl in
-    let y = linked_by_mark (unlinked s) t x.1 x.0.across (unlinked s).mark refl in
-    let z = freed_stays (linked (unlinked s)) t y.1 y.0.across u e in
-    stays_then s (unlinked s) u t x.0 (stays_then (unlinked s) (linked (unlinked s)) u t y.0 z)
+    let y = linked_by_mark (after_unlink_old s) t x.1 x.0.across (after_unlink_old s).mark refl in
+    let z = freed_stays (after_link_new (after_unlink_old s)) t y.1 y.0.across u e in
+    stays_then s (after_unlink_old s) u t x.0 (stays_then (after_unlink_old s) (after_link_new (after_unlink_old s)) u t y.0 z)

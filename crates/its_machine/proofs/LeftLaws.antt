@@ -10,7 +10,7 @@ use Rattle.its_word.specs.declared.jobs.Job.{Job}
 use Rattle.its_core.specs.Cores.{Cores, core_at}
 use Rattle.its_files.specs.Files.{Store}
 use Rattle.its_jobs.specs.Table.{Table, job_at, superior_at, IsTree}
-use Rattle.its_plain.specs.Change.{channel_in, chan_left, superior_in}
+use Rattle.its_plain.specs.Change.{channel_in, chan_after_removal, superior_in}
 use Rattle.its_plain.specs.Machine.{Shut, On, Whole}
 use Rattle.its_plain.specs.Own.{on_channel}
 use Rattle.its_machine.specs.Across.{channel_left, reads_file, writes_draft}
@@ -66,6 +66,6 @@ chan_if : (s : Store) (b : Bool) (k at : ℕ) (w : Bool) → chan_of s (left_if 
 chan_if s true k at w = refl
 chan_if s false k at w = refl
 
-pub left_chan : (s : Store) (gone : ℕ → Bool) (c : Channel) → chan_of s (channel_left gone c) ≡ chan_left gone (chan_of s c)
+pub left_chan : (s : Store) (gone : ℕ → Bool) (c : Channel) → chan_of s (channel_left gone c) ≡ chan_after_removal gone (chan_of s c)
 left_chan s gone (Usr k w at) = chan_if s (gone k) k at w
 left_chan s gone _ = refl

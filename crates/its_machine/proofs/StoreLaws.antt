@@ -8,7 +8,7 @@ use Rattle.its_word.proofs.NamesLaws.{alike, same_sym, same_both, same_refl, sam
 use Rattle.its_files.proofs.EntryLaws.{found_file, found_fresh}
 use Rattle.its_files.proofs.DirectoryLaws.{without_same}
 use Rattle.its_plain.specs.Machine.{Names, File}
-use Rattle.its_plain.specs.Change.{same_names, without_file, renamed}
+use Rattle.its_plain.specs.Change.{same_names, without_file, with_new_names}
 use Rattle.its_plain.specs.CallFile.{file_named, has_file}
 
 -- the file with some names
@@ -62,8 +62,8 @@ module _ (s : Store) (whole : IsStore s) where
   unfolding without_file
   deleted_directory t names id e d = d ∙ without_same (names_at s id) names (directory s) (same_sym names (names_at s id) (found_names names id e))
 
-  pub renamed_directory : (t : Store) (names : Names) (id u v : ℕ) → found s names ≡ Some id → directory t ≡ with_changed (names_at s id) (named (new_names s id u v)) (directory s) → directory t ≡ renamed names u v (directory s)
-  unfolding renamed
+  pub renamed_directory : (t : Store) (names : Names) (id u v : ℕ) → found s names ≡ Some id → directory t ≡ with_changed (names_at s id) (named (new_names s id u v)) (directory s) → directory t ≡ with_new_names names u v (directory s)
+  unfolding with_new_names
   renamed_directory t names id u v e d =
       let same = found_names names id e in
       d ∙ changed_same (names_at s id) names (named (new_names s id u v)) (directory s) (same_sym names (names_at s id) same)

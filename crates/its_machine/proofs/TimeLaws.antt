@@ -9,7 +9,7 @@ use Rattle.its_plain.specs.CallBasic.{longest_period}
 use Rattle.its_plain.specs.Change.{with_alarm}
 use Rattle.its_plain.specs.Job.{ALR, with_pending}
 use Rattle.its_plain.specs.Machine.{Whole}
-use Rattle.its_plain.specs.OperatorClock.{alarm_in, clock_end, rung_if}
+use Rattle.its_plain.specs.OperatorClock.{alarm_in, clock_end, after_alarm_if}
 use Rattle.its_plain.specs.Own.{with_registers}
 
 pub next_time : (c p t : ℕ) → 1 ≤ p → t ≤ c → c + p - (c - t) % p ≡ time_after c (p, t)
@@ -27,12 +27,12 @@ next_fits c p t most below = omega arith
 pub rung_slot : (c p t : ℕ) (b : Bool) (o : Option Whole) → (b ≡ true → alarm_in o ≡ Some (p, t)) → is_due c (Some (p, t)) ≡ true
     → (if b then option_map (with_alarm (Some (p, time_after c (p, t)))) (if b then option_map (with_registers (λ j. with_pending j ALR)) o else o)
     else (if b then option_map (with_registers (λ j. with_pending j ALR)) o else o))
-    ≡ rung_if c (b && is_due c (alarm_in o)) o
+    ≡ after_alarm_if c (b && is_due c (alarm_in o)) o
 rung_slot c p t false o has d = refl
 rung_slot c p t true None has d = let wrong : None ≡ Some (p, t) = has refl in cc
 rung_slot c p t true (Some q) has d =
     sym
-    (ap (λ (x : Bool). rung_if c x (Some q)) (ap (is_due c) (has refl) ∙ d)
+    (ap (λ (x : Bool). after_alarm_if c x (Some q)) (ap (is_due c) (has refl) ∙ d)
     ∙ ap (λ (x : Option (ℕ × ℕ)). Some (record q { job = with_pending q.job ALR; alarm = option_map (λ (y : ℕ × ℕ). (y.0, time_after c y)) x })) (has refl))
 
 pub below_next : (k n : ℕ) → k ≢ n → nat_lt k n ≡ nat_lt k (n + 1)

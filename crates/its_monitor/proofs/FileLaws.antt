@@ -15,20 +15,20 @@ use Rattle.its_word.specs.declared.session.Refusal.TheVariants as refusals
 use Rattle.its_core.specs.Cores.{core_at}
 use Rattle.its_jobs.specs.Table.{superior_at}
 use Rattle.its_files.specs.Blocks.{is_full as store_is_full, blocks_used as stored_blocks}
-use Rattle.its_files.specs.Files.{Store, IsStore, entry_at, is_file, names_by, names_at, words_at, file_at, found, with_file, with_word, helped, directory}
+use Rattle.its_files.specs.Files.{Store, IsStore, entry_at, is_file, names_by, names_at, words_at, file_at, found, with_file, with_word, after_help, directory}
 use Rattle.its_files.specs.declared.entry.Entry.TheVariants.{File as Standing}
 use Rattle.its_plain.specs.Machine.{Names, File, Machine}
 use Rattle.its_plain.specs.Own.{names_of}
 use Rattle.its_plain.specs.Change.{channel_in}
 use Rattle.its_plain.specs.CallFile.{most_files, is_full, file_named, has_file}
-use Rattle.its_plain.specs.OperatorFiles.{channels_of, with_files, file_made_if, file_made, word_added_if, word_added_to, word_added}
+use Rattle.its_plain.specs.OperatorFiles.{channels_of, with_files, with_file_made_if, with_file_made, with_word_added_if, with_word_added_to, with_word_added}
 use Rattle.its_plain.specs.Operator.{Block, no_block, nobody, and_then, quietly}
 use Rattle.its_plain.specs.OperatorLines.{operate, Done, lined}
 use Rattle.its_plain.proofs.CallLineLaws.{FilesAlone, made_files, word_files}
 use Rattle.its_stepped.specs.State.{State, plain}
 use Rattle.its_stepped.specs.Unwind.{help}
 use Rattle.its_stepped.specs.Sound.{Sound}
-use Rattle.its_stepped.specs.Lines.{calmed, with_raw}
+use Rattle.its_stepped.specs.Lines.{after_calm, with_raw}
 use Rattle.its_stepped.proofs.EffectLaws.{unmarked_files}
 use Rattle.its_stepped.proofs.HelpLaws.{help_plain, help_sound, help_unmarked}
 use Rattle.its_stepped.proofs.RefusalLaws.{error_of, made_alike, added_alike}
@@ -50,7 +50,7 @@ use Rattle.its_monitor.proofs.StartLaws.{quiet_by}
 use Rattle.its_tick.proofs.WaitsLaws.{kept_is}
 
 -- the pending parts of a close are performed
-module _ (old new : World) (whole : IsStore old.files) (kept : Kept old) (files : new.files ≡ helped old.files) (core : new.core ≡ old.core) (jobs : new.jobs ≡ old.jobs) where
+module _ (old new : World) (whole : IsStore old.files) (kept : Kept old) (files : new.files ≡ after_help old.files) (core : new.core ≡ old.core) (jobs : new.jobs ≡ old.jobs) where
   stays : Stays old.files new.files old.jobs
   stays = helped_stays old.files new.files old.jobs whole kept.tidy.across files
 
@@ -83,7 +83,7 @@ module _ (old new : World) (h : Helped old new) where
   helped_files = sym (ap (λ (m : Machine). m.files) helped_plain) ∙ unmarked_files (state_of new) (marks_are new ∙ helped_whole) ∙ files_are new
 
 -- a file exists then, and also if the parts were to be performed again
-pub stands_still : (old new : World) (id : ℕ) → state_of new ≡ help (state_of old) → is_file (entry_at new.files id) ≡ true → is_file (entry_at (helped new.files) id) ≡ true
+pub stands_still : (old new : World) (id : ℕ) → state_of new ≡ help (state_of old) → is_file (entry_at new.files id) ≡ true → is_file (entry_at (after_help new.files) id) ≡ true
 stands_still old new id is file =
     let none = mark_none new.files (sym (marks_are new) ∙ ap (λ (v : State). v.mark) is ∙ help_unmarked (state_of old)) in
     ap (λ s. is_file (entry_at s id)) (made_none new.files none) ∙ file
@@ -147,12 +147,12 @@ alone_is m n r e h = subst (FilesAlone m) e h
 abbrev new_file : Names → File
 new_file n = record { names = n; words = [] }
 
-made_on : (w : World) (n : Names) → file_made (state_of w).raw n ≡ file_made_if (state_of w).raw n (is_some (found w.files n)) (nat_lt (length w.files.order) most_files)
-unfolding file_made
+made_on : (w : World) (n : Names) → with_file_made (state_of w).raw n ≡ with_file_made_if (state_of w).raw n (is_some (found w.files n)) (nat_lt (length w.files.order) most_files)
+unfolding with_file_made
 made_on w n =
-    ap (λ fs. file_made_if (state_of w).raw n (has_file n fs) (nat_lt (length fs) most_files)) (files_are w)
-    ∙ ap (λ b. file_made_if (state_of w).raw n b (nat_lt (length (directory w.files)) most_files)) (has_named w.files n)
-    ∙ ap (λ k. file_made_if (state_of w).raw n (is_some (found w.files n)) (nat_lt k most_files)) (length-map w.files.order (file_at w.files))
+    ap (λ fs. with_file_made_if (state_of w).raw n (has_file n fs) (nat_lt (length fs) most_files)) (files_are w)
+    ∙ ap (λ b. with_file_made_if (state_of w).raw n b (nat_lt (length (directory w.files)) most_files)) (has_named w.files n)
+    ∙ ap (λ k. with_file_made_if (state_of w).raw n (is_some (found w.files n)) (nat_lt k most_files)) (length-map w.files.order (file_at w.files))
 
 module _ (old new : World) (id d x y : ℕ) (kept : Kept old) (none : old.files.mark ≡ None) (few : length old.files.order < most_files) (fresh : found old.files (names_of d x y) ≡ None)
     (free : entry_at old.files id ≡ None) (made : new.files ≡ with_file old.files id (names_of d x y)) (entry : Only (entry_at old.files) (entry_at new.files) id (Some (Standing (names_of d x y) 0)))
@@ -164,13 +164,13 @@ module _ (old new : World) (id d x y : ℕ) (kept : Kept old) (none : old.files.
       filed old new (directory old.files ++ new_file (names_of d x y) ∷ []) core jobs frames consoles holders clock alarms version symbols pipes rings kept.tidy
       (made_stays old.files new.files old.jobs id kept.tidy.across (names_of d x y) [] free made entry words) none (ap (λ (s : Store). s.mark) made ∙ none) files
 
-  pub made_lands : Lands (state_of old) (state_of new) (file_made (state_of old).raw (names_of d x y))
+  pub made_lands : Lands (state_of old) (state_of new) (with_file_made (state_of old).raw (names_of d x y))
   made_lands =
       let n = names_of d x y in
       let m = (state_of old).raw in
-      filed_lands old new (directory old.files ++ new_file n ∷ []) (file_made m n) made_filed
-      (made_on old n ∙ ap (λ o. file_made_if m n (is_some o) (nat_lt (length old.files.order) most_files)) fresh
-      ∙ ap (file_made_if m n false) (lt-ltb (length old.files.order) most_files few) ∙ ap (λ fs. Ok (with_files m (fs ++ new_file n ∷ []))) (files_are old))
+      filed_lands old new (directory old.files ++ new_file n ∷ []) (with_file_made m n) made_filed
+      (made_on old n ∙ ap (λ o. with_file_made_if m n (is_some o) (nat_lt (length old.files.order) most_files)) fresh
+      ∙ ap (with_file_made_if m n false) (lt-ltb (length old.files.order) most_files few) ∙ ap (λ fs. Ok (with_files m (fs ++ new_file n ∷ []))) (files_are old))
 
   pub made_tidy : Tidy new
   made_tidy = made_filed.tidy
@@ -181,38 +181,38 @@ module _ (old new : World) (id d x y : ℕ) (kept : Kept old) (none : old.files.
   pub made_names : names_at new.files id ≡ names_of d x y
   made_names = ap names_by entry.here
 
-module _ (old mid new : World) (d x y : ℕ) (kept : Kept old) (h : Helped old mid) (l : Lands (state_of mid) (state_of new) (file_made (state_of mid).raw (names_of d x y))) where
-  pub new_done : Lands (help (state_of old)) (state_of new) (file_made (help (state_of old)).raw (names_of d x y))
-  new_done = subst (λ (v : State). Lands v (state_of new) (file_made v.raw (names_of d x y))) h.state l
+module _ (old mid new : World) (d x y : ℕ) (kept : Kept old) (h : Helped old mid) (l : Lands (state_of mid) (state_of new) (with_file_made (state_of mid).raw (names_of d x y))) where
+  pub new_done : Lands (help (state_of old)) (state_of new) (with_file_made (help (state_of old)).raw (names_of d x y))
+  new_done = subst (λ (v : State). Lands v (state_of new) (with_file_made v.raw (names_of d x y))) h.state l
 
   new_made : Made (state_of old) (state_of new) no_block (events.File d x y)
-  unfolding calmed lined operate
+  unfolding after_calm lined operate
   new_made =
       let b = record no_block { file = names_of d x y } in
       record { out = []; touched = nobody; block = b; is = ap (λ r. Done (quietly b r)) new_done.is; rest = new_done.rest }
 
-  pub new_plain : file_made (plain (state_of old)) (names_of d x y) ≡ Ok (plain (state_of new))
+  pub new_plain : with_file_made (plain (state_of old)) (names_of d x y) ≡ Ok (plain (state_of new))
   unfolding lined operate
   new_plain =
       let m = new_made in
-      quiet_by (file_made (plain (state_of old)) (names_of d x y)) (plain (state_of new)) m.out m.touched (record no_block { file = names_of d x y }) m.block
+      quiet_by (with_file_made (plain (state_of old)) (names_of d x y)) (plain (state_of new)) m.out m.touched (record no_block { file = names_of d x y }) m.block
       (made_plain (state_of old) (state_of new) no_block (events.File d x y) kept.sound m)
 
   pub new_kept : Tidy new → Kept new
   new_kept tidy = files_kept (events.File d x y) no_block old new kept new_made
-      (alone_is (plain (state_of old)) (plain (state_of new)) (file_made (plain (state_of old)) (names_of d x y)) new_plain (made_files (plain (state_of old)) (names_of d x y))) tidy
+      (alone_is (plain (state_of old)) (plain (state_of new)) (with_file_made (plain (state_of old)) (names_of d x y)) new_plain (made_files (plain (state_of old)) (names_of d x y))) tidy
 
 -- it is refused
 module _ (old mid : World) (n : Names) (h : Helped old mid) where
   new_err : (there room : Bool) (e : Refusal) → is_some (found mid.files n) ≡ there → nat_lt (length mid.files.order) most_files ≡ room
-      → file_made_if (state_of mid).raw n there room ≡ Err (reason_of e) → FileRefused (state_of old) (λ m. file_made m n) e
-  new_err there room e t r is = file_refused (λ m. file_made m n) (state_of old) e (λ u none. made_alike u n none)
-      (ap (λ (v : State). file_made v.raw n) (sym h.state) ∙ made_on mid n ∙ (λ i. file_made_if (state_of mid).raw n (t i) (r i)) ∙ is)
+      → with_file_made_if (state_of mid).raw n there room ≡ Err (reason_of e) → FileRefused (state_of old) (λ m. with_file_made m n) e
+  new_err there room e t r is = file_refused (λ m. with_file_made m n) (state_of old) e (λ u none. made_alike u n none)
+      (ap (λ (v : State). with_file_made v.raw n) (sym h.state) ∙ made_on mid n ∙ (λ i. with_file_made_if (state_of mid).raw n (t i) (r i)) ∙ is)
 
-  pub new_exists : is_some (found mid.files n) ≡ true → FileRefused (state_of old) (λ m. file_made m n) refusals.Exists
+  pub new_exists : is_some (found mid.files n) ≡ true → FileRefused (state_of old) (λ m. with_file_made m n) refusals.Exists
   new_exists t = new_err true (nat_lt (length mid.files.order) most_files) refusals.Exists t refl refl
 
-  pub new_full : is_some (found mid.files n) ≡ false → most_files ≤ length mid.files.order → FileRefused (state_of old) (λ m. file_made m n) refusals.Full
+  pub new_full : is_some (found mid.files n) ≡ false → most_files ≤ length mid.files.order → FileRefused (state_of old) (λ m. with_file_made m n) refusals.Full
   new_full t le = new_err false false refusals.Full t (le-ltb (length mid.files.order) most_files le) refl
 
 -- a word more of a file: the channels of the machine are those of the store
@@ -224,18 +224,18 @@ module _ (w : World) (whole : IsStore w.files) (kept : Kept w) (none : w.files.m
   named_here : file_named (names_at w.files id) (directory w.files) ≡ Some (file_at w.files id)
   named_here = sym (found_named w.files (names_at w.files id)) ∙ ap (option_map (file_at w.files)) (found_self w.files whole id file)
 
-  added_on : (x : ℕ) → word_added (state_of w).raw (names_at w.files id) x ≡ word_added_if (state_of w).raw (names_at w.files id) x (store_is_full w.files.stored id)
-  unfolding word_added
+  added_on : (x : ℕ) → with_word_added (state_of w).raw (names_at w.files id) x ≡ with_word_added_if (state_of w).raw (names_at w.files id) x (store_is_full w.files.stored id)
+  unfolding with_word_added
   added_on x =
       let m = (state_of w).raw in
       let n = names_at w.files id in
-      ap (λ fs. word_added_to m n x (file_named n fs)) (files_are w) ∙ ap (word_added_to m n x) named_here
-      ∙ ap (λ fs. word_added_if m n x (is_full fs (channels_of m) (words_at w.files id))) (files_are w)
-      ∙ ap (λ cs. word_added_if m n x (is_full (directory w.files) cs (words_at w.files id))) (chans_are w)
-      ∙ ap (word_added_if m n x) (sym (full_on w.files whole none w.jobs id kept.tidy.across most))
+      ap (λ fs. with_word_added_to m n x (file_named n fs)) (files_are w) ∙ ap (with_word_added_to m n x) named_here
+      ∙ ap (λ fs. with_word_added_if m n x (is_full fs (channels_of m) (words_at w.files id))) (files_are w)
+      ∙ ap (λ cs. with_word_added_if m n x (is_full (directory w.files) cs (words_at w.files id))) (chans_are w)
+      ∙ ap (with_word_added_if m n x) (sym (full_on w.files whole none w.jobs id kept.tidy.across most))
 
-  pub added_full : (x : ℕ) → store_is_full w.files.stored id ≡ true → word_added (state_of w).raw (names_at w.files id) x ≡ Err (reason_of refusals.Full)
-  added_full x full = added_on x ∙ ap (word_added_if (state_of w).raw (names_at w.files id) x) full
+  pub added_full : (x : ℕ) → store_is_full w.files.stored id ≡ true → with_word_added (state_of w).raw (names_at w.files id) x ≡ Err (reason_of refusals.Full)
+  added_full x full = added_on x ∙ ap (with_word_added_if (state_of w).raw (names_at w.files id) x) full
 
   module _ (new : World) (x : ℕ) (made : new.files ≡ with_word w.files id x) (entry : Same (entry_at w.files) (entry_at new.files))
       (words : Only (words_at w.files) (words_at new.files) id (words_at w.files id ++ x ∷ [])) (files : directory new.files ≡ with_changed (names_at w.files id) (longer x) (directory w.files))
@@ -246,12 +246,12 @@ module _ (w : World) (whole : IsStore w.files) (kept : Kept w) (none : w.files.m
         filed w new (with_changed (names_at w.files id) (longer x) (directory w.files)) core jobs frames consoles holders clock alarms version symbols pipes rings kept.tidy
         (lengthened_stays w.files new.files w.jobs id kept.tidy.across x (words_at w.files id ++ x ∷ []) file made entry words) none (ap (λ (s : Store). s.mark) made ∙ none) files
 
-    pub added_lands : store_is_full w.files.stored id ≡ false → Lands (state_of w) (state_of new) (word_added (state_of w).raw (names_at w.files id) x)
+    pub added_lands : store_is_full w.files.stored id ≡ false → Lands (state_of w) (state_of new) (with_word_added (state_of w).raw (names_at w.files id) x)
     added_lands room =
         let m = (state_of w).raw in
         let n = names_at w.files id in
-        filed_lands w new (with_changed n (longer x) (directory w.files)) (word_added m n x) added_filed
-        (added_on x ∙ ap (word_added_if m n x) room ∙ ap (λ fs. Ok (with_files m (with_changed n (longer x) fs))) (files_are w))
+        filed_lands w new (with_changed n (longer x) (directory w.files)) (with_word_added m n x) added_filed
+        (added_on x ∙ ap (with_word_added_if m n x) room ∙ ap (λ fs. Ok (with_files m (with_changed n (longer x) fs))) (files_are w))
 
     pub added_tidy : Tidy new
     added_tidy = added_filed.tidy
@@ -266,12 +266,12 @@ module _ (w : World) (whole : IsStore w.files) (kept : Kept w) (none : w.files.m
 abbrev file_block : Names → Block
 file_block n = record no_block { file = n }
 
-module _ (old mid new : World) (n : Names) (x : ℕ) (kept : Kept old) (h : Helped old mid) (l : Lands (state_of mid) (state_of new) (word_added (state_of mid).raw n x)) where
-  pub more_done : Lands (help (state_of old)) (state_of new) (word_added (help (state_of old)).raw n x)
-  more_done = subst (λ (v : State). Lands v (state_of new) (word_added v.raw n x)) h.state l
+module _ (old mid new : World) (n : Names) (x : ℕ) (kept : Kept old) (h : Helped old mid) (l : Lands (state_of mid) (state_of new) (with_word_added (state_of mid).raw n x)) where
+  pub more_done : Lands (help (state_of old)) (state_of new) (with_word_added (help (state_of old)).raw n x)
+  more_done = subst (λ (v : State). Lands v (state_of new) (with_word_added v.raw n x)) h.state l
 
   more_made : Made (state_of old) (state_of new) (file_block n) (events.Append (record { items = x ∷ [] }))
-  unfolding calmed lined operate
+  unfolding after_calm lined operate
   more_made = record {
     out = [];
     touched = nobody;
@@ -280,22 +280,22 @@ module _ (old mid new : World) (n : Names) (x : ℕ) (kept : Kept old) (h : Help
     rest = more_done.rest;
   }
 
-  pub more_plain : word_added (plain (state_of old)) n x ≡ Ok (plain (state_of new))
+  pub more_plain : with_word_added (plain (state_of old)) n x ≡ Ok (plain (state_of new))
   unfolding lined operate
   more_plain =
       let m = more_made in
-      and_ok (word_added (plain (state_of old)) n x) (plain (state_of new))
-      (quiet_by (and_then (word_added (plain (state_of old)) n x) (λ k. Ok k)) (plain (state_of new)) m.out m.touched (file_block n) m.block
+      and_ok (with_word_added (plain (state_of old)) n x) (plain (state_of new))
+      (quiet_by (and_then (with_word_added (plain (state_of old)) n x) (λ k. Ok k)) (plain (state_of new)) m.out m.touched (file_block n) m.block
       (made_plain (state_of old) (state_of new) (file_block n) (events.Append (record { items = x ∷ [] })) kept.sound m))
 
   more_kept : Tidy new → Kept new
   more_kept tidy = files_kept (events.Append (record { items = x ∷ [] })) (file_block n) old new kept more_made
-      (alone_is (plain (state_of old)) (plain (state_of new)) (word_added (plain (state_of old)) n x) more_plain (word_files (plain (state_of old)) n x)) tidy
+      (alone_is (plain (state_of old)) (plain (state_of new)) (with_word_added (plain (state_of old)) n x) more_plain (word_files (plain (state_of old)) n x)) tidy
 
-pub word_kept : (old mid new : World) (n : Names) (x : ℕ) (r : Result (Unit {0}) Refusal) → Kept old → Helped old mid → OnOk r (Lands (state_of mid) (state_of new) (word_added (state_of mid).raw n x))
+pub word_kept : (old mid new : World) (n : Names) (x : ℕ) (r : Result (Unit {0}) Refusal) → Kept old → Helped old mid → OnOk r (Lands (state_of mid) (state_of new) (with_word_added (state_of mid).raw n x))
     → Tidy new → OnErr r (new ≡ mid) → Kept new
 word_kept old mid new n x (Ok u) kept h l tidy same = more_kept old mid new n x kept h l tidy
 word_kept old mid new n x (Err e) kept h l tidy same = subst Kept (sym same) h.kept
 
-pub more_refused : (old mid : World) (n : Names) (x : ℕ) (e : Refusal) → Helped old mid → word_added (state_of mid).raw n x ≡ Err (reason_of e) → FileRefused (state_of old) (λ m. word_added m n x) e
-more_refused old mid n x e h is = file_refused (λ m. word_added m n x) (state_of old) e (λ u none. added_alike u n x none) (ap (λ (v : State). word_added v.raw n x) (sym h.state) ∙ is)
+pub more_refused : (old mid : World) (n : Names) (x : ℕ) (e : Refusal) → Helped old mid → with_word_added (state_of mid).raw n x ≡ Err (reason_of e) → FileRefused (state_of old) (λ m. with_word_added m n x) e
+more_refused old mid n x e h is = file_refused (λ m. with_word_added m n x) (state_of old) e (λ u none. added_alike u n x none) (ap (λ (v : State). with_word_added v.raw n x) (sym h.state) ∙ is)

@@ -19,8 +19,8 @@ use Rattle.its_stepped.specs.Sound.{Sound}
 use Rattle.its_stepped.specs.Alarmed.{Alarmed}
 use Rattle.its_stepped.specs.Forest.{Forest}
 use Rattle.its_stepped.specs.Unwind.{unwound}
-use Rattle.its_stepped.specs.Tick.{helped_if}
-use Rattle.its_stepped.specs.Lines.{looks_at_files, calmed, with_raw, state_after, after_line, lifted_line}
+use Rattle.its_stepped.specs.Tick.{after_help_if}
+use Rattle.its_stepped.specs.Lines.{looks_at_files, after_calm, with_raw, state_after, after_line, lifted_line}
 use Rattle.its_stepped.proofs.AlarmLaws.{line_alarmed}
 use Rattle.its_stepped.proofs.ClockLaws.{line_timed}
 use Rattle.its_stepped.proofs.UnwindLaws.{unwound_plain, unwound_sound}
@@ -119,19 +119,19 @@ pub record Made (w new : State) (b : Block) (e : Event) : Type 0 where
   pub out : List Line
   pub touched : ℕ → Bool
   pub block : Block
-  pub is : lined (calmed w b e).raw b e ≡ Done (Does new.raw out touched block)
-  pub rest : new ≡ with_raw (calmed w b e) new.raw
+  pub is : lined (after_calm w b e).raw b e ≡ Done (Does new.raw out touched block)
+  pub rest : new ≡ with_raw (after_calm w b e) new.raw
 
 made_after : (w new : State) (b : Block) (e : Event) → Made w new b e → after_line w b e ≡ new
 unfolding after_line
-made_after w new b e h = ap (state_after (helped_if (looks_at_files e) w) (calmed w b e)) h.is ∙ sym h.rest
+made_after w new b e h = ap (state_after (after_help_if (looks_at_files e) w) (after_calm w b e)) h.is ∙ sym h.rest
 
 pub made_sound : (w new : State) (b : Block) (e : Event) → Sound w → Made w new b e → Sound new
 made_sound w new b e sound h = subst Sound (made_after w new b e h) (after_sound w b e sound)
 
 pub made_plain : (w new : State) (b : Block) (e : Event) → Sound w → (h : Made w new b e) → lined (plain w) b e ≡ Done (Does (plain new) h.out h.touched h.block)
 made_plain w new b e sound h =
-    line_plain w b e sound ∙ ap (lifted_line (calmed w b e)) h.is ∙ ap (λ (x : State). Done (Does (plain x) h.out h.touched h.block)) (sym h.rest)
+    line_plain w b e sound ∙ ap (lifted_line (after_calm w b e)) h.is ∙ ap (λ (x : State). Done (Does (plain x) h.out h.touched h.block)) (sym h.rest)
 
 pub made_forest : (w new : State) (b : Block) (e : Event) → Sound w → Forest (plain w) → Made w new b e → Forest (plain new)
 made_forest w new b e sound d h = line_forest (plain w) (plain new) b h.block e h.out h.touched d (made_plain w new b e sound h)

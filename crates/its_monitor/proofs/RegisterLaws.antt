@@ -18,13 +18,13 @@ use Rattle.its_plain.specs.Machine.{Symbol, Whole, Machine, changed, with_job}
 use Rattle.its_plain.specs.Change.{on_slot, in_job}
 use Rattle.its_plain.specs.Own as own
 use Rattle.its_plain.specs.Operator.{Block, no_block, Does, only, disturbs}
-use Rattle.its_plain.specs.OperatorJobs.{on_job, with_registers, on_registers, started, interrupted, stopped, continued, shown, state_shown}
+use Rattle.its_plain.specs.OperatorJobs.{on_job, with_registers, on_registers, after_go, after_int, after_stop, after_cont, shown, state_shown}
 use Rattle.its_plain.specs.OperatorSymbols.{symbol_shown}
 use Rattle.its_plain.specs.OperatorLines.{operate, Done, lined}
 use Rattle.its_plain.proofs.MachineLaws.{machine_is}
 use Rattle.its_stepped.specs.State.{State, plain}
 use Rattle.its_stepped.specs.Unwind.{unwound}
-use Rattle.its_stepped.specs.Lines.{calmed, with_raw}
+use Rattle.its_stepped.specs.Lines.{after_calm, with_raw}
 use Rattle.its_stepped.proofs.FrameLaws.{changed_only, on_slot_here, on_slot_other}
 use Rattle.its_stepped.proofs.LineLaws.{state_plain as calm_state_plain}
 use Rattle.its_stepped.proofs.RefusalLaws.{registers_alike, shown_alike}
@@ -118,77 +118,77 @@ block_of s = record no_block { slot = s }
 
 -- the four calls
 module _ (old mid new : World) (s : ℕ) (j : Job) where
-  pub go_done : (a : ℕ) → a < 2 ^ 18 → Kept old → Calm old mid s j → JobBecomes mid new s (started a j) → Lands (unwound (state_of old) s) (state_of new) (on_registers (unwound (state_of old) s).raw s (started a))
-  go_done a p kept c r = registers_land (started a) old mid new s j (λ x c sup a. refl) c r
+  pub go_done : (a : ℕ) → a < 2 ^ 18 → Kept old → Calm old mid s j → JobBecomes mid new s (after_go a j) → Lands (unwound (state_of old) s) (state_of new) (on_registers (unwound (state_of old) s).raw s (after_go a))
+  go_done a p kept c r = registers_land (after_go a) old mid new s j (λ x c sup a. refl) c r
 
-  go_made : (a : ℕ) → a < 2 ^ 18 → Kept old → Calm old mid s j → JobBecomes mid new s (started a j) → Made (state_of old) (state_of new) (block_of s) (events.Go a)
-  unfolding calmed lined operate
+  go_made : (a : ℕ) → a < 2 ^ 18 → Kept old → Calm old mid s j → JobBecomes mid new s (after_go a j) → Made (state_of old) (state_of new) (block_of s) (events.Go a)
+  unfolding after_calm lined operate
   go_made a p kept c r =
       let l = go_done a p kept c r in
       record { out = []; touched = only s; block = block_of s; is = ap (λ m. Done (disturbs s (block_of s) m)) l.is; rest = l.rest }
 
-  pub go_plain : (a : ℕ) → a < 2 ^ 18 → Kept old → Calm old mid s j → JobBecomes mid new s (started a j) → on_registers (plain (state_of old)) s (started a) ≡ Ok (plain (state_of new))
+  pub go_plain : (a : ℕ) → a < 2 ^ 18 → Kept old → Calm old mid s j → JobBecomes mid new s (after_go a j) → on_registers (plain (state_of old)) s (after_go a) ≡ Ok (plain (state_of new))
   unfolding lined operate
   go_plain a p kept c r =
       let m = go_made a p kept c r in
-      disturbed s (block_of s) (on_registers (plain (state_of old)) s (started a)) (plain (state_of new)) m.out m.touched m.block (made_plain (state_of old) (state_of new) (block_of s) (events.Go a) kept.sound m)
+      disturbed s (block_of s) (on_registers (plain (state_of old)) s (after_go a)) (plain (state_of new)) m.out m.touched m.block (made_plain (state_of old) (state_of new) (block_of s) (events.Go a) kept.sound m)
 
-  pub go_kept : (a : ℕ) → a < 2 ^ 18 → Kept old → Calm old mid s j → JobBecomes mid new s (started a j) → Kept new
-  go_kept a p kept c r = registers_kept (started a) (events.Go a) (block_of s) old mid new s j kept c r (go_made a p kept c r) (go_plain a p kept c r) (λ i l. p) (λ i. refl) (λ i. refl)
+  pub go_kept : (a : ℕ) → a < 2 ^ 18 → Kept old → Calm old mid s j → JobBecomes mid new s (after_go a j) → Kept new
+  go_kept a p kept c r = registers_kept (after_go a) (events.Go a) (block_of s) old mid new s j kept c r (go_made a p kept c r) (go_plain a p kept c r) (λ i l. p) (λ i. refl) (λ i. refl)
 
-  pub stop_done : Kept old → Calm old mid s j → JobBecomes mid new s (stopped j) → Lands (unwound (state_of old) s) (state_of new) (on_registers (unwound (state_of old) s).raw s stopped)
-  stop_done kept c r = registers_land stopped old mid new s j (λ x c sup a. refl) c r
+  pub stop_done : Kept old → Calm old mid s j → JobBecomes mid new s (after_stop j) → Lands (unwound (state_of old) s) (state_of new) (on_registers (unwound (state_of old) s).raw s after_stop)
+  stop_done kept c r = registers_land after_stop old mid new s j (λ x c sup a. refl) c r
 
-  stop_made : Kept old → Calm old mid s j → JobBecomes mid new s (stopped j) → Made (state_of old) (state_of new) no_block (events.Stop s)
-  unfolding calmed lined operate
+  stop_made : Kept old → Calm old mid s j → JobBecomes mid new s (after_stop j) → Made (state_of old) (state_of new) no_block (events.Stop s)
+  unfolding after_calm lined operate
   stop_made kept c r =
       let l = stop_done kept c r in
       record { out = []; touched = only s; block = no_block; is = ap (λ m. Done (disturbs s no_block m)) l.is; rest = l.rest }
 
-  pub stop_plain : Kept old → Calm old mid s j → JobBecomes mid new s (stopped j) → on_registers (plain (state_of old)) s stopped ≡ Ok (plain (state_of new))
+  pub stop_plain : Kept old → Calm old mid s j → JobBecomes mid new s (after_stop j) → on_registers (plain (state_of old)) s after_stop ≡ Ok (plain (state_of new))
   unfolding lined operate
   stop_plain kept c r =
       let m = stop_made kept c r in
-      disturbed s no_block (on_registers (plain (state_of old)) s stopped) (plain (state_of new)) m.out m.touched m.block (made_plain (state_of old) (state_of new) no_block (events.Stop s) kept.sound m)
+      disturbed s no_block (on_registers (plain (state_of old)) s after_stop) (plain (state_of new)) m.out m.touched m.block (made_plain (state_of old) (state_of new) no_block (events.Stop s) kept.sound m)
 
-  pub stop_kept : Kept old → Calm old mid s j → JobBecomes mid new s (stopped j) → Kept new
-  stop_kept kept c r = registers_kept stopped (events.Stop s) no_block old mid new s j kept c r (stop_made kept c r) (stop_plain kept c r) (λ i l. l) (λ i. refl) (λ i. refl)
+  pub stop_kept : Kept old → Calm old mid s j → JobBecomes mid new s (after_stop j) → Kept new
+  stop_kept kept c r = registers_kept after_stop (events.Stop s) no_block old mid new s j kept c r (stop_made kept c r) (stop_plain kept c r) (λ i l. l) (λ i. refl) (λ i. refl)
 
-  pub cont_done : Kept old → Calm old mid s j → JobBecomes mid new s (continued j) → Lands (unwound (state_of old) s) (state_of new) (on_registers (unwound (state_of old) s).raw s continued)
-  cont_done kept c r = registers_land continued old mid new s j (λ x c sup a. refl) c r
+  pub cont_done : Kept old → Calm old mid s j → JobBecomes mid new s (after_cont j) → Lands (unwound (state_of old) s) (state_of new) (on_registers (unwound (state_of old) s).raw s after_cont)
+  cont_done kept c r = registers_land after_cont old mid new s j (λ x c sup a. refl) c r
 
-  cont_made : Kept old → Calm old mid s j → JobBecomes mid new s (continued j) → Made (state_of old) (state_of new) no_block (events.Cont s)
-  unfolding calmed lined operate
+  cont_made : Kept old → Calm old mid s j → JobBecomes mid new s (after_cont j) → Made (state_of old) (state_of new) no_block (events.Cont s)
+  unfolding after_calm lined operate
   cont_made kept c r =
       let l = cont_done kept c r in
       record { out = []; touched = only s; block = no_block; is = ap (λ m. Done (disturbs s no_block m)) l.is; rest = l.rest }
 
-  pub cont_plain : Kept old → Calm old mid s j → JobBecomes mid new s (continued j) → on_registers (plain (state_of old)) s continued ≡ Ok (plain (state_of new))
+  pub cont_plain : Kept old → Calm old mid s j → JobBecomes mid new s (after_cont j) → on_registers (plain (state_of old)) s after_cont ≡ Ok (plain (state_of new))
   unfolding lined operate
   cont_plain kept c r =
       let m = cont_made kept c r in
-      disturbed s no_block (on_registers (plain (state_of old)) s continued) (plain (state_of new)) m.out m.touched m.block (made_plain (state_of old) (state_of new) no_block (events.Cont s) kept.sound m)
+      disturbed s no_block (on_registers (plain (state_of old)) s after_cont) (plain (state_of new)) m.out m.touched m.block (made_plain (state_of old) (state_of new) no_block (events.Cont s) kept.sound m)
 
-  pub cont_kept : Kept old → Calm old mid s j → JobBecomes mid new s (continued j) → Kept new
-  cont_kept kept c r = registers_kept continued (events.Cont s) no_block old mid new s j kept c r (cont_made kept c r) (cont_plain kept c r) (λ i l. l) (λ i. refl) (λ i. refl)
+  pub cont_kept : Kept old → Calm old mid s j → JobBecomes mid new s (after_cont j) → Kept new
+  cont_kept kept c r = registers_kept after_cont (events.Cont s) no_block old mid new s j kept c r (cont_made kept c r) (cont_plain kept c r) (λ i l. l) (λ i. refl) (λ i. refl)
 
-  pub interrupt_done : (x y : ℕ) → Kept old → Calm old mid s j → JobBecomes mid new s (interrupted x y j) → Lands (unwound (state_of old) s) (state_of new) (on_registers (unwound (state_of old) s).raw s (interrupted x y))
-  interrupt_done x y kept c r = registers_land (interrupted x y) old mid new s j (λ x c sup a. refl) c r
+  pub interrupt_done : (x y : ℕ) → Kept old → Calm old mid s j → JobBecomes mid new s (after_int x y j) → Lands (unwound (state_of old) s) (state_of new) (on_registers (unwound (state_of old) s).raw s (after_int x y))
+  interrupt_done x y kept c r = registers_land (after_int x y) old mid new s j (λ x c sup a. refl) c r
 
-  interrupt_made : (x y : ℕ) → Kept old → Calm old mid s j → JobBecomes mid new s (interrupted x y j) → Made (state_of old) (state_of new) no_block (events.Int s x y)
-  unfolding calmed lined operate
+  interrupt_made : (x y : ℕ) → Kept old → Calm old mid s j → JobBecomes mid new s (after_int x y j) → Made (state_of old) (state_of new) no_block (events.Int s x y)
+  unfolding after_calm lined operate
   interrupt_made x y kept c r =
       let l = interrupt_done x y kept c r in
       record { out = []; touched = only s; block = no_block; is = ap (λ m. Done (disturbs s no_block m)) l.is; rest = l.rest }
 
-  pub interrupt_plain : (x y : ℕ) → Kept old → Calm old mid s j → JobBecomes mid new s (interrupted x y j) → on_registers (plain (state_of old)) s (interrupted x y) ≡ Ok (plain (state_of new))
+  pub interrupt_plain : (x y : ℕ) → Kept old → Calm old mid s j → JobBecomes mid new s (after_int x y j) → on_registers (plain (state_of old)) s (after_int x y) ≡ Ok (plain (state_of new))
   unfolding lined operate
   interrupt_plain x y kept c r =
       let m = interrupt_made x y kept c r in
-      disturbed s no_block (on_registers (plain (state_of old)) s (interrupted x y)) (plain (state_of new)) m.out m.touched m.block (made_plain (state_of old) (state_of new) no_block (events.Int s x y) kept.sound m)
+      disturbed s no_block (on_registers (plain (state_of old)) s (after_int x y)) (plain (state_of new)) m.out m.touched m.block (made_plain (state_of old) (state_of new) no_block (events.Int s x y) kept.sound m)
 
-  pub interrupt_kept : (x y : ℕ) → Kept old → Calm old mid s j → JobBecomes mid new s (interrupted x y j) → Kept new
-  interrupt_kept x y kept c r = registers_kept (interrupted x y) (events.Int s x y) no_block old mid new s j kept c r (interrupt_made x y kept c r) (interrupt_plain x y kept c r) (λ i l. l) (λ i. refl) (λ i. refl)
+  pub interrupt_kept : (x y : ℕ) → Kept old → Calm old mid s j → JobBecomes mid new s (after_int x y j) → Kept new
+  interrupt_kept x y kept c r = registers_kept (after_int x y) (events.Int s x y) no_block old mid new s j kept c r (interrupt_made x y kept c r) (interrupt_plain x y kept c r) (λ i l. l) (λ i. refl) (λ i. refl)
 
 -- STATE
 symbols_raw : (w : World) (s : ℕ) → (state_of w).raw.symbols s ≡ symbols_at w.symbols.items s

@@ -11,7 +11,7 @@ use Rattle.its_plain.specs.Alarm.{is_due, time_after}
 use Rattle.its_plain.specs.Change.{with_alarm}
 use Rattle.its_plain.specs.Job.{ALR, with_pending}
 use Rattle.its_plain.specs.Machine.{Whole, Machine}
-use Rattle.its_plain.specs.OperatorClock.{alarm_in, due, due_slots, rung_if, at_clock, clock_end}
+use Rattle.its_plain.specs.OperatorClock.{alarm_in, due, due_slots, after_alarm_if, at_clock, clock_end}
 use Rattle.its_plain.specs.Own.{with_registers}
 use Rattle.its_stepped.specs.Alarmed.{Periodic, Alarmed}
 use Rattle.its_stepped.specs.Lines.{with_raw}
@@ -115,9 +115,9 @@ went c p t old mid new s tidy has late set put =
     }
 
 -- a slot that is not due
-stays_by : (c : ℕ) (b : Bool) (o : Option Whole) → (b ≡ true → is_due c (alarm_in o) ≡ false) → o ≡ rung_if c (b && is_due c (alarm_in o)) o
+stays_by : (c : ℕ) (b : Bool) (o : Option Whole) → (b ≡ true → is_due c (alarm_in o) ≡ false) → o ≡ after_alarm_if c (b && is_due c (alarm_in o)) o
 stays_by c false o h = refl
-stays_by c true o h = sym (ap (λ (x : Bool). rung_if c x o) (h refl))
+stays_by c true o h = sym (ap (λ (x : Bool). after_alarm_if c x o) (h refl))
 
 still : (c s : ℕ) (w : World) (a : Option (ℕ × ℕ)) → Tidy w → alarm_at w.alarms.items s ≡ a → is_due c a ≡ false → RangAt c s (state_of w) (state_of w)
 still c s w a tidy e no_more = record {
@@ -133,23 +133,23 @@ still_some c s p t w tidy e early = still c s w (Some (p, t)) tidy (sym e) (lt-l
 
 -- slot after slot
 pub rang_start : (c : ℕ) (v : State) → RangBelow c 0 v v
-rang_start c v = record { jobs = λ k. sym (ap (λ (b : Bool). rung_if c (b && is_due c (alarm_in (v.raw.jobs k))) (v.raw.jobs k)) (le-ltb k 0 (omega arith))); rest = refl }
+rang_start c v = record { jobs = λ k. sym (ap (λ (b : Bool). after_alarm_if c (b && is_due c (alarm_in (v.raw.jobs k))) (v.raw.jobs k)) (le-ltb k 0 (omega arith))); rest = refl }
 
 pub rang_more : (c n : ℕ) (old mid new : State) → RangBelow c n old mid → RangAt c n mid new → RangBelow c (n + 1) old new
 rang_more c n old mid new a b = record {
   jobs = λ k. elim (cases_eq k n) [
     | inl e ↦
         let same : mid.raw.jobs k ≡ old.raw.jobs k =
-        a.jobs k ∙ ap (λ (t : Bool). rung_if c (t && is_due c (alarm_in (old.raw.jobs k))) (old.raw.jobs k)) (le-ltb k n (omega arith)) in
+        a.jobs k ∙ ap (λ (t : Bool). after_alarm_if c (t && is_due c (alarm_in (old.raw.jobs k))) (old.raw.jobs k)) (le-ltb k n (omega arith)) in
         b.jobs k
-        ∙ ap (λ (t : Bool). rung_if c (t && is_due c (alarm_in (mid.raw.jobs k))) (mid.raw.jobs k)) (eq-eqb k n e)
-        ∙ ap (λ (o : Option Whole). rung_if c (is_due c (alarm_in o)) o) same
-        ∙ sym (ap (λ (t : Bool). rung_if c (t && is_due c (alarm_in (old.raw.jobs k))) (old.raw.jobs k)) (lt-ltb k (n + 1) (omega arith)))
+        ∙ ap (λ (t : Bool). after_alarm_if c (t && is_due c (alarm_in (mid.raw.jobs k))) (mid.raw.jobs k)) (eq-eqb k n e)
+        ∙ ap (λ (o : Option Whole). after_alarm_if c (is_due c (alarm_in o)) o) same
+        ∙ sym (ap (λ (t : Bool). after_alarm_if c (t && is_due c (alarm_in (old.raw.jobs k))) (old.raw.jobs k)) (lt-ltb k (n + 1) (omega arith)))
     | inr ne ↦
         b.jobs k
-        ∙ ap (λ (t : Bool). rung_if c (t && is_due c (alarm_in (mid.raw.jobs k))) (mid.raw.jobs k)) (ne_eqb k n ne)
+        ∙ ap (λ (t : Bool). after_alarm_if c (t && is_due c (alarm_in (mid.raw.jobs k))) (mid.raw.jobs k)) (ne_eqb k n ne)
         ∙ a.jobs k
-        ∙ ap (λ (t : Bool). rung_if c (t && is_due c (alarm_in (old.raw.jobs k))) (old.raw.jobs k)) (below_next k n ne)
+        ∙ ap (λ (t : Bool). after_alarm_if c (t && is_due c (alarm_in (old.raw.jobs k))) (old.raw.jobs k)) (below_next k n ne)
   ];
   rest = b.rest ∙ ap (λ (u : State). with_raw u (record u.raw { jobs = new.raw.jobs })) a.rest;
 }

@@ -16,7 +16,7 @@ use Rattle.its_jobs.specs.Table.{job_at, superior_at, NoJobs}
 use Rattle.its_files.specs.Files.{directory, no_files}
 use Rattle.its_plain.specs.Machine.{Machine, changed, with_job, no_machine, limit, with_new, Whole}
 use Rattle.its_plain.specs.Operator.{Block, no_block, Does, only, quietly}
-use Rattle.its_plain.specs.OperatorJobs.{new_job, held_by, with_holder, loaded_in, loaded}
+use Rattle.its_plain.specs.OperatorJobs.{new_job, held_by, with_holder, after_load_in, after_load}
 use Rattle.its_plain.specs.OperatorLines.{by_load, operate, Done, lined}
 use Rattle.its_plain.specs.OperatorClock.{clock_end}
 use Rattle.its_pipes.specs.Pipes.{piped}
@@ -25,7 +25,7 @@ use Rattle.its_stepped.specs.State.{State, plain, no_state}
 use Rattle.its_stepped.specs.Sound.{Sound}
 use Rattle.its_stepped.specs.Alarmed.{Alarmed}
 use Rattle.its_stepped.specs.Forest.{Forest}
-use Rattle.its_stepped.specs.Lines.{calmed, with_raw}
+use Rattle.its_stepped.specs.Lines.{after_calm, with_raw}
 use Rattle.its_stepped.proofs.AlarmLaws.{alarmed_starts}
 use Rattle.its_stepped.proofs.ForestLaws.{forest_starts}
 use Rattle.its_stepped.proofs.FrameLaws.{changed_only}
@@ -115,37 +115,37 @@ module _ (old mid new : World) (s u j : ℕ) (console : Option ℕ) where
   load_state kept e f h = h.state ∙ ap (λ (v : State). with_raw v (with_holder v.raw s console)) (made_state old mid s u j None console f (blank_at kept e) (kept.tidy.quiet s (least_empty old.jobs.limit (job_at old.jobs) s e)) (least_nameless old s kept.tidy e))
 
   pub load_done : Kept old → least_free old.jobs.limit (job_at old.jobs) ≡ Some s → JobMade old mid s u j None console → Alters mid new (with_holder (state_of mid).raw s console)
-      → Loads (state_of old) (state_of new) (loaded (state_of old).raw u j console) s
-  unfolding loaded
+      → Loads (state_of old) (state_of new) (after_load (state_of old).raw u j console) s
+  unfolding after_load
   load_done kept e f h =
       let is = load_state kept e f h in
       record {
-        is = ap (loaded_in (state_of old).raw u j console) (least_raw old ∙ e) ∙ ap (λ (v : State). Ok (v.raw, s)) (sym is);
+        is = ap (after_load_in (state_of old).raw u j console) (least_raw old ∙ e) ∙ ap (λ (v : State). Ok (v.raw, s)) (sym is);
         rest = is ∙ ap (λ (v : State). with_raw (state_of old) v.raw) (sym is);
       }
 
   load_line : Kept old → least_free old.jobs.limit (job_at old.jobs) ≡ Some s → JobMade old mid s u j None console → Alters mid new (with_holder (state_of mid).raw s console)
       → Made (state_of old) (state_of new) no_block (events.Load u j console)
-  unfolding calmed lined operate
+  unfolding after_calm lined operate
   load_line kept e f h =
       let l = load_done kept e f h in
       record { out = printed.Loaded s ∷ []; touched = only s; block = block_of s; is = ap (λ r. Done (by_load no_block r)) l.is; rest = l.rest }
 
   pub load_plain : Kept old → least_free old.jobs.limit (job_at old.jobs) ≡ Some s → JobMade old mid s u j None console → Alters mid new (with_holder (state_of mid).raw s console)
-      → loaded (plain (state_of old)) u j console ≡ Ok (plain (state_of new), s)
+      → after_load (plain (state_of old)) u j console ≡ Ok (plain (state_of new), s)
   unfolding lined operate load_line
   load_plain kept e f h =
       let m = load_line kept e f h in
-      loaded_by (loaded (plain (state_of old)) u j console) (plain (state_of new)) s (printed.Loaded s ∷ []) (only s)
+      loaded_by (after_load (plain (state_of old)) u j console) (plain (state_of new)) s (printed.Loaded s ∷ []) (only s)
       (made_plain (state_of old) (state_of new) no_block (events.Load u j console) kept.sound m)
 
   load_machine : Kept old → least_free old.jobs.limit (job_at old.jobs) ≡ Some s → JobMade old mid s u j None console → Alters mid new (with_holder (state_of mid).raw s console)
       → with_holder (with_new (plain (state_of old)) s (new_job u j console)) s console ≡ plain (state_of new)
-  unfolding loaded
+  unfolding after_load
   load_machine kept e f h =
       first_is (with_holder (with_new (plain (state_of old)) s (new_job u j console)) s console) (plain (state_of new))
-      (loaded_in (plain (state_of old)) u j console (least_free (limit (plain (state_of old))) (plain (state_of old)).jobs))
-      (ap (loaded_in (plain (state_of old)) u j console) (least_plain (state_of old) ∙ least_raw old ∙ e)) (load_plain kept e f h)
+      (after_load_in (plain (state_of old)) u j console (least_free (limit (plain (state_of old))) (plain (state_of old)).jobs))
+      (ap (after_load_in (plain (state_of old)) u j console) (least_plain (state_of old) ∙ least_raw old ∙ e)) (load_plain kept e f h)
     where
       first_is : (m n : Machine) (r : Result (Machine × ℕ) Reason) → r ≡ Ok (m, s) → r ≡ Ok (n, s) → m ≡ n
       first_is m n r a b = ap (machine_in m) (sym a ∙ b)
@@ -175,12 +175,12 @@ module _ (old mid new : World) (s u j : ℕ) (console : Option ℕ) where
       (made_timed (state_of old) (state_of new) no_block (events.Load u j console) kept.sound kept.timed (load_line kept e f h))
       (made_alarmed (state_of old) (state_of new) no_block (events.Load u j console) kept.sound kept.forest kept.alarmed (load_line kept e f h))
 
-pub load_full : (w : World) (u j : ℕ) (console : Option ℕ) → least_free w.jobs.limit (job_at w.jobs) ≡ None → Refused (state_of w) (state_of w) (λ m. loaded m u j console) refusals.Full
-unfolding loaded
+pub load_full : (w : World) (u j : ℕ) (console : Option ℕ) → least_free w.jobs.limit (job_at w.jobs) ≡ None → Refused (state_of w) (state_of w) (λ m. after_load m u j console) refusals.Full
+unfolding after_load
 load_full w u j console e = record {
-  plain = ap (loaded_in (plain (state_of w)) u j console) (least_plain (state_of w) ∙ least_raw w ∙ e);
-  raw = ap (loaded_in (state_of w).raw u j console) (least_raw w ∙ e);
-  calmed = ap (loaded_in (state_of w).raw u j console) (least_raw w ∙ e);
+  plain = ap (after_load_in (plain (state_of w)) u j console) (least_plain (state_of w) ∙ least_raw w ∙ e);
+  raw = ap (after_load_in (state_of w).raw u j console) (least_raw w ∙ e);
+  calmed = ap (after_load_in (state_of w).raw u j console) (least_raw w ∙ e);
 }
 
 -- a line of a block

@@ -15,12 +15,12 @@ use Rattle.its_plain.specs.Machine.{Symbol, Whole}
 use Rattle.its_plain.specs.Operator.{no_block, Does, nobody, quietly}
 use Rattle.its_plain.specs.OperatorLines.{operate, Done, lined}
 use Rattle.its_plain.specs.OperatorClock.{clock_end}
-use Rattle.its_plain.specs.OperatorSymbols.{with_symbol, symbol_kept_if, symbol_kept_of, symbol_kept}
-use Rattle.its_plain.specs.OperatorVersion.{versioned}
+use Rattle.its_plain.specs.OperatorSymbols.{with_symbol, with_symbol_kept_if, with_symbol_kept_of, with_symbol_kept}
+use Rattle.its_plain.specs.OperatorVersion.{with_version}
 use Rattle.its_pipes.specs.Pipes.{piped}
 use Rattle.its_plain.proofs.MachineLaws.{machine_is}
 use Rattle.its_stepped.specs.State.{State, plain}
-use Rattle.its_stepped.specs.Lines.{calmed, with_raw}
+use Rattle.its_stepped.specs.Lines.{after_calm, with_raw}
 use Rattle.its_stepped.proofs.LineLaws.{empty_plain, version_lifted}
 use Rattle.its_stepped.proofs.RefusalLaws.{symbol_alike}
 use Rattle.its_plain.specs.OperatorClock.{clock_end}
@@ -38,10 +38,10 @@ use Rattle.its_monitor.proofs.StartLaws.{quiet_by}
 use Rattle.its_tick.proofs.WaitsLaws.{kept_is, raw_is, raw_is_none}
 
 -- VERSION: if a slot has a job, nothing changes
-pub version_stays : (w : World) (v : ℕ) (b : Bool) → b ≡ no_job (job_at w.jobs) → b ≡ false → Lands (state_of w) (state_of w) (Ok (versioned (state_of w).raw v))
+pub version_stays : (w : World) (v : ℕ) (b : Bool) → b ≡ no_job (job_at w.jobs) → b ≡ false → Lands (state_of w) (state_of w) (Ok (with_version (state_of w).raw v))
 version_stays w v b e f = record { is = ap Ok (same_version (state_of w).raw v (empty_raw w ∙ sym e ∙ f)); rest = refl }
 
-pub version_same : (w : World) (v : ℕ) (b : Bool) → b ≡ no_job (job_at w.jobs) → b ≡ false → versioned (plain (state_of w)) v ≡ plain (state_of w)
+pub version_same : (w : World) (v : ℕ) (b : Bool) → b ≡ no_job (job_at w.jobs) → b ≡ false → with_version (plain (state_of w)) v ≡ plain (state_of w)
 version_same w v b e f = same_version (plain (state_of w)) v (empty_plain (state_of w) ∙ empty_raw w ∙ sym e ∙ f)
 
 -- and else the version is set
@@ -64,7 +64,7 @@ module _ (old new : World) (v : ℕ) (b : Bool) (test : b ≡ no_job (job_at old
   none_raw : no_job (state_of old).raw.jobs ≡ true
   none_raw = empty_raw old ∙ sym test ∙ empty
 
-  pub version_done : VersionBecomes old new v → Lands (state_of old) (state_of new) (Ok (versioned (state_of old).raw v))
+  pub version_done : VersionBecomes old new v → Lands (state_of old) (state_of new) (Ok (with_version (state_of old).raw v))
   version_done h =
       let to = version_state old new v h in
       record {
@@ -73,7 +73,7 @@ module _ (old new : World) (v : ℕ) (b : Bool) (test : b ≡ no_job (job_at old
       }
 
   version_made : VersionBecomes old new v → Made (state_of old) (state_of new) no_block (events.Version v)
-  unfolding calmed lined operate
+  unfolding after_calm lined operate
   version_made h =
       let to = version_state old new v h in
       record {
@@ -84,7 +84,7 @@ module _ (old new : World) (v : ℕ) (b : Bool) (test : b ≡ no_job (job_at old
         rest = (version_done h).rest;
       }
 
-  pub version_plain : VersionBecomes old new v → versioned (plain (state_of old)) v ≡ plain (state_of new)
+  pub version_plain : VersionBecomes old new v → with_version (plain (state_of old)) v ≡ plain (state_of new)
   version_plain h =
       version_lifted (state_of old) v ∙ ap (λ m. plain (with_raw (state_of old) m)) (version_set (state_of old).raw v none_raw) ∙ ap plain (sym (version_state old new v h))
 
@@ -127,37 +127,37 @@ symbols_state old new s x b = state_is _ _
     (λ k. ap (λ l. frame_at l.items k) b.frames) (λ k. ap (λ t. clear_at t k) b.core) (ap mark_of b.files)
 
 symbol_on : (w : World) (s : ℕ) (x : Symbol) (b : Bool) → is_some (job_at w.jobs s) ≡ true → b ≡ nat_lt (length (symbols_at w.symbols.items s)) most_symbols
-    → symbol_kept (state_of w).raw s x.0 x.1 ≡ symbol_kept_if (state_of w).raw s x b
-unfolding symbol_kept
+    → with_symbol_kept (state_of w).raw s x.0 x.1 ≡ with_symbol_kept_if (state_of w).raw s x b
+unfolding with_symbol_kept
 symbol_on w s x b some is =
     let had = job_of (job_at w.jobs s) some in
-    ap (symbol_kept_of (state_of w).raw s x) (raw_is w s had.0 had.1)
-    ∙ ap (λ (ss : List Symbol). symbol_kept_if (state_of w).raw s x (nat_lt (length ss) most_symbols)) (symbols_raw w s)
-    ∙ ap (symbol_kept_if (state_of w).raw s x) (sym is)
+    ap (with_symbol_kept_of (state_of w).raw s x) (raw_is w s had.0 had.1)
+    ∙ ap (λ (ss : List Symbol). with_symbol_kept_if (state_of w).raw s x (nat_lt (length ss) most_symbols)) (symbols_raw w s)
+    ∙ ap (with_symbol_kept_if (state_of w).raw s x) (sym is)
 
 module _ (old new : World) (s name a : ℕ) (b : Bool) where
   pub symbol_done : is_some (job_at old.jobs s) ≡ true → b ≡ nat_lt (length (symbols_at old.symbols.items s)) most_symbols → b ≡ true
-      → SymbolsBecome old new s (symbols_at old.symbols.items s ++ (name, a) ∷ []) → Lands (state_of old) (state_of new) (symbol_kept (state_of old).raw s name a)
+      → SymbolsBecome old new s (symbols_at old.symbols.items s ++ (name, a) ∷ []) → Lands (state_of old) (state_of new) (with_symbol_kept (state_of old).raw s name a)
   symbol_done some is t c =
       let e = symbols_state old new s (name, a) c in
       record {
-        is = symbol_on old s (name, a) b some is ∙ ap (symbol_kept_if (state_of old).raw s (name, a)) t ∙ ap (λ (x : State). Ok x.raw) (sym e);
+        is = symbol_on old s (name, a) b some is ∙ ap (with_symbol_kept_if (state_of old).raw s (name, a)) t ∙ ap (λ (x : State). Ok x.raw) (sym e);
         rest = e ∙ ap (λ (x : State). with_raw (state_of old) x.raw) (sym e);
       }
 
   symbol_made : is_some (job_at old.jobs s) ≡ true → b ≡ nat_lt (length (symbols_at old.symbols.items s)) most_symbols → b ≡ true
       → SymbolsBecome old new s (symbols_at old.symbols.items s ++ (name, a) ∷ []) → Made (state_of old) (state_of new) (block_of s) (events.Symbol name a)
-  unfolding calmed lined operate
+  unfolding after_calm lined operate
   symbol_made some is t c =
       let d = symbol_done some is t c in
       record { out = []; touched = nobody; block = block_of s; is = ap (λ r. Done (quietly (block_of s) r)) d.is; rest = d.rest }
 
   pub symbol_plain : Kept old → is_some (job_at old.jobs s) ≡ true → b ≡ nat_lt (length (symbols_at old.symbols.items s)) most_symbols → b ≡ true
-      → SymbolsBecome old new s (symbols_at old.symbols.items s ++ (name, a) ∷ []) → symbol_kept (plain (state_of old)) s name a ≡ Ok (plain (state_of new))
+      → SymbolsBecome old new s (symbols_at old.symbols.items s ++ (name, a) ∷ []) → with_symbol_kept (plain (state_of old)) s name a ≡ Ok (plain (state_of new))
   unfolding lined operate
   symbol_plain kept some is t c =
       let m = symbol_made some is t c in
-      quiet_by (symbol_kept (plain (state_of old)) s name a) (plain (state_of new)) m.out m.touched (block_of s) m.block
+      quiet_by (with_symbol_kept (plain (state_of old)) s name a) (plain (state_of new)) m.out m.touched (block_of s) m.block
       (made_plain (state_of old) (state_of new) (block_of s) (events.Symbol name a) kept.sound m)
 
   symbol_jobs : SymbolsBecome old new s (symbols_at old.symbols.items s ++ (name, a) ∷ []) → (k : ℕ) → (plain (state_of new)).jobs k ≡ (plain (state_of old)).jobs k
@@ -189,17 +189,17 @@ module _ (old new : World) (s name a : ℕ) (b : Bool) where
       (made_timed (state_of old) (state_of new) (block_of s) (events.Symbol name a) kept.sound kept.timed (symbol_made some is t c))
       (made_alarmed (state_of old) (state_of new) (block_of s) (events.Symbol name a) kept.sound kept.forest kept.alarmed (symbol_made some is t c))
 
-refused_here : (w : World) (s name a : ℕ) (x : Refusal) → symbol_kept (state_of w).raw s name a ≡ Err (reason_of x) → Refused (state_of w) (state_of w) (λ m. symbol_kept m s name a) x
+refused_here : (w : World) (s name a : ℕ) (x : Refusal) → with_symbol_kept (state_of w).raw s name a ≡ Err (reason_of x) → Refused (state_of w) (state_of w) (λ m. with_symbol_kept m s name a) x
 refused_here w s name a x h = record {
-  plain = error_is (symbol_kept (plain (state_of w)) s name a) (symbol_kept (state_of w).raw s name a) (reason_of x) (symbol_alike (state_of w) s name a) h;
+  plain = error_is (with_symbol_kept (plain (state_of w)) s name a) (with_symbol_kept (state_of w).raw s name a) (reason_of x) (symbol_alike (state_of w) s name a) h;
   raw = h;
   calmed = h;
 }
 
 pub symbol_full : (w : World) (s name a : ℕ) (b : Bool) → is_some (job_at w.jobs s) ≡ true → b ≡ nat_lt (length (symbols_at w.symbols.items s)) most_symbols → b ≡ false
-    → Refused (state_of w) (state_of w) (λ m. symbol_kept m s name a) refusals.Full
-symbol_full w s name a b some is f = refused_here w s name a refusals.Full (symbol_on w s (name, a) b some is ∙ ap (symbol_kept_if (state_of w).raw s (name, a)) f)
+    → Refused (state_of w) (state_of w) (λ m. with_symbol_kept m s name a) refusals.Full
+symbol_full w s name a b some is f = refused_here w s name a refusals.Full (symbol_on w s (name, a) b some is ∙ ap (with_symbol_kept_if (state_of w).raw s (name, a)) f)
 
-pub symbol_none : (w : World) (s name a : ℕ) (x : Refusal) → x ≡ refusals.NoJob → job_at w.jobs s ≡ None → Refused (state_of w) (state_of w) (λ m. symbol_kept m s name a) x
-unfolding symbol_kept
-symbol_none w s name a x is h = refused_here w s name a x (ap (symbol_kept_of (state_of w).raw s (name, a)) (raw_is_none w s h) ∙ ap (λ y. Err (reason_of y)) (sym is))
+pub symbol_none : (w : World) (s name a : ℕ) (x : Refusal) → x ≡ refusals.NoJob → job_at w.jobs s ≡ None → Refused (state_of w) (state_of w) (λ m. with_symbol_kept m s name a) x
+unfolding with_symbol_kept
+symbol_none w s name a x is h = refused_here w s name a x (ap (with_symbol_kept_of (state_of w).raw s (name, a)) (raw_is_none w s h) ∙ ap (λ y. Err (reason_of y)) (sym is))

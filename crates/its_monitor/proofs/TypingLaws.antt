@@ -9,10 +9,10 @@ use Rattle.its_print.specs.Printing as printed
 use Rattle.its_plain.specs.Machine.{Machine}
 use Rattle.its_plain.specs.Change.{on_console}
 use Rattle.its_plain.specs.Operator.{Block, no_block, Does, nobody}
-use Rattle.its_plain.specs.OperatorConsoles.{typed, dropped, drained}
+use Rattle.its_plain.specs.OperatorConsoles.{with_typed, dropped, after_drain}
 use Rattle.its_plain.specs.OperatorLines.{operate, Done, lined}
 use Rattle.its_stepped.specs.State.{State, plain}
-use Rattle.its_stepped.specs.Lines.{calmed, with_raw}
+use Rattle.its_stepped.specs.Lines.{after_calm, with_raw}
 use Rattle.its_world.specs.World.{console_at, state_of, typed_at, drained_at, ConsoleBecomes}
 use Rattle.its_world.specs.declared.world.World.{World}
 use Rattle.its_world.proofs.StateLaws.{console_state}
@@ -36,7 +36,7 @@ machine_done : (m n : Machine) (out front : List Line) (t u : ℕ → Bool) (a b
 machine_done m n out front t u a b h = cc
 
 module _ (old new : World) (c : ℕ) (f : Console → Console) (e : Event) (out : Machine → List Line)
-    (line : (m : Machine) → lined m no_block e ≡ Done (Does (on_console m c f) (out m) nobody no_block)) (calm : calmed (state_of old) no_block e ≡ state_of old)
+    (line : (m : Machine) → lined m no_block e ≡ Done (Does (on_console m c f) (out m) nobody no_block)) (calm : after_calm (state_of old) no_block e ≡ state_of old)
     (b : ConsoleBecomes old new c (f (console_at old.consoles.items c))) where
   lands : Lands (state_of old) (state_of new) (Ok (on_console (state_of old).raw c f))
   lands =
@@ -82,14 +82,14 @@ module _ (old new : World) (c x : ℕ) (b : ConsoleBecomes old new c (typed_at x
   unfolding lined operate
   type_line m = refl
 
-  type_calm : calmed (state_of old) no_block type_event ≡ state_of old
-  unfolding calmed
+  type_calm : after_calm (state_of old) no_block type_event ≡ state_of old
+  unfolding after_calm
   type_calm = refl
 
-  pub type_lands : Lands (state_of old) (state_of new) (Ok (typed c (x ∷ []) (state_of old).raw))
+  pub type_lands : Lands (state_of old) (state_of new) (Ok (with_typed c (x ∷ []) (state_of old).raw))
   type_lands = lands old new c (typed_at x) type_event type_out type_line type_calm b
 
-  pub type_plain : Kept old → plain (state_of new) ≡ typed c (x ∷ []) (plain (state_of old))
+  pub type_plain : Kept old → plain (state_of new) ≡ with_typed c (x ∷ []) (plain (state_of old))
   type_plain kept = plain_done old new c (typed_at x) type_event type_out type_line type_calm b kept
 
   pub type_kept : Kept old → Kept new
@@ -104,14 +104,14 @@ module _ (old new : World) (c : ℕ) (b : ConsoleBecomes old new c (drained_at (
   unfolding lined operate
   drain_line m = refl
 
-  drain_calm : calmed (state_of old) no_block (events.Drain c 1) ≡ state_of old
-  unfolding calmed
+  drain_calm : after_calm (state_of old) no_block (events.Drain c 1) ≡ state_of old
+  unfolding after_calm
   drain_calm = refl
 
-  pub drain_lands : Lands (state_of old) (state_of new) (Ok (drained c 1 (state_of old).raw))
+  pub drain_lands : Lands (state_of old) (state_of new) (Ok (after_drain c 1 (state_of old).raw))
   drain_lands = lands old new c drained_at (events.Drain c 1) drain_out drain_line drain_calm b
 
-  pub drain_plain : Kept old → plain (state_of new) ≡ drained c 1 (plain (state_of old))
+  pub drain_plain : Kept old → plain (state_of new) ≡ after_drain c 1 (plain (state_of old))
   drain_plain kept = plain_done old new c drained_at (events.Drain c 1) drain_out drain_line drain_calm b kept
 
   pub drain_kept : Kept old → Kept new

@@ -18,11 +18,11 @@ use Rattle.its_core.specs.Cores.{core_at, clear_at}
 use Rattle.its_jobs.specs.Table.{job_at, superior_at}
 use Rattle.its_plain.specs.Machine.{Whole, Machine, with_job}
 use Rattle.its_plain.specs.Operator.{Block, no_block, only, disturbs}
-use Rattle.its_plain.specs.OperatorJobs.{on_job, seen_word, word_seen, with_core, deposited_in, deposited}
+use Rattle.its_plain.specs.OperatorJobs.{on_job, seen_word, word_seen, with_core, after_deposit_in, after_deposit}
 use Rattle.its_plain.specs.OperatorLines.{operate, Done, lined}
 use Rattle.its_stepped.specs.State.{State, plain, seen}
 use Rattle.its_stepped.specs.Unwind.{unwound}
-use Rattle.its_stepped.specs.Lines.{calmed}
+use Rattle.its_stepped.specs.Lines.{after_calm}
 use Rattle.its_stepped.proofs.FrameLaws.{seen_present}
 use Rattle.its_stepped.proofs.LineLaws.{job_here}
 use Rattle.its_stepped.proofs.RefusalLaws.{error_of, deposited_alike}
@@ -141,40 +141,40 @@ core_kept e b old mid new s j c kept calm r made a =
 
 -- DEPOSIT
 deposited_on : (w : World) (s a x : ℕ) (j : Job) → job_at w.jobs s ≡ Some j
-    → deposited (state_of w).raw s a x
-    ≡ with_core (state_of w).raw s (raw_job w.files (core_at w.core s) j (superior_at w.jobs s) (alarm_at w.alarms.items s)) (deposited_in (core_at w.core s) a x (can_store (core_at w.core s) a) (is_some (word_at (core_at w.core s) a)))
-unfolding deposited
+    → after_deposit (state_of w).raw s a x
+    ≡ with_core (state_of w).raw s (raw_job w.files (core_at w.core s) j (superior_at w.jobs s) (alarm_at w.alarms.items s)) (after_deposit_in (core_at w.core s) a x (can_store (core_at w.core s) a) (is_some (word_at (core_at w.core s) a)))
+unfolding after_deposit
 deposited_on w s a x j h =
-    ap (on_job (state_of w).raw s (λ q. with_core (state_of w).raw s q (deposited_in q.core a x (can_store q.core a) (is_some (word_at q.core a))))) (raw_is w s j h)
+    ap (on_job (state_of w).raw s (λ q. with_core (state_of w).raw s q (after_deposit_in q.core a x (can_store q.core a) (is_some (word_at q.core a))))) (raw_is w s j h)
 
-deposited_lasts : (m n : Machine) (s a x : ℕ) → deposited m s a x ≡ Ok n → Lasts m → Lasts n
-unfolding deposited
+deposited_lasts : (m n : Machine) (s a x : ℕ) → after_deposit m s a x ≡ Ok n → Lasts m → Lasts n
+unfolding after_deposit
 deposited_lasts m n s a x is h = go (m.jobs s) refl is
   where
-    go : (o : Option Whole) → m.jobs s ≡ o → on_job m s (λ q. with_core m s q (deposited_in q.core a x (can_store q.core a) (is_some (word_at q.core a)))) o ≡ Ok n → Lasts n
-    go (Some q) at e = core_lasts m n s q (deposited_in q.core a x (can_store q.core a) (is_some (word_at q.core a))) at e h
+    go : (o : Option Whole) → m.jobs s ≡ o → on_job m s (λ q. with_core m s q (after_deposit_in q.core a x (can_store q.core a) (is_some (word_at q.core a)))) o ≡ Ok n → Lasts n
+    go (Some q) at e = core_lasts m n s q (after_deposit_in q.core a x (can_store q.core a) (is_some (word_at q.core a))) at e h
     go None at e = absurd cc
 
 module _ (old mid new : World) (s a x : ℕ) where
   pub deposit_done : Kept old → Calmed old mid s → can_store (core_at mid.core s) a ≡ true → CoreBecomes mid new s (store (core_at mid.core s) a x)
-      → Lands (unwound (state_of old) s) (state_of new) (deposited (unwound (state_of old) s).raw s a x)
-  deposit_done kept c can r = core_lands old mid new s c.job (store (core_at mid.core s) a x) (λ v. deposited v.raw s a x) c.calm r
+      → Lands (unwound (state_of old) s) (state_of new) (after_deposit (unwound (state_of old) s).raw s a x)
+  deposit_done kept c can r = core_lands old mid new s c.job (store (core_at mid.core s) a x) (λ v. after_deposit v.raw s a x) c.calm r
       (deposited_on mid s a x c.job c.calm.job
-      ∙ ap (λ b. with_core (state_of mid).raw s (raw_job mid.files (core_at mid.core s) c.job (superior_at mid.jobs s) (alarm_at mid.alarms.items s)) (deposited_in (core_at mid.core s) a x b (is_some (word_at (core_at mid.core s) a)))) can)
+      ∙ ap (λ b. with_core (state_of mid).raw s (raw_job mid.files (core_at mid.core s) c.job (superior_at mid.jobs s) (alarm_at mid.alarms.items s)) (after_deposit_in (core_at mid.core s) a x b (is_some (word_at (core_at mid.core s) a)))) can)
 
   deposit_made : Kept old → Calmed old mid s → can_store (core_at mid.core s) a ≡ true → CoreBecomes mid new s (store (core_at mid.core s) a x)
       → Made (state_of old) (state_of new) no_block (events.Deposit s a x)
-  unfolding calmed lined operate
+  unfolding after_calm lined operate
   deposit_made kept c can r =
       let l = deposit_done kept c can r in
       record { out = []; touched = only s; block = no_block; is = ap (λ m. Done (disturbs s no_block m)) l.is; rest = l.rest }
 
   pub deposit_plain : Kept old → Calmed old mid s → can_store (core_at mid.core s) a ≡ true → CoreBecomes mid new s (store (core_at mid.core s) a x)
-      → deposited (plain (state_of old)) s a x ≡ Ok (plain (state_of new))
+      → after_deposit (plain (state_of old)) s a x ≡ Ok (plain (state_of new))
   unfolding lined operate
   deposit_plain kept c can r =
       let m = deposit_made kept c can r in
-      disturbed s no_block (deposited (plain (state_of old)) s a x) (plain (state_of new)) m.out m.touched m.block (made_plain (state_of old) (state_of new) no_block (events.Deposit s a x) kept.sound m)
+      disturbed s no_block (after_deposit (plain (state_of old)) s a x) (plain (state_of new)) m.out m.touched m.block (made_plain (state_of old) (state_of new) no_block (events.Deposit s a x) kept.sound m)
 
   pub deposit_kept : Kept old → Calmed old mid s → can_store (core_at mid.core s) a ≡ true → CoreBecomes mid new s (store (core_at mid.core s) a x) → Kept new
   deposit_kept kept c can r = core_kept (events.Deposit s a x) no_block old mid new s c.job (store (core_at mid.core s) a x) kept c.calm r (deposit_made kept c can r)
@@ -205,29 +205,29 @@ bar_absent c a f h n = go (can_store c a) (word_at c a) h
     go false (Some v) e = absurd (n (let is : f ≡ Wro = cc in is))
     go false None e = refl
 
-barred : (m : Machine) (s : ℕ) (q : Whole) (c : Core) (a x : ℕ) (can there : Bool) (r : Refusal) → undepositable can there ≡ Some r → with_core m s q (deposited_in c a x can there) ≡ Err (reason_of r)
+barred : (m : Machine) (s : ℕ) (q : Whole) (c : Core) (a x : ℕ) (can there : Bool) (r : Refusal) → undepositable can there ≡ Some r → with_core m s q (after_deposit_in c a x can there) ≡ Err (reason_of r)
 barred m s q c a x true there r h = cc
 barred m s q c a x false true r h = let is : refusals.ReadOnly ≡ r = cc in ap (λ y. Err (reason_of y)) is
 barred m s q c a x false false r h = let is : refusals.NoPage ≡ r = cc in ap (λ y. Err (reason_of y)) is
 
 pub deposit_refused : (w : World) (s a x : ℕ) (o : Option Refusal) (r : Refusal) → is_some (job_at w.jobs s) ≡ true
-    → o ≡ undepositable (can_store (core_at w.core s) a) (is_some (word_at (core_at w.core s) a)) → o ≡ Some r → Kept w → Refused (state_of w) (unwound (state_of w) s) (λ m. deposited m s a x) r
+    → o ≡ undepositable (can_store (core_at w.core s) a) (is_some (word_at (core_at w.core s) a)) → o ≡ Some r → Kept w → Refused (state_of w) (unwound (state_of w) s) (λ m. after_deposit m s a x) r
 deposit_refused w s a x o r some is e kept =
     let had = job_of (job_at w.jobs s) some in
-    refused_by (λ m. deposited m s a x) (state_of w) s r (λ u. deposited_alike u s a x) kept.sound
+    refused_by (λ m. after_deposit m s a x) (state_of w) s r (λ u. deposited_alike u s a x) kept.sound
     (deposited_on w s a x had.0 had.1 ∙ barred (state_of w).raw s (raw_job w.files (core_at w.core s) had.0 (superior_at w.jobs s) (alarm_at w.alarms.items s)) (core_at w.core s) a x (can_store (core_at w.core s) a) (is_some (word_at (core_at w.core s) a)) r (sym is ∙ e))
 
-pub deposit_none : (w : World) (s a x : ℕ) (r : Refusal) → r ≡ refusals.NoJob → job_at w.jobs s ≡ None → Kept w → Refused (state_of w) (unwound (state_of w) s) (λ m. deposited m s a x) r
-unfolding deposited
-deposit_none w s a x r is h kept = refused_by (λ m. deposited m s a x) (state_of w) s r (λ u. deposited_alike u s a x) kept.sound
-    (ap (on_job (state_of w).raw s (λ q. with_core (state_of w).raw s q (deposited_in q.core a x (can_store q.core a) (is_some (word_at q.core a))))) (raw_is_none w s h) ∙ ap (λ y. Err (reason_of y)) (sym is))
+pub deposit_none : (w : World) (s a x : ℕ) (r : Refusal) → r ≡ refusals.NoJob → job_at w.jobs s ≡ None → Kept w → Refused (state_of w) (unwound (state_of w) s) (λ m. after_deposit m s a x) r
+unfolding after_deposit
+deposit_none w s a x r is h kept = refused_by (λ m. after_deposit m s a x) (state_of w) s r (λ u. deposited_alike u s a x) kept.sound
+    (ap (on_job (state_of w).raw s (λ q. with_core (state_of w).raw s q (after_deposit_in q.core a x (can_store q.core a) (is_some (word_at q.core a))))) (raw_is_none w s h) ∙ ap (λ y. Err (reason_of y)) (sym is))
 
-allowed : (m : Machine) (s : ℕ) (q : Whole) (c : Core) (a x : ℕ) (can there : Bool) → undepositable can there ≡ None → error_of (with_core m s q (deposited_in c a x can there)) ≡ None
+allowed : (m : Machine) (s : ℕ) (q : Whole) (c : Core) (a x : ℕ) (can there : Bool) → undepositable can there ≡ None → error_of (with_core m s q (after_deposit_in c a x can there)) ≡ None
 allowed m s q c a x true there h = refl
 allowed m s q c a x false true h = cc
 allowed m s q c a x false false h = cc
 
-can_by : (m : Machine) (s : ℕ) (q : Whole) (c : Core) (a x : ℕ) (can there : Bool) → error_of (with_core m s q (deposited_in c a x can there)) ≡ None → can ≡ true
+can_by : (m : Machine) (s : ℕ) (q : Whole) (c : Core) (a x : ℕ) (can there : Bool) → error_of (with_core m s q (after_deposit_in c a x can there)) ≡ None → can ≡ true
 can_by m s q c a x true there h = refl
 can_by m s q c a x false true h = cc
 can_by m s q c a x false false h = cc
@@ -238,6 +238,6 @@ deposit_can old mid s a o kept some c is e =
     let had = job_of (job_at old.jobs s) some in
     can_by (state_of mid).raw s (raw_job mid.files (core_at mid.core s) c.job (superior_at mid.jobs s) (alarm_at mid.alarms.items s)) (core_at mid.core s) a 0 (can_store (core_at mid.core s) a) (is_some (word_at (core_at mid.core s) a))
     (ap error_of (sym (deposited_on mid s a 0 c.job c.calm.job)) ∙ sym (deposited_alike (state_of mid) s a 0)
-    ∙ ap (λ (v : State). error_of (deposited (plain v) s a 0)) c.calm.unwinds ∙ ap (λ m. error_of (deposited m s a 0)) (unwound_plain (state_of old) s kept.sound)
+    ∙ ap (λ (v : State). error_of (after_deposit (plain v) s a 0)) c.calm.unwinds ∙ ap (λ m. error_of (after_deposit m s a 0)) (unwound_plain (state_of old) s kept.sound)
     ∙ deposited_alike (state_of old) s a 0 ∙ ap error_of (deposited_on old s a 0 had.0 had.1)
     ∙ allowed (state_of old).raw s (raw_job old.files (core_at old.core s) had.0 (superior_at old.jobs s) (alarm_at old.alarms.items s)) (core_at old.core s) a 0 (can_store (core_at old.core s) a) (is_some (word_at (core_at old.core s) a)) (sym is ∙ e))

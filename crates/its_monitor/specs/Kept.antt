@@ -5,7 +5,7 @@ use Rattle.its_word.specs.declared.session.Reason.{Reason}
 use Rattle.its_word.specs.declared.session.Refusal.{Refusal}
 use Rattle.its_word.specs.declared.session.Refusal.TheVariants as refusals
 use Rattle.its_word.specs.declared.jobs.Job.{Job}
-use Rattle.its_files.specs.Files.{helped}
+use Rattle.its_files.specs.Files.{after_help}
 use Rattle.its_core.specs.Frames.{Frames, frames_map, frames_reserve}
 use Rattle.its_jobs.specs.Table.{job_at}
 use Rattle.its_plain.specs.Machine.{Machine}
@@ -82,11 +82,11 @@ pub record Alters (old new : World) (m : Machine) : Type 0 where
 
 -- the pending parts of a close of a world are performed, and nothing else: jobs, cores, pages and their page frames are as they were
 abbrev pub CloseMade : World → World → Type 0
-CloseMade old new = OnlyStore old new (helped old.files)
+CloseMade old new = OnlyStore old new (after_help old.files)
 
 -- the pending parts of a close are performed
 pub record Helped (old new : World) : Type 0 where
   pub alone : CloseMade old new
-  pub files : new.files ≡ helped old.files
+  pub files : new.files ≡ after_help old.files
   pub state : state_of new ≡ help (state_of old)
   pub kept : Kept new

@@ -4,7 +4,7 @@ use Rattle.std.specs.Prelude.{◌==◌, ◌≡◌, ◌+◌, ◌-◌, ◌&&◌, �
 use Rattle.std.specs.List.{range_with_len}
 use Rattle.its_word.specs.Limits.{slots}
 use Rattle.its_plain.specs.Alarm.{is_due}
-use Rattle.its_plain.specs.OperatorClock.{alarm_in, due, due_slots, rung_if}
+use Rattle.its_plain.specs.OperatorClock.{alarm_in, due, due_slots, after_alarm_if}
 use Rattle.its_stepped.specs.Lines.{with_raw}
 use Rattle.its_stepped.specs.Sound.{Sound}
 use Rattle.its_stepped.specs.State.{State, plain}
@@ -29,7 +29,7 @@ pub record Rousing (c n : ℕ) (old new : World) : Type 0 where
 
 -- the alarms that are due at clock c of slots that pass a test have gone, and nothing else has changed
 pub record Rang (c : ℕ) (test : ℕ → Bool) (old new : State) : Type 0 where
-  pub jobs : (k : ℕ) → new.raw.jobs k ≡ rung_if c (test k && is_due c (alarm_in (old.raw.jobs k))) (old.raw.jobs k)
+  pub jobs : (k : ℕ) → new.raw.jobs k ≡ after_alarm_if c (test k && is_due c (alarm_in (old.raw.jobs k))) (old.raw.jobs k)
   pub rest : new ≡ with_raw old (record old.raw { jobs = new.raw.jobs })
 
 abbrev pub RangAt : ℕ → ℕ → State → State → Type 0

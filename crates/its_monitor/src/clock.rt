@@ -5,7 +5,7 @@ ghost use Rattle.its_jobs.specs.Table.{job_at};
 ghost use Rattle.its_plain.specs.Alarm.{is_due, time_after};
 ghost use Rattle.its_plain.specs.CallBasic.{longest_period};
 ghost use Rattle.its_plain.specs.Job.{ALR as ALR_BIT, with_pending};
-ghost use Rattle.its_plain.specs.OperatorClock.{clocked, clock_end, due_slots};
+ghost use Rattle.its_plain.specs.OperatorClock.{after_clock, clock_end, due_slots};
 ghost use Rattle.its_plain.specs.Own.{with_registers};
 ghost use Rattle.its_stepped.specs.Alarmed.{Periodic};
 ghost use Rattle.its_stepped.specs.Lines.{with_raw};
@@ -33,9 +33,9 @@ impl Monitor {
     #[tactic(auto, using(crate::proofs::ClockLaws::clock_refused))]
     pub fn advance(&mut self, n: u64) -> Result<(), Refusal>
         requires kept { Kept self.old.world }
-        ensures done { OnOk result (Lands (roused (state_of self.old.world) n) (state_of self.new.world) (clocked (roused (state_of self.old.world) n).raw n)) }
-        ensures plain { OnOk result (clocked (plain (state_of self.old.world)) n ≡ Ok (plain (state_of self.new.world))) }
-        ensures refused { IfErr result (λ e. Refused (state_of self.old.world) (roused (state_of self.old.world) n) (λ m. clocked m n) e) }
+        ensures done { OnOk result (Lands (roused (state_of self.old.world) n) (state_of self.new.world) (after_clock (roused (state_of self.old.world) n).raw n)) }
+        ensures plain { OnOk result (after_clock (plain (state_of self.old.world)) n ≡ Ok (plain (state_of self.new.world))) }
+        ensures refused { IfErr result (λ e. Refused (state_of self.old.world) (roused (state_of self.old.world) n) (λ m. after_clock m n) e) }
         ensures same { OnErr result (self.new ≡ self.old) }
         ensures pages { OnOk result (self.new.world.core.frames ≡ pages_unwound (due_slots (self.old.world.clock + n) (state_of self.old.world).raw.jobs) (state_of self.old.world) self.old.world.core.frames) }
         ensures kept { Kept self.new.world }

@@ -1,8 +1,8 @@
 ghost use Rattle.std.specs.Prelude.{◌≡◌, ◌<◌, true, Some, None, Ok, Err, IfSome, IfOk, OnOk, OnErr, IfErr, is_some, option_map, length, slice_get};
-ghost use Rattle.its_files.specs.Files.{entry_at, is_file, names_at, words_at, found, helped, directory, file_at, most_files};
+ghost use Rattle.its_files.specs.Files.{entry_at, is_file, names_at, words_at, found, after_help, directory, file_at, most_files};
 ghost use Rattle.its_plain.specs.Own.{names_of};
 ghost use Rattle.its_plain.specs.CallFile.{file_named};
-ghost use Rattle.its_plain.specs.OperatorFiles.{is_in, files_in, show_of, file_made, word_added};
+ghost use Rattle.its_plain.specs.OperatorFiles.{is_in, files_in, show_of, with_file_made, with_word_added};
 ghost use Rattle.its_stepped.specs.State.{plain};
 ghost use Rattle.its_stepped.specs.Unwind.{help};
 ghost use Rattle.its_world.specs.World.{state_of};
@@ -27,7 +27,7 @@ impl Monitor {
         ensures shown { result ≡ option_map show_of (slice_get (files_in d (plain (state_of self.old.world)).files) k) }
         ensures plain { plain (state_of self.new.world) ≡ plain (state_of self.old.world) }
         ensures state { state_of self.new.world ≡ help (state_of self.old.world) }
-        ensures files { self.new.world.files ≡ helped self.old.world.files }
+        ensures files { self.new.world.files ≡ after_help self.old.world.files }
         ensures alone { CloseMade self.old.world self.new.world }
         ensures kept { Kept self.new.world }
     {
@@ -48,7 +48,7 @@ impl Monitor {
         ensures refused { IfErr result (λ e. (e ≡ Refusal.NoFile) × (file_named (names_of d x y) (plain (state_of self.old.world)).files ≡ None)) }
         ensures plain { plain (state_of self.new.world) ≡ plain (state_of self.old.world) }
         ensures state { state_of self.new.world ≡ help (state_of self.old.world) }
-        ensures files { self.new.world.files ≡ helped self.old.world.files }
+        ensures files { self.new.world.files ≡ after_help self.old.world.files }
         ensures alone { CloseMade self.old.world self.new.world }
         ensures kept { Kept self.new.world }
     {
@@ -68,7 +68,7 @@ impl Monitor {
         ensures word { result ≡ word_if (is_file (entry_at self.new.world.files id)) (words_at self.new.world.files id) k }
         ensures plain { plain (state_of self.new.world) ≡ plain (state_of self.old.world) }
         ensures state { state_of self.new.world ≡ help (state_of self.old.world) }
-        ensures files { self.new.world.files ≡ helped self.old.world.files }
+        ensures files { self.new.world.files ≡ after_help self.old.world.files }
         ensures alone { CloseMade self.old.world self.new.world }
         ensures kept { Kept self.new.world }
     {
@@ -87,7 +87,7 @@ impl Monitor {
         ensures length { result ≡ length_if (is_file (entry_at self.new.world.files id)) (words_at self.new.world.files id) }
         ensures plain { plain (state_of self.new.world) ≡ plain (state_of self.old.world) }
         ensures state { state_of self.new.world ≡ help (state_of self.old.world) }
-        ensures files { self.new.world.files ≡ helped self.old.world.files }
+        ensures files { self.new.world.files ≡ after_help self.old.world.files }
         ensures alone { CloseMade self.old.world self.new.world }
         ensures kept { Kept self.new.world }
     {
@@ -104,13 +104,13 @@ impl Monitor {
     #[tactic(auto, using(crate::proofs::FileLaws::new_done, crate::proofs::FileLaws::new_plain, crate::proofs::FileLaws::new_kept, crate::proofs::FileLaws::new_exists, crate::proofs::FileLaws::new_full, crate::proofs::FileLaws::helped_unmarked))]
     pub fn file_new(&mut self, d: Word, x: Word, y: Word) -> Result<u32, Refusal>
         requires kept { Kept self.old.world }
-        ensures done { OnOk result (Lands (help (state_of self.old.world)) (state_of self.new.world) (file_made (help (state_of self.old.world)).raw (names_of d x y))) }
-        ensures plain { OnOk result (file_made (plain (state_of self.old.world)) (names_of d x y) ≡ Ok (plain (state_of self.new.world))) }
+        ensures done { OnOk result (Lands (help (state_of self.old.world)) (state_of self.new.world) (with_file_made (help (state_of self.old.world)).raw (names_of d x y))) }
+        ensures plain { OnOk result (with_file_made (plain (state_of self.old.world)) (names_of d x y) ≡ Ok (plain (state_of self.new.world))) }
         ensures file { IfOk result (λ id. is_file (entry_at self.new.world.files id) ≡ true) }
         ensures names { IfOk result (λ id. names_at self.new.world.files id ≡ names_of d x y) }
-        ensures refused { IfErr result (λ e. FileRefused (state_of self.old.world) (λ m. file_made m (names_of d x y)) e) }
+        ensures refused { IfErr result (λ e. FileRefused (state_of self.old.world) (λ m. with_file_made m (names_of d x y)) e) }
         ensures state { OnErr result (state_of self.new.world ≡ help (state_of self.old.world)) }
-        ensures files { OnErr result (self.new.world.files ≡ helped self.old.world.files) }
+        ensures files { OnErr result (self.new.world.files ≡ after_help self.old.world.files) }
         ensures alone { OnErr result (CloseMade self.old.world self.new.world) }
         ensures core { self.new.world.core ≡ self.old.world.core }
         ensures kept { Kept self.new.world }
@@ -130,15 +130,15 @@ impl Monitor {
     /// close are performed first.
     #[tactic(auto, using(crate::proofs::FileLaws::more_done, crate::proofs::FileLaws::more_plain, crate::proofs::FileLaws::more_refused, crate::proofs::FileLaws::helped_unmarked))]
     pub fn file_add(&mut self, id: u32, w: Word) -> Result<(), Refusal>
-        requires file { is_file (entry_at (helped self.old.world.files) id) ≡ true }
+        requires file { is_file (entry_at (after_help self.old.world.files) id) ≡ true }
         requires kept { Kept self.old.world }
-        ensures done { OnOk result (Lands (help (state_of self.old.world)) (state_of self.new.world) (word_added (help (state_of self.old.world)).raw (names_at (helped self.old.world.files) id) w)) }
-        ensures plain { OnOk result (word_added (plain (state_of self.old.world)) (names_at (helped self.old.world.files) id) w ≡ Ok (plain (state_of self.new.world))) }
+        ensures done { OnOk result (Lands (help (state_of self.old.world)) (state_of self.new.world) (with_word_added (help (state_of self.old.world)).raw (names_at (after_help self.old.world.files) id) w)) }
+        ensures plain { OnOk result (with_word_added (plain (state_of self.old.world)) (names_at (after_help self.old.world.files) id) w ≡ Ok (plain (state_of self.new.world))) }
         ensures file { is_file (entry_at self.new.world.files id) ≡ true }
-        ensures names { names_at self.new.world.files id ≡ names_at (helped self.old.world.files) id }
-        ensures refused { IfErr result (λ e. FileRefused (state_of self.old.world) (λ m. word_added m (names_at (helped self.old.world.files) id) w) e) }
+        ensures names { names_at self.new.world.files id ≡ names_at (after_help self.old.world.files) id }
+        ensures refused { IfErr result (λ e. FileRefused (state_of self.old.world) (λ m. with_word_added m (names_at (after_help self.old.world.files) id) w) e) }
         ensures state { OnErr result (state_of self.new.world ≡ help (state_of self.old.world)) }
-        ensures files { OnErr result (self.new.world.files ≡ helped self.old.world.files) }
+        ensures files { OnErr result (self.new.world.files ≡ after_help self.old.world.files) }
         ensures alone { OnErr result (CloseMade self.old.world self.new.world) }
         ensures core { self.new.world.core ≡ self.old.world.core }
         ensures kept { Kept self.new.world }
@@ -218,7 +218,7 @@ fn make_file(w: &mut World, d: Word, x: Word, y: Word) -> u32
     requires unmarked { w.old.files.mark ≡ None }
     requires few { length w.old.files.order < most_files }
     requires fresh { found w.old.files (names_of d x y) ≡ None }
-    ensures done { Lands (state_of w.old) (state_of w.new) (file_made (state_of w.old).raw (names_of d x y)) }
+    ensures done { Lands (state_of w.old) (state_of w.new) (with_file_made (state_of w.old).raw (names_of d x y)) }
     ensures file { is_file (entry_at w.new.files result) ≡ true }
     ensures names { names_at w.new.files result ≡ names_of d x y }
     ensures core { w.new.core ≡ w.old.core }
@@ -233,8 +233,8 @@ fn add_word(w: &mut World, id: u32, word: Word) -> Result<(), Refusal>
     requires kept { Kept w.old }
     requires unmarked { w.old.files.mark ≡ None }
     requires file { is_file (entry_at w.old.files id) ≡ true }
-    ensures done { OnOk result (Lands (state_of w.old) (state_of w.new) (word_added (state_of w.old).raw (names_at w.old.files id) word)) }
-    ensures refused { IfErr result (λ e. word_added (state_of w.old).raw (names_at w.old.files id) word ≡ Err (reason_of e)) }
+    ensures done { OnOk result (Lands (state_of w.old) (state_of w.new) (with_word_added (state_of w.old).raw (names_at w.old.files id) word)) }
+    ensures refused { IfErr result (λ e. with_word_added (state_of w.old).raw (names_at w.old.files id) word ≡ Err (reason_of e)) }
     ensures file { is_file (entry_at w.new.files id) ≡ true }
     ensures names { names_at w.new.files id ≡ names_at w.old.files id }
     ensures core { w.new.core ≡ w.old.core }

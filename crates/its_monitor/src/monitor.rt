@@ -6,7 +6,7 @@ ghost use Rattle.its_plain.specs.Turns.{runs};
 ghost use Rattle.its_plain.specs.Licence.{Licensed};
 ghost use Rattle.its_stepped.specs.State.{plain, no_state};
 ghost use Rattle.its_stepped.specs.Tick.{tick};
-ghost use Rattle.its_stepped.specs.Lines.{paces_of, ticked};
+ghost use Rattle.its_stepped.specs.Lines.{paces_of, after_ticks};
 ghost use Rattle.its_world.specs.Filed.{Blocked};
 ghost use Rattle.its_world.specs.World.{frame_at, state_of};
 ghost use Rattle.its_tick.specs.Kept.{Kept};
@@ -60,7 +60,7 @@ impl Monitor {
         requires slot { slot < slots }
         requires kept { Kept self.old.world }
         ensures few { result ≤ n }
-        ensures state { state_of self.new.world ≡ ticked (state_of self.old.world) slot result }
+        ensures state { state_of self.new.world ≡ after_ticks (state_of self.old.world) slot result }
         ensures paces { paces_of (state_of self.old.world) slot result ≡ replicate result Pace.Step }
         ensures most { result < n → unit_due (state_of self.new.world) slot ≡ false }
         ensures pages { self.new.world.core.frames ≡ self.old.world.core.frames }

@@ -2,7 +2,7 @@ ghost use Rattle.std.specs.Prelude.{◌≡◌, ◌<◌, ◌≤◌, ◌+◌, ◌^
 ghost use Rattle.its_word.specs.Core.{page_of, with_page, marked};
 ghost use Rattle.its_word.specs.Limits.{slots};
 ghost use Rattle.its_core.specs.Cores.{core_at};
-ghost use Rattle.its_plain.specs.OperatorJobs.{any_barred, is_barred, page_protected, words_barred};
+ghost use Rattle.its_plain.specs.OperatorJobs.{any_barred, is_barred, with_page_protected, words_barred};
 ghost use Rattle.its_stepped.specs.State.{plain};
 ghost use Rattle.its_stepped.specs.Unwind.{unwound};
 ghost use Rattle.its_world.specs.World.{state_of, CoreBecomes};
@@ -20,9 +20,9 @@ impl Monitor {
     pub fn read_only(&mut self, slot: u8, page: u8) -> Result<(), Refusal>
         requires slot { slot < slots }
         requires kept { Kept self.old.world }
-        ensures done { OnOk result (Lands (unwound (state_of self.old.world) slot) (state_of self.new.world) (page_protected (unwound (state_of self.old.world) slot).raw slot page)) }
-        ensures plain { OnOk result (page_protected (plain (state_of self.old.world)) slot page ≡ Ok (plain (state_of self.new.world))) }
-        ensures refused { IfErr result (λ e. Refused (state_of self.old.world) (unwound (state_of self.old.world) slot) (λ m. page_protected m slot page) e) }
+        ensures done { OnOk result (Lands (unwound (state_of self.old.world) slot) (state_of self.new.world) (with_page_protected (unwound (state_of self.old.world) slot).raw slot page)) }
+        ensures plain { OnOk result (with_page_protected (plain (state_of self.old.world)) slot page ≡ Ok (plain (state_of self.new.world))) }
+        ensures refused { IfErr result (λ e. Refused (state_of self.old.world) (unwound (state_of self.old.world) slot) (λ m. with_page_protected m slot page) e) }
         ensures same { OnErr result (self.new ≡ self.old) }
         ensures cores { OnOk result (CoresOff self.old.world self.new.world slot) }
         ensures kept { Kept self.new.world }

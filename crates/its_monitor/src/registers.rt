@@ -2,7 +2,7 @@ ghost use Rattle.std.specs.Prelude.{◌≡◌, ◌<◌, ◌^◌, true, false, So
 ghost use Rattle.its_word.specs.Limits.{slots};
 ghost use Rattle.its_jobs.specs.Table.{job_at};
 ghost use Rattle.its_plain.specs.Job.{pc_word};
-ghost use Rattle.its_plain.specs.OperatorJobs.{on_registers, started, stopped, continued, interrupted, state_shown, shown};
+ghost use Rattle.its_plain.specs.OperatorJobs.{on_registers, after_go, after_stop, after_cont, after_int, state_shown, shown};
 ghost use Rattle.its_stepped.specs.State.{plain};
 ghost use Rattle.its_stepped.specs.Unwind.{unwound};
 ghost use Rattle.its_world.specs.World.{state_of};
@@ -22,9 +22,9 @@ impl Monitor {
         requires slot { slot < slots }
         requires address { a < 2 ^ 18 }
         requires kept { Kept self.old.world }
-        ensures done { OnOk result (Lands (unwound (state_of self.old.world) slot) (state_of self.new.world) (on_registers (unwound (state_of self.old.world) slot).raw slot (started a))) }
-        ensures plain { OnOk result (on_registers (plain (state_of self.old.world)) slot (started a) ≡ Ok (plain (state_of self.new.world))) }
-        ensures refused { IfErr result (λ e. Refused (state_of self.old.world) (unwound (state_of self.old.world) slot) (λ m. on_registers m slot (started a)) e) }
+        ensures done { OnOk result (Lands (unwound (state_of self.old.world) slot) (state_of self.new.world) (on_registers (unwound (state_of self.old.world) slot).raw slot (after_go a))) }
+        ensures plain { OnOk result (on_registers (plain (state_of self.old.world)) slot (after_go a) ≡ Ok (plain (state_of self.new.world))) }
+        ensures refused { IfErr result (λ e. Refused (state_of self.old.world) (unwound (state_of self.old.world) slot) (λ m. on_registers m slot (after_go a)) e) }
         ensures same { OnErr result (self.new ≡ self.old) }
         ensures cores { OnOk result (CoresOff self.old.world self.new.world slot) }
         ensures kept { Kept self.new.world }
@@ -43,9 +43,9 @@ impl Monitor {
     pub fn stop(&mut self, slot: u8) -> Result<(), Refusal>
         requires slot { slot < slots }
         requires kept { Kept self.old.world }
-        ensures done { OnOk result (Lands (unwound (state_of self.old.world) slot) (state_of self.new.world) (on_registers (unwound (state_of self.old.world) slot).raw slot stopped)) }
-        ensures plain { OnOk result (on_registers (plain (state_of self.old.world)) slot stopped ≡ Ok (plain (state_of self.new.world))) }
-        ensures refused { IfErr result (λ e. Refused (state_of self.old.world) (unwound (state_of self.old.world) slot) (λ m. on_registers m slot stopped) e) }
+        ensures done { OnOk result (Lands (unwound (state_of self.old.world) slot) (state_of self.new.world) (on_registers (unwound (state_of self.old.world) slot).raw slot after_stop)) }
+        ensures plain { OnOk result (on_registers (plain (state_of self.old.world)) slot after_stop ≡ Ok (plain (state_of self.new.world))) }
+        ensures refused { IfErr result (λ e. Refused (state_of self.old.world) (unwound (state_of self.old.world) slot) (λ m. on_registers m slot after_stop) e) }
         ensures same { OnErr result (self.new ≡ self.old) }
         ensures cores { OnOk result (CoresOff self.old.world self.new.world slot) }
         ensures kept { Kept self.new.world }
@@ -62,9 +62,9 @@ impl Monitor {
     pub fn cont(&mut self, slot: u8) -> Result<(), Refusal>
         requires slot { slot < slots }
         requires kept { Kept self.old.world }
-        ensures done { OnOk result (Lands (unwound (state_of self.old.world) slot) (state_of self.new.world) (on_registers (unwound (state_of self.old.world) slot).raw slot continued)) }
-        ensures plain { OnOk result (on_registers (plain (state_of self.old.world)) slot continued ≡ Ok (plain (state_of self.new.world))) }
-        ensures refused { IfErr result (λ e. Refused (state_of self.old.world) (unwound (state_of self.old.world) slot) (λ m. on_registers m slot continued) e) }
+        ensures done { OnOk result (Lands (unwound (state_of self.old.world) slot) (state_of self.new.world) (on_registers (unwound (state_of self.old.world) slot).raw slot after_cont)) }
+        ensures plain { OnOk result (on_registers (plain (state_of self.old.world)) slot after_cont ≡ Ok (plain (state_of self.new.world))) }
+        ensures refused { IfErr result (λ e. Refused (state_of self.old.world) (unwound (state_of self.old.world) slot) (λ m. on_registers m slot after_cont) e) }
         ensures same { OnErr result (self.new ≡ self.old) }
         ensures cores { OnOk result (CoresOff self.old.world self.new.world slot) }
         ensures kept { Kept self.new.world }
@@ -80,9 +80,9 @@ impl Monitor {
     pub fn interrupt(&mut self, slot: u8, v: Word, w: Word) -> Result<(), Refusal>
         requires slot { slot < slots }
         requires kept { Kept self.old.world }
-        ensures done { OnOk result (Lands (unwound (state_of self.old.world) slot) (state_of self.new.world) (on_registers (unwound (state_of self.old.world) slot).raw slot (interrupted v w))) }
-        ensures plain { OnOk result (on_registers (plain (state_of self.old.world)) slot (interrupted v w) ≡ Ok (plain (state_of self.new.world))) }
-        ensures refused { IfErr result (λ e. Refused (state_of self.old.world) (unwound (state_of self.old.world) slot) (λ m. on_registers m slot (interrupted v w)) e) }
+        ensures done { OnOk result (Lands (unwound (state_of self.old.world) slot) (state_of self.new.world) (on_registers (unwound (state_of self.old.world) slot).raw slot (after_int v w))) }
+        ensures plain { OnOk result (on_registers (plain (state_of self.old.world)) slot (after_int v w) ≡ Ok (plain (state_of self.new.world))) }
+        ensures refused { IfErr result (λ e. Refused (state_of self.old.world) (unwound (state_of self.old.world) slot) (λ m. on_registers m slot (after_int v w)) e) }
         ensures same { OnErr result (self.new ≡ self.old) }
         ensures cores { OnOk result (CoresOff self.old.world self.new.world slot) }
         ensures kept { Kept self.new.world }
@@ -137,7 +137,7 @@ fn calmed(w: &mut World, slot: u8) -> Result<Job, Refusal>
 
 /// A job that runs, with no fatal bit pending.
 fn continued(job: Job) -> Job
-    ensures { result ≡ continued job }
+    ensures { result ≡ after_cont job }
 {
     Job {
         stopped: false,
@@ -148,7 +148,7 @@ fn continued(job: Job) -> Job
 
 /// A job with more bits pending.
 fn interrupted(job: Job, v: Word, x: Word) -> Job
-    ensures { result ≡ interrupted v x job }
+    ensures { result ≡ after_int v x job }
 {
     Job {
         pend1: job.pend1 | v,

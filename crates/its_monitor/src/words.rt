@@ -4,7 +4,7 @@ ghost use Rattle.its_word.specs.Core.{store, can_store, word_at, page_of, with_p
 ghost use Rattle.its_core.specs.Cores.{core_at, clear_at};
 ghost use Rattle.its_core.specs.Frames.{frames_map, frames_reserve};
 ghost use Rattle.its_jobs.specs.Table.{job_at};
-ghost use Rattle.its_plain.specs.OperatorJobs.{word_loaded, word_seen, deposited};
+ghost use Rattle.its_plain.specs.OperatorJobs.{with_word_loaded, word_seen, after_deposit};
 ghost use Rattle.its_plain.specs.Machine.{core_of};
 ghost use Rattle.its_stepped.specs.State.{plain};
 ghost use Rattle.its_stepped.specs.Unwind.{unwound};
@@ -54,9 +54,9 @@ impl Monitor {
         requires slot { slot < slots }
         requires address { a < 2 ^ 18 }
         requires kept { Kept self.old.world }
-        ensures done { OnOk result (Lands (unwound (state_of self.old.world) slot) (state_of self.new.world) (deposited (unwound (state_of self.old.world) slot).raw slot a w)) }
-        ensures plain { OnOk result (deposited (plain (state_of self.old.world)) slot a w ≡ Ok (plain (state_of self.new.world))) }
-        ensures refused { IfErr result (λ e. Refused (state_of self.old.world) (unwound (state_of self.old.world) slot) (λ m. deposited m slot a w) e) }
+        ensures done { OnOk result (Lands (unwound (state_of self.old.world) slot) (state_of self.new.world) (after_deposit (unwound (state_of self.old.world) slot).raw slot a w)) }
+        ensures plain { OnOk result (after_deposit (plain (state_of self.old.world)) slot a w ≡ Ok (plain (state_of self.new.world))) }
+        ensures refused { IfErr result (λ e. Refused (state_of self.old.world) (unwound (state_of self.old.world) slot) (λ m. after_deposit m slot a w) e) }
         ensures same { OnErr result (self.new ≡ self.old) }
         ensures cores { OnOk result (CoresOff self.old.world self.new.world slot) }
         ensures kept { Kept self.new.world }
@@ -79,9 +79,9 @@ impl Monitor {
         requires slot { slot < slots }
         requires address { a < 2 ^ 18 }
         requires kept { Kept self.old.world }
-        ensures done { OnOk result (Lands (unwound (state_of self.old.world) slot) (state_of self.new.world) (word_loaded (unwound (state_of self.old.world) slot).raw slot a w)) }
-        ensures plain { OnOk result (word_loaded (plain (state_of self.old.world)) slot a w ≡ Ok (plain (state_of self.new.world))) }
-        ensures refused { IfErr result (λ e. Refused (state_of self.old.world) (unwound (state_of self.old.world) slot) (λ m. word_loaded m slot a w) e) }
+        ensures done { OnOk result (Lands (unwound (state_of self.old.world) slot) (state_of self.new.world) (with_word_loaded (unwound (state_of self.old.world) slot).raw slot a w)) }
+        ensures plain { OnOk result (with_word_loaded (plain (state_of self.old.world)) slot a w ≡ Ok (plain (state_of self.new.world))) }
+        ensures refused { IfErr result (λ e. Refused (state_of self.old.world) (unwound (state_of self.old.world) slot) (λ m. with_word_loaded m slot a w) e) }
         ensures same { OnErr result (self.new ≡ self.old) }
         ensures pages { OnOk result (self.new.world.core.frames ≡ frames_loaded (is_some (word_at (core_of ((unwound (state_of self.old.world) slot).raw.jobs slot)) a)) slot (a / 1024) (frames_after (clear_at self.old.world.core slot) None slot self.old.world.core.frames)) }
         ensures kept { Kept self.new.world }

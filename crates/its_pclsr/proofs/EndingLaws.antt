@@ -17,9 +17,9 @@ use Rattle.its_frame.specs.declared.frame.Ending.{Ending}
 use Rattle.its_frame.specs.declared.frame.Frame.{Frame}
 use Rattle.its_frame.specs.declared.frame.Frame.TheVariants as frames
 use Rattle.its_plain.specs.Change.{poke}
-use Rattle.its_plain.specs.Own.{with_stores, left_with, leave}
+use Rattle.its_plain.specs.Own.{with_stores, after_exit, after_leave}
 use Rattle.its_stepped.specs.State.{Part, Mark, State, mine, with_slot, same, reserving, ending}
-use Rattle.its_stepped.specs.Unwind.{due, with_part, settled, unwind_by, unwind_one}
+use Rattle.its_stepped.specs.Unwind.{due, with_part, after_settling, unwind_by, unwind_one}
 use Rattle.its_stepped.specs.Sound.{Owes, backs, EndingPays, MarkBy, Sound, file_parts, parts_in_frame}
 use Rattle.its_calls.specs.Calls.{after_step, ending_in}
 use Rattle.its_calls.specs.Steps.{is_file}
@@ -154,8 +154,8 @@ step_taken old new s b o some sound own frame first =
     }
 
 left_by_some : (old new : World) (s : ℕ) (e : Exit) (o : Option Job) → job_at old.jobs s ≡ o → is_some o ≡ true → frame_at old.frames.items s ≡ None
-    → IfSome o (λ j. JobBecomes old new s (left_with e j)) → state_of new ≡ with_slot (state_of old) s (leave e) None
-left_by_some old new s e (Some j) h some none b = left_slot old new s j e None h (subst (λ f. Becomes old new s (core_at old.core s) (Some (left_with e j)) f (clear_at old.core s)) none b)
+    → IfSome o (λ j. JobBecomes old new s (after_exit e j)) → state_of new ≡ with_slot (state_of old) s (after_leave e) None
+left_by_some old new s e (Some j) h some none b = left_slot old new s j e None h (subst (λ f. Becomes old new s (core_at old.core s) (Some (after_exit e j)) f (clear_at old.core s)) none b)
 left_by_some old new s e None h some none b = cc
 
 -- and performed
@@ -182,9 +182,9 @@ module _ (old mid : World) (s : ℕ) (o : Owed) (t : Taken old mid s o) (sound :
   page_there e = subst (Head (core_at mid.core s) (clear_at mid.core s)) e head_there
 
   -- the row of what is taken
-  settled_row : (p : Owed) → o ≡ p → settled (state_of old) s t.site t.ask (p ∷ t.rest) ≡ unwind_one (state_of old) s
+  settled_row : (p : Owed) → o ≡ p → after_settling (state_of old) s t.site t.ask (p ∷ t.rest) ≡ unwind_one (state_of old) s
   settled_row p e =
-      ap (settled (state_of old) s t.site t.ask) (ap (λ (x : Owed). x ∷ t.rest) (sym e) ∙ sym t.first)
+      ap (after_settling (state_of old) s t.site t.ask) (ap (λ (x : Owed). x ∷ t.rest) (sym e) ∙ sym t.first)
       ∙ sym (row_at old s (ending t.site t.ask t.owed) t.here)
 
   pub store_row : (new : World) (at w : ℕ) → o ≡ owed.Store at w → CoreBecomes mid new s (stored (core_at mid.core s) (poke at w ∷ [])) → state_of new ≡ unwind_one (state_of old) s
@@ -204,18 +204,18 @@ module _ (old mid : World) (s : ℕ) (o : Owed) (t : Taken old mid s o) (sound :
   pub part_row : (new : World) (p : Owed) → o ≡ p → is_file p ≡ true → NextMade mid new → state_of new ≡ unwind_one (state_of old) s
   part_row new p e file b = b.row ∙ ap (λ (w : State). with_part w.mark w) mid_state ∙ by p file ∙ settled_row p e
     where
-      by : (q : Owed) → is_file q ≡ true → with_part (state_of old).mark (with_slot (state_of old) s same (Some (ending t.site t.ask t.rest))) ≡ settled (state_of old) s t.site t.ask (q ∷ t.rest)
+      by : (q : Owed) → is_file q ≡ true → with_part (state_of old).mark (with_slot (state_of old) s same (Some (ending t.site t.ask t.rest))) ≡ after_settling (state_of old) s t.site t.ask (q ∷ t.rest)
       by Unlink h = refl
       by Link h = refl
       by Free h = refl
       by _ h = cc
 
-  pub leave_row : (low new : World) (e : Exit) → o ≡ Leave e → FrameBecomes mid low s None → IfSome (job_at low.jobs s) (λ j. JobBecomes low new s (left_with e j)) → state_of new ≡ unwind_one (state_of old) s
+  pub leave_row : (low new : World) (e : Exit) → o ≡ Leave e → FrameBecomes mid low s None → IfSome (job_at low.jobs s) (λ j. JobBecomes low new s (after_exit e j)) → state_of new ≡ unwind_one (state_of old) s
   leave_row low new e is b h =
       left_by_some low new s e (job_at low.jobs s) refl (ap is_some b.job.here ∙ taken_job) b.frame.here h
-      ∙ ap (λ (w : State). with_slot w s (leave e) None) (kept_slot mid low s None taken_job b ∙ ap (λ (w : State). with_slot w s same None) mid_state)
-      ∙ retaken (with_slot (state_of old) s same (Some (ending t.site t.ask t.rest))) s None None (leave e)
-      ∙ retaken (state_of old) s (Some (ending t.site t.ask t.rest)) None (leave e)
+      ∙ ap (λ (w : State). with_slot w s (after_leave e) None) (kept_slot mid low s None taken_job b ∙ ap (λ (w : State). with_slot w s same None) mid_state)
+      ∙ retaken (with_slot (state_of old) s same (Some (ending t.site t.ask t.rest))) s None None (after_leave e)
+      ∙ retaken (state_of old) s (Some (ending t.site t.ask t.rest)) None (after_leave e)
       ∙ settled_row (Leave e) is
 
   -- a file step that is due is the next part of the close of the call

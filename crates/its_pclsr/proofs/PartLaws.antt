@@ -2,7 +2,7 @@
 use Rattle.std.specs.Prelude.{◌≡◌, ◌<◌, Option, Some, None, List, [], ◌∷◌, refl}
 use Rattle.std.proofs.Common.{sym, ap, ◌∙◌, subst}
 use Rattle.its_core.specs.Cores.{core_at}
-use Rattle.its_files.specs.Files.{Store, IsStore, directory, unlinked_at, linked_at, freed_at}
+use Rattle.its_files.specs.Files.{Store, IsStore, directory, after_unlink_old_at, after_link_new_at, after_free_old_at}
 use Rattle.its_jobs.specs.Table.{job_at}
 use Rattle.its_stepped.specs.State.{Part, UnlinkOld, LinkNew, FreeOld, Mark, State}
 use Rattle.its_stepped.specs.Unwind.{with_part}
@@ -26,9 +26,9 @@ store_state old new stays core jobs frames consoles holders clock alarms version
 
 -- nothing is marked
 none_made : (p : Part) (s : Store) → s.mark ≡ None → made p s ≡ s
-none_made UnlinkOld s e = ap (λ m. unlinked_at m s) e
-none_made LinkNew s e = ap (λ m. linked_at m s) e
-none_made FreeOld s e = ap (λ m. freed_at m s) e
+none_made UnlinkOld s e = ap (λ m. after_unlink_old_at m s) e
+none_made LinkNew s e = ap (λ m. after_link_new_at m s) e
+none_made FreeOld s e = ap (λ m. after_free_old_at m s) e
 
 none_state : (w : State) (s : Store) (p : Part) (m : Option Mark) → w.mark ≡ m → m ≡ None → w.raw.files ≡ directory s → w.mark ≡ mark_of s → s.mark ≡ None
     → record w { raw = record w.raw { files = directory (made p s) }; mark = mark_of (made p s) } ≡ with_part w.mark w

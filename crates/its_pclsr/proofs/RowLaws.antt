@@ -21,7 +21,7 @@ use Rattle.its_plain.specs.CallStep.{deposited, with_held}
 use Rattle.its_plain.specs.Own.{with_stores}
 use Rattle.its_word.specs.Stores.{place, stored}
 use Rattle.its_stepped.specs.State.{State, held_at, with_slot, same, reserving, asked, holding}
-use Rattle.its_stepped.specs.Unwind.{first_debt, paid, given_back}
+use Rattle.its_stepped.specs.Unwind.{first_debt, paid, after_giving_back}
 use Rattle.its_stepped.specs.Sound.{Stored, MovingPays}
 use Rattle.its_calls.specs.Calls.{gone_to, request_in}
 use Rattle.its_calls.specs.declared.call.Next.{Next}
@@ -94,11 +94,11 @@ first_can c [] t h e = cc
 first_can c (x ∷ ss) t h e = let is : x ≡ t = cc in subst (λ (y : Store). can_store c (place y) ≡ true) is h.0
 
 -- a call that has reserved a page gives it back; one that has reserved none pays
-pub page_backed : (w : State) (s n : ℕ) (t : Site) (a : Ask) (page : Option ℕ) → is_some page ≡ true → reserving (with_slot w s same (Some (asked t a))) s None ≡ given_back w s t a page n
+pub page_backed : (w : State) (s n : ℕ) (t : Site) (a : Ask) (page : Option ℕ) → is_some page ≡ true → reserving (with_slot w s same (Some (asked t a))) s None ≡ after_giving_back w s t a page n
 page_backed w s n t a (Some p) some = refl
 page_backed w s n t a None some = cc
 
-pub none_backed : (w : State) (s n : ℕ) (t : Site) (a : Ask) (page : Option ℕ) → is_some page ≡ false → paid w s a n (holding t a None) ≡ given_back w s t a page n
+pub none_backed : (w : State) (s n : ℕ) (t : Site) (a : Ask) (page : Option ℕ) → is_some page ≡ false → paid w s a n (holding t a None) ≡ after_giving_back w s t a page n
 none_backed w s n t a (Some p) none = cc
 none_backed w s n t a None none = refl
 

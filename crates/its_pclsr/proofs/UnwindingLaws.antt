@@ -18,7 +18,7 @@ use Rattle.its_plain.specs.Arguments.{input, debts}
 use Rattle.its_plain.specs.CallStep.{deposited}
 use Rattle.its_stepped.specs.State.{State, plain, seen, held_at, with_slot, same, entered, parsed, asked, holding, waiting, moving}
 use Rattle.its_plain.specs.Machine.{Whole, Machine}
-use Rattle.its_stepped.specs.Unwind.{first_debt, given_back, unwind_by, unwind_one, left, unwind_times, unwound}
+use Rattle.its_stepped.specs.Unwind.{first_debt, after_giving_back, unwind_by, unwind_one, left, unwind_times, unwound}
 use Rattle.its_stepped.specs.OneChange.{OneChange}
 use Rattle.its_stepped.specs.Sound.{Pays, HoldingPays, WaitingPays, MovingPays, SoundBy, Sound}
 use Rattle.its_stepped.specs.SlotSame.{SlotSame}
@@ -98,7 +98,7 @@ module _ (old : World) (s : ℕ) (x : View) (e : frame_seen x ≡ frame_at old.f
     there : frame_at old.frames.items s ≡ Some (holding t.now a.now page n)
     there = at (views.Holding t a page n) i
 
-    given : given_back (state_of old) s t.now a.now page n ≡ unwind_one (state_of old) s
+    given : after_giving_back (state_of old) s t.now a.now page n ≡ unwind_one (state_of old) s
     given = sym (row_at old s (holding t.now a.now page n) there)
 
     pub holding_backed : (new : World) → is_some page ≡ true

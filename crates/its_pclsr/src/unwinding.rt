@@ -5,7 +5,7 @@ ghost use Rattle.its_jobs.specs.Table.{job_at};
 ghost use Rattle.its_plain.specs.Arguments.{input};
 ghost use Rattle.its_plain.specs.CallStep.{deposited};
 ghost use Rattle.its_calls.specs.Calls.{ending_in, gone_to, request_in};
-ghost use Rattle.its_plain.specs.Own.{left_with};
+ghost use Rattle.its_plain.specs.Own.{after_exit};
 ghost use Rattle.its_word.specs.Core.{can_store};
 ghost use Rattle.its_word.specs.Stores.{place, stored};
 ghost use Rattle.its_stepped.specs.State.{UnlinkOld, LinkNew, FreeOld, asked, held_at, holding, plain, seen};
@@ -245,7 +245,7 @@ fn leave(w: &mut World, slot: u8, e: Exit)
     requires slot { slot < slots }
     requires job { is_some (job_at w.old.jobs slot) ≡ true }
     requires tidy { Tidy w.old }
-    ensures made { IfSome (job_at w.old.jobs slot) (λ j. JobBecomes w.old w.new slot (left_with e j)) }
+    ensures made { IfSome (job_at w.old.jobs slot) (λ j. JobBecomes w.old w.new slot (after_exit e j)) }
     ensures cores { CoresOff w.old w.new slot }
     ensures tidy { Tidy w.new }
 {
@@ -256,7 +256,7 @@ fn leave(w: &mut World, slot: u8, e: Exit)
 
 /// Registers with those of an exit.
 fn left_with(job: Job, e: &Exit) -> Job
-    ensures { result ≡ left_with e.now job }
+    ensures { result ≡ after_exit e.now job }
 {
     Job {
         pc: e.pc,

@@ -5,7 +5,7 @@ ghost use Rattle.its_word.specs.Only.{Only};
 ghost use Rattle.its_word.specs.Tree.{least_free};
 ghost use Rattle.its_jobs.specs.Table.{in_tree, superior_at};
 ghost use Rattle.its_plain.specs.CallLink.{has_link_names, is_crowded, is_dry, is_end_closed, is_ended, is_unread, link_named, words_in};
-ghost use Rattle.its_plain.specs.Change.{end_closed, ends_left, if_alive, link_or_new, with_end_opened, with_received, with_sent};
+ghost use Rattle.its_plain.specs.Change.{after_end_close, ends_after_removal, if_alive, link_or_new, with_end_opened, with_received, with_sent};
 ghost use Rattle.its_pipes.specs.Pipes.{link_in, no_queue, piped, queue_at};
 
 use super::ends::{is_alive, is_closed, is_named, link_left, new_link, with_end};
@@ -164,7 +164,7 @@ impl Pipes {
     /// Closes an end of a link, if the number has one. A link without an open end is gone with its words.
     pub fn part(&mut self, l: u8, write: bool)
         requires { l < most_links }
-        ensures { Only (piped self.old) (piped self.new) l (end_closed write (piped self.old l)) }
+        ensures { Only (piped self.old) (piped self.new) l (after_end_close write (piped self.old l)) }
     {
         if let Some(link) = self.link(l) {
             self.put_alive(l, with_end(link, write, End::Closed));
@@ -232,7 +232,7 @@ impl Pipes {
     /// Closes each end that is open at a job of a tree. A link that then has no open end is gone with its words.
     #[tactic(auto, using(crate::proofs::SweepLaws::sweep_start, crate::proofs::SweepLaws::sweep_next, crate::proofs::SweepLaws::sweep_end))]
     pub fn leave_links(&mut self, jobs: &Jobs, root: u8)
-        ensures { (l : ℕ) → piped self.new l ≡ ends_left (in_tree (superior_at jobs.now) root) (piped self.old l) }
+        ensures { (l : ℕ) → piped self.new l ≡ ends_after_removal (in_tree (superior_at jobs.now) root) (piped self.old l) }
     {
         self.bounds();
         for l in 0..LINKS as u8 {
@@ -243,7 +243,7 @@ impl Pipes {
     /// The same of one link.
     fn leave_link(&mut self, jobs: &Jobs, root: u8, l: u8)
         requires { l < most_links }
-        ensures { Only (piped self.old) (piped self.new) l (ends_left (in_tree (superior_at jobs.now) root) (piped self.old l)) }
+        ensures { Only (piped self.old) (piped self.new) l (ends_after_removal (in_tree (superior_at jobs.now) root) (piped self.old l)) }
     {
         if let Some(link) = self.link(l) {
             self.put_alive(l, link_left(jobs, root, link));

@@ -15,16 +15,16 @@ use Rattle.its_word.specs.declared.show.JobShow.{JobShow}
 use Rattle.its_word.proofs.FreeLaws.{least_empty, least_below, no_job_there}
 use Rattle.its_plain.specs.Machine.{Names, File, Chan, Console, Whole, Machine, changed, with_job, mapped, limit}
 use Rattle.its_plain.specs.Operator.{Block, Refuses, Does, Ticks, Quits, and_then, disturbs, quietly}
-use Rattle.its_plain.specs.OperatorJobs.{new_job, held_by, loaded_in, loaded, stored, with_core, word_loaded_of, word_loaded, words_stored, words_barred, words_loaded_if, words_loaded, page_protected_in, page_protected, on_job, with_registers, on_registers, started, interrupted, stopped, continued, examined, state_shown, deposited_in, deposited}
-use Rattle.its_plain.specs.OperatorSymbols.{symbol_kept_if, symbol_kept_of, symbol_kept}
-use Rattle.its_plain.specs.OperatorVersion.{versioned}
-use Rattle.its_plain.specs.Change.{protected}
+use Rattle.its_plain.specs.OperatorJobs.{new_job, held_by, after_load_in, after_load, with_stored, with_core, with_word_loaded_of, with_word_loaded, with_words_stored, words_barred, with_words_loaded_if, with_words_loaded, with_page_protected_in, with_page_protected, on_job, with_registers, on_registers, after_go, after_int, after_stop, after_cont, examined, state_shown, after_deposit_in, after_deposit}
+use Rattle.its_plain.specs.OperatorSymbols.{with_symbol_kept_if, with_symbol_kept_of, with_symbol_kept}
+use Rattle.its_plain.specs.OperatorVersion.{with_version}
+use Rattle.its_plain.specs.Change.{with_protection}
 use Rattle.its_plain.specs.OperatorLines.{by_load, by_exam, in_a_line, by_state, by_clock, operate, shows, Lined, Done, Peeks, peeked_at, lined}
 use Rattle.its_plain.specs.Own.{names_of}
 use Rattle.its_plain.specs.CallFile.{most_files, is_full, file_named, has_file}
-use Rattle.its_plain.specs.OperatorFiles.{channels_of, with_files, file_made_if, file_made, word_added_if, word_added_to, word_added, words_added, file_shown}
-use Rattle.its_plain.specs.OperatorClock.{alarm_in, due, rung, rung_if, at_clock, clock_end, clocked_if, clocked}
-use Rattle.its_plain.specs.OperatorConsoles.{typed, drained}
+use Rattle.its_plain.specs.OperatorFiles.{channels_of, with_files, with_file_made_if, with_file_made, with_word_added_if, with_word_added_to, with_word_added, with_words_added, file_shown}
+use Rattle.its_plain.specs.OperatorClock.{alarm_in, due, after_alarm, after_alarm_if, at_clock, clock_end, after_clock_if, after_clock}
+use Rattle.its_plain.specs.OperatorConsoles.{with_typed, after_drain}
 use Rattle.its_print.specs.Printing.{Line, listed}
 
 -- what no line changes of a job
@@ -166,60 +166,60 @@ registers_alike m s f same = go (m.jobs s) refl
     go (Some q) is = put_alike m s q (record q { job = f q.job }) is (same q) refl
     go None is = tt
 
-deposited_alike : (m : Machine) (s a w : ℕ) → AlikeBy m (deposited m s a w)
-unfolding deposited
+deposited_alike : (m : Machine) (s a w : ℕ) → AlikeBy m (after_deposit m s a w)
+unfolding after_deposit
 deposited_alike m s a w = go (m.jobs s) refl
   where
     go : (o : Option Whole) → m.jobs s ≡ o
-        → AlikeBy m (on_job m s (λ q. with_core m s q (deposited_in q.core a w (can_store q.core a) (is_some (word_at q.core a)))) o)
-    go (Some q) is = core_alike m s q (deposited_in q.core a w (can_store q.core a) (is_some (word_at q.core a))) is
+        → AlikeBy m (on_job m s (λ q. with_core m s q (after_deposit_in q.core a w (can_store q.core a) (is_some (word_at q.core a)))) o)
+    go (Some q) is = core_alike m s q (after_deposit_in q.core a w (can_store q.core a) (is_some (word_at q.core a))) is
     go None is = tt
 
-word_alike_of : (m : Machine) (s a w : ℕ) (o : Option Whole) → m.jobs s ≡ o → AlikeBy m (word_loaded_of m s a w o)
-word_alike_of m s a w (Some q) is = core_alike m s q (stored (mapped m) q.core a w) is
+word_alike_of : (m : Machine) (s a w : ℕ) (o : Option Whole) → m.jobs s ≡ o → AlikeBy m (with_word_loaded_of m s a w o)
+word_alike_of m s a w (Some q) is = core_alike m s q (with_stored (mapped m) q.core a w) is
 word_alike_of m s a w None is = tt
 
-word_alike : (m : Machine) (s a w : ℕ) → AlikeBy m (word_loaded m s a w)
-unfolding word_loaded
+word_alike : (m : Machine) (s a w : ℕ) → AlikeBy m (with_word_loaded m s a w)
+unfolding with_word_loaded
 word_alike m s a w = word_alike_of m s a w (m.jobs s) refl
 
 alike_further : (m n : Machine) (r : Result Machine Reason) → Alike m n → AlikeBy n r → AlikeBy m r
 alike_further m n (Ok l) a b = alike_then m n l a b
 alike_further m n (Err r) a b = tt
 
-stored_alike : (m : Machine) (s a : ℕ) (ws : List ℕ) → AlikeBy m (words_stored m s a ws)
+stored_alike : (m : Machine) (s a : ℕ) (ws : List ℕ) → AlikeBy m (with_words_stored m s a ws)
 stored_alike m s a [] = alike_same m
-stored_alike m s a (w ∷ ws) = go (word_loaded m s a w) (word_alike m s a w) (λ n. stored_alike n s (a + 1) ws)
+stored_alike m s a (w ∷ ws) = go (with_word_loaded m s a w) (word_alike m s a w) (λ n. stored_alike n s (a + 1) ws)
   where
-    go : (r : Result Machine Reason) → AlikeBy m r → ((n : Machine) → AlikeBy n (words_stored n s (a + 1) ws)) → AlikeBy m (and_then r (λ n. words_stored n s (a + 1) ws))
-    go (Ok n) first h = alike_further m n (words_stored n s (a + 1) ws) first (h n)
+    go : (r : Result Machine Reason) → AlikeBy m r → ((n : Machine) → AlikeBy n (with_words_stored n s (a + 1) ws)) → AlikeBy m (and_then r (λ n. with_words_stored n s (a + 1) ws))
+    go (Ok n) first h = alike_further m n (with_words_stored n s (a + 1) ws) first (h n)
     go (Err r) first h = tt
 
-words_alike_if : (m : Machine) (s a : ℕ) (ws : List ℕ) (barred : Bool) → AlikeBy m (words_loaded_if m s a ws barred)
+words_alike_if : (m : Machine) (s a : ℕ) (ws : List ℕ) (barred : Bool) → AlikeBy m (with_words_loaded_if m s a ws barred)
 words_alike_if m s a ws true = tt
 words_alike_if m s a ws false = stored_alike m s a ws
 
-words_alike : (m : Machine) (s a : ℕ) (ws : List ℕ) → AlikeBy m (words_loaded m s a ws)
-unfolding words_loaded
+words_alike : (m : Machine) (s a : ℕ) (ws : List ℕ) → AlikeBy m (with_words_loaded m s a ws)
+unfolding with_words_loaded
 words_alike m s a ws = words_alike_if m s a ws (words_barred m s a (length ws))
 
-page_alike : (m : Machine) (s k : ℕ) → AlikeBy m (page_protected m s k)
-unfolding page_protected
+page_alike : (m : Machine) (s k : ℕ) → AlikeBy m (with_page_protected m s k)
+unfolding with_page_protected
 page_alike m s k = go (m.jobs s) refl
   where
-    put : (q : Whole) (o : Option Page) → m.jobs s ≡ Some q → AlikeBy m (page_protected_in m s k q o)
-    put q (Some p) is = put_alike m s q (protected k false q) is refl refl
+    put : (q : Whole) (o : Option Page) → m.jobs s ≡ Some q → AlikeBy m (with_page_protected_in m s k q o)
+    put q (Some p) is = put_alike m s q (with_protection k false q) is refl refl
     put q None is = tt
 
-    go : (o : Option Whole) → m.jobs s ≡ o → AlikeBy m (on_job m s (λ q. page_protected_in m s k q (page_of q.core k)) o)
+    go : (o : Option Whole) → m.jobs s ≡ o → AlikeBy m (on_job m s (λ q. with_page_protected_in m s k q (page_of q.core k)) o)
     go (Some q) is = put q (page_of q.core k) is
     go None is = tt
 
-symbol_alike : (m : Machine) (s name a : ℕ) → AlikeBy m (symbol_kept m s name a)
-unfolding symbol_kept
+symbol_alike : (m : Machine) (s name a : ℕ) → AlikeBy m (with_symbol_kept m s name a)
+unfolding with_symbol_kept
 symbol_alike m s name a = go (m.jobs s)
   where
-    put : (room : Bool) → AlikeBy m (symbol_kept_if m s (name, a) room)
+    put : (room : Bool) → AlikeBy m (with_symbol_kept_if m s (name, a) room)
     put true = record {
       slots = λ k. refl;
       alarms = λ k. refl;
@@ -232,7 +232,7 @@ symbol_alike m s name a = go (m.jobs s)
     }
     put false = tt
 
-    go : (o : Option Whole) → AlikeBy m (symbol_kept_of m s (name, a) o)
+    go : (o : Option Whole) → AlikeBy m (with_symbol_kept_of m s (name, a) o)
     go (Some q) = put (nat_lt (length (m.symbols s)) most_symbols)
     go None = tt
 
@@ -246,8 +246,8 @@ quiet_keeps m b (Ok n) h = alike_keeps m n h
 quiet_keeps m b (Err r) h = tt
 
 -- VERSION changes the version alone, if no slot has a job
-version_keeps : (m : Machine) (v : ℕ) → LineKeeps m (versioned m v)
-unfolding versioned
+version_keeps : (m : Machine) (v : ℕ) → LineKeeps m (with_version m v)
+unfolding with_version
 version_keeps m v = elim (cases_Bool (no_job m.jobs)) [
   | inl is ↦ rw is (record {
     slots = λ k. Stays refl;
@@ -305,7 +305,7 @@ holder_kept m n u j c s k none is holds = elim (cases_eq k c) [
   | inr ne ↦ Keeps (holds k ∙ rw (ne_eqb k c ne) refl)
 ]
 
-load_keeps : (m : Machine) (b : Block) (u j : ℕ) (console o : Option ℕ) → least_free (limit m) m.jobs ≡ o → LineKeepsBy m (Done (by_load b (loaded_in m u j console o)))
+load_keeps : (m : Machine) (b : Block) (u j : ℕ) (console o : Option ℕ) → least_free (limit m) m.jobs ≡ o → LineKeepsBy m (Done (by_load b (after_load_in m u j console o)))
 load_keeps m b u j (Some c) (Some s) is = record {
   slots = λ k. made_slots m u j (Some c) s k is;
   few = λ k l e. made_few m (new_job u j (Some c)) s k is l e;
@@ -335,7 +335,7 @@ console_kept m c k y h = elim (cases_eq k c) [
   | inr ne ↦ rw (ne_eqb k c ne) (Quiet refl)
 ]
 
-typed_keeps : (m : Machine) (c : ℕ) (bytes : List ℕ) → LineKeeps m (typed c bytes m)
+typed_keeps : (m : Machine) (c : ℕ) (bytes : List ℕ) → LineKeeps m (with_typed c bytes m)
 typed_keeps m c bytes = record {
   slots = λ k. Stays refl;
   few = λ k l e. e;
@@ -347,7 +347,7 @@ typed_keeps m c bytes = record {
   links = refl;
 }
 
-drained_keeps : (m : Machine) (c n : ℕ) → LineKeeps m (drained c n m)
+drained_keeps : (m : Machine) (c n : ℕ) → LineKeeps m (after_drain c n m)
 drained_keeps m c n = record {
   slots = λ k. Stays refl;
   few = λ k l e. e;
@@ -360,16 +360,16 @@ drained_keeps m c n = record {
 }
 
 -- CLOCK: ALR and a next time are no part of the face of a job
-rung_face : (c : ℕ) (b : Bool) (o : Option Whole) → option_map face (rung_if c b o) ≡ option_map face o
+rung_face : (c : ℕ) (b : Bool) (o : Option Whole) → option_map face (after_alarm_if c b o) ≡ option_map face o
 rung_face c true (Some q) = refl
 rung_face c true None = refl
 rung_face c false o = refl
 
-rung_few : (c : ℕ) (b : Bool) (o : Option Whole) → o ≡ None → rung_if c b o ≡ None
-rung_few c true o e = ap (option_map (rung c)) e
+rung_few : (c : ℕ) (b : Bool) (o : Option Whole) → o ≡ None → after_alarm_if c b o ≡ None
+rung_few c true o e = ap (option_map (after_alarm c)) e
 rung_few c false o e = e
 
-clock_keeps : (m : Machine) (b : Block) (n : ℕ) (fits : Bool) → nat_lt (m.clock + n) clock_end ≡ fits → LineKeepsBy m (Done (by_clock m b n (clocked_if m n fits)))
+clock_keeps : (m : Machine) (b : Block) (n : ℕ) (fits : Bool) → nat_lt (m.clock + n) clock_end ≡ fits → LineKeepsBy m (Done (by_clock m b n (after_clock_if m n fits)))
 clock_keeps m b n true is = record {
   slots = λ k. Stays (rung_face (m.clock + n) (due (m.clock + n) m.jobs k) (m.jobs k));
   few = λ k l e. rung_few (m.clock + n) (due (m.clock + n) m.jobs k) (m.jobs k) e;
@@ -403,56 +403,56 @@ file_keeps : (m : Machine) (b : Block) (r : Result Machine Reason) → FilesAlon
 file_keeps m b (Ok n) h = subst (LineKeeps m) (sym h) (files_keep m n.files)
 file_keeps m b (Err r) h = tt
 
-pub made_files : (m : Machine) (n : Names) → FilesAlone m (file_made m n)
-unfolding file_made
+pub made_files : (m : Machine) (n : Names) → FilesAlone m (with_file_made m n)
+unfolding with_file_made
 made_files m n = made_files_by m n (has_file n m.files) (nat_lt (length m.files) most_files)
   where
-    made_files_by : (m : Machine) (n : Names) (there room : Bool) → FilesAlone m (file_made_if m n there room)
+    made_files_by : (m : Machine) (n : Names) (there room : Bool) → FilesAlone m (with_file_made_if m n there room)
     made_files_by m n true room = tt
     made_files_by m n false true = refl
     made_files_by m n false false = tt
 
-word_files_if : (m : Machine) (n : Names) (w : ℕ) (full : Bool) → FilesAlone m (word_added_if m n w full)
+word_files_if : (m : Machine) (n : Names) (w : ℕ) (full : Bool) → FilesAlone m (with_word_added_if m n w full)
 word_files_if m n w true = tt
 word_files_if m n w false = refl
 
-word_files_to : (m : Machine) (n : Names) (w : ℕ) (o : Option File) → FilesAlone m (word_added_to m n w o)
+word_files_to : (m : Machine) (n : Names) (w : ℕ) (o : Option File) → FilesAlone m (with_word_added_to m n w o)
 word_files_to m n w (Some f) = word_files_if m n w (is_full m.files (channels_of m) f.words)
 word_files_to m n w None = refl
 
-pub word_files : (m : Machine) (n : Names) (w : ℕ) → FilesAlone m (word_added m n w)
-unfolding word_added
+pub word_files : (m : Machine) (n : Names) (w : ℕ) → FilesAlone m (with_word_added m n w)
+unfolding with_word_added
 word_files m n w = word_files_to m n w (file_named n m.files)
 
 then_files : (m n : Machine) (r : Result Machine Reason) → n ≡ with_files m n.files → FilesAlone n r → FilesAlone m r
 then_files m n (Ok k) h g = g ∙ ap (λ (x : Machine). with_files x k.files) h
 then_files m n (Err r) h g = tt
 
-added_next : (m : Machine) (names : Names) (ws : List ℕ) (r : Result Machine Reason) → FilesAlone m r → ((n : Machine) → FilesAlone n (words_added n names ws))
-    → FilesAlone m (and_then r (λ k. words_added k names ws))
-added_next m names ws (Ok n) h g = then_files m n (words_added n names ws) h (g n)
+added_next : (m : Machine) (names : Names) (ws : List ℕ) (r : Result Machine Reason) → FilesAlone m r → ((n : Machine) → FilesAlone n (with_words_added n names ws))
+    → FilesAlone m (and_then r (λ k. with_words_added k names ws))
+added_next m names ws (Ok n) h g = then_files m n (with_words_added n names ws) h (g n)
 added_next m names ws (Err r) h g = tt
 
-pub added_files : (m : Machine) (n : Names) (ws : List ℕ) → FilesAlone m (words_added m n ws)
+pub added_files : (m : Machine) (n : Names) (ws : List ℕ) → FilesAlone m (with_words_added m n ws)
 added_files m n [] = refl
-added_files m n (w ∷ ws) = added_next m n ws (word_added m n w) (word_files m n w) (λ k. added_files k n ws)
+added_files m n (w ∷ ws) = added_next m n ws (with_word_added m n w) (word_files m n w) (λ k. added_files k n ws)
 
 shown_keeps : (m : Machine) (b : Block) (r : Result (List Line) Reason) → LineKeepsBy m (Done (shows m b r))
 shown_keeps m b (Ok out) = alike_keeps m m (alike_same m)
 shown_keeps m b (Err r) = tt
 
 pub line_keeps : (m : Machine) (b : Block) (e : Event) → LineKeepsBy m (lined m b e)
-unfolding lined operate loaded clocked
+unfolding lined operate after_load after_clock
 line_keeps m b (events.Load u j console) = load_keeps m b u j console (least_free (limit m) m.jobs) refl
-line_keeps m b (events.Words a words) = disturbs_keeps m b.slot b (words_loaded m b.slot a words.items) (words_alike m b.slot a words.items)
+line_keeps m b (events.Words a words) = disturbs_keeps m b.slot b (with_words_loaded m b.slot a words.items) (words_alike m b.slot a words.items)
 line_keeps m b (events.Version v) = version_keeps m v
-line_keeps m b (events.ReadOnly page) = disturbs_keeps m b.slot b (page_protected m b.slot page) (page_alike m b.slot page)
-line_keeps m b (events.Symbol name a) = quiet_keeps m b (symbol_kept m b.slot name a) (symbol_alike m b.slot name a)
-line_keeps m b (events.Go a) = disturbs_keeps m b.slot b (on_registers m b.slot (started a)) (registers_alike m b.slot (started a) (λ q. refl))
-line_keeps m b (events.Int s x y) = disturbs_keeps m s b (on_registers m s (interrupted x y)) (registers_alike m s (interrupted x y) (λ q. refl))
-line_keeps m b (events.Stop s) = disturbs_keeps m s b (on_registers m s stopped) (registers_alike m s stopped (λ q. refl))
-line_keeps m b (events.Cont s) = disturbs_keeps m s b (on_registers m s continued) (registers_alike m s continued (λ q. refl))
-line_keeps m b (events.Deposit s a x) = disturbs_keeps m s b (deposited m s a x) (deposited_alike m s a x)
+line_keeps m b (events.ReadOnly page) = disturbs_keeps m b.slot b (with_page_protected m b.slot page) (page_alike m b.slot page)
+line_keeps m b (events.Symbol name a) = quiet_keeps m b (with_symbol_kept m b.slot name a) (symbol_alike m b.slot name a)
+line_keeps m b (events.Go a) = disturbs_keeps m b.slot b (on_registers m b.slot (after_go a)) (registers_alike m b.slot (after_go a) (λ q. refl))
+line_keeps m b (events.Int s x y) = disturbs_keeps m s b (on_registers m s (after_int x y)) (registers_alike m s (after_int x y) (λ q. refl))
+line_keeps m b (events.Stop s) = disturbs_keeps m s b (on_registers m s after_stop) (registers_alike m s after_stop (λ q. refl))
+line_keeps m b (events.Cont s) = disturbs_keeps m s b (on_registers m s after_cont) (registers_alike m s after_cont (λ q. refl))
+line_keeps m b (events.Deposit s a x) = disturbs_keeps m s b (after_deposit m s a x) (deposited_alike m s a x)
 line_keeps m b (events.Exam s a n) = exam_keeps m b s (in_a_line s a) (examined m s a n)
 line_keeps m b (events.List s a n) = exam_keeps m b s (listed s a) (examined m s a n)
 line_keeps m b (events.State s) = show_keeps m b s (state_shown m s)
@@ -460,8 +460,8 @@ line_keeps m b (events.Clock n) = clock_keeps m b n (nat_lt (m.clock + n) clock_
 line_keeps m b (events.Peek s) = peek_keeps m s (m.jobs s)
 line_keeps m b (events.Tick s n) = tt
 line_keeps m b events.End = tt
-line_keeps m b (events.File d x y) = file_keeps m (record b { file = names_of d x y }) (file_made m (names_of d x y)) (made_files m (names_of d x y))
-line_keeps m b (events.Append words) = file_keeps m b (words_added m b.file words.items) (added_files m b.file words.items)
+line_keeps m b (events.File d x y) = file_keeps m (record b { file = names_of d x y }) (with_file_made m (names_of d x y)) (made_files m (names_of d x y))
+line_keeps m b (events.Append words) = file_keeps m b (with_words_added m b.file words.items) (added_files m b.file words.items)
 line_keeps m b (events.TypeIn c bytes) = typed_keeps m c bytes.items
 line_keeps m b (events.Drain c n) = drained_keeps m c n
 line_keeps m b (events.Show d x y) = shown_keeps m b (file_shown m d x y)

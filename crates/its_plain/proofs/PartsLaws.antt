@@ -13,16 +13,16 @@ use Rattle.its_word.specs.declared.show.JobShow.{JobShow}
 use Rattle.its_word.proofs.FreeLaws.{least_empty}
 use Rattle.its_print.specs.Printing.{Line, listed}
 use Rattle.its_plain.specs.CallFile.{most_files, is_full, file_named, has_file}
-use Rattle.its_plain.specs.Change.{protected}
+use Rattle.its_plain.specs.Change.{with_protection}
 use Rattle.its_plain.specs.Integrity.{Parts, no_part, job_part, console_part, file_part, touched, OnlyParts}
 use Rattle.its_plain.specs.Machine.{Names, File, Console, Whole, Machine, changed, with_job, mapped, limit}
 use Rattle.its_plain.specs.Operator.{Block, Does, and_then, disturbs, quietly}
-use Rattle.its_plain.specs.OperatorClock.{clock_end, clocked_if, clocked}
-use Rattle.its_plain.specs.OperatorFiles.{channels_of, with_files, file_made_if, file_made, word_added_if, word_added_to, word_added, words_added, file_shown}
-use Rattle.its_plain.specs.OperatorJobs.{held_by, loaded_in, loaded, stored, with_core, word_loaded_of, word_loaded, words_stored, words_barred, words_loaded_if, words_loaded, page_protected_in, page_protected, on_job, with_registers, on_registers, started, interrupted, stopped, continued, examined, state_shown, deposited_in, deposited}
+use Rattle.its_plain.specs.OperatorClock.{clock_end, after_clock_if, after_clock}
+use Rattle.its_plain.specs.OperatorFiles.{channels_of, with_files, with_file_made_if, with_file_made, with_word_added_if, with_word_added_to, with_word_added, with_words_added, file_shown}
+use Rattle.its_plain.specs.OperatorJobs.{held_by, after_load_in, after_load, with_stored, with_core, with_word_loaded_of, with_word_loaded, with_words_stored, words_barred, with_words_loaded_if, with_words_loaded, with_page_protected_in, with_page_protected, on_job, with_registers, on_registers, after_go, after_int, after_stop, after_cont, examined, state_shown, after_deposit_in, after_deposit}
 use Rattle.its_plain.specs.OperatorLines.{by_load, by_exam, in_a_line, by_state, by_clock, operate, shows, Lined, Done, peeked_at, lined}
-use Rattle.its_plain.specs.OperatorSymbols.{symbol_kept_if, symbol_kept_of, symbol_kept}
-use Rattle.its_plain.specs.OperatorVersion.{versioned}
+use Rattle.its_plain.specs.OperatorSymbols.{with_symbol_kept_if, with_symbol_kept_of, with_symbol_kept}
+use Rattle.its_plain.specs.OperatorVersion.{with_version}
 use Rattle.its_plain.specs.Own.{names_of}
 
 -- a line that changes the jobs alone
@@ -85,27 +85,27 @@ core_parts : (m : Machine) (s : ℕ) (q : Whole) (r : Result Core Reason) → Pa
 core_parts m s q (Ok c) = one_job m s (record q { core = c })
 core_parts m s q (Err r) = tt
 
-word_parts : (m : Machine) (s a w : ℕ) → PartsBy (job_part s) m (word_loaded m s a w)
-unfolding word_loaded
+word_parts : (m : Machine) (s a w : ℕ) → PartsBy (job_part s) m (with_word_loaded m s a w)
+unfolding with_word_loaded
 word_parts m s a w = go (m.jobs s)
   where
-    go : (o : Option Whole) → PartsBy (job_part s) m (word_loaded_of m s a w o)
-    go (Some q) = core_parts m s q (stored (mapped m) q.core a w)
+    go : (o : Option Whole) → PartsBy (job_part s) m (with_word_loaded_of m s a w o)
+    go (Some q) = core_parts m s q (with_stored (mapped m) q.core a w)
     go None = tt
 
 then_parts : (p : Parts) (m : Machine) (r : Result Machine Reason) (next : Machine → Result Machine Reason) → PartsBy p m r → ((n : Machine) → PartsBy p n (next n)) → PartsBy p m (and_then r next)
 then_parts p m (Ok n) next h more = parts_then p m n (next n) h (more n)
 then_parts p m (Err r) next h more = tt
 
-stored_parts : (ws : List ℕ) (m : Machine) (s a : ℕ) → PartsBy (job_part s) m (words_stored m s a ws)
+stored_parts : (ws : List ℕ) (m : Machine) (s a : ℕ) → PartsBy (job_part s) m (with_words_stored m s a ws)
 stored_parts [] m s a = only_same (job_part s) m
-stored_parts (w ∷ ws) m s a = then_parts (job_part s) m (word_loaded m s a w) _ (word_parts m s a w) (λ n. stored_parts ws n s (a + 1))
+stored_parts (w ∷ ws) m s a = then_parts (job_part s) m (with_word_loaded m s a w) _ (word_parts m s a w) (λ n. stored_parts ws n s (a + 1))
 
-loaded_parts : (m : Machine) (s a : ℕ) (ws : List ℕ) → PartsBy (job_part s) m (words_loaded m s a ws)
-unfolding words_loaded
+loaded_parts : (m : Machine) (s a : ℕ) (ws : List ℕ) → PartsBy (job_part s) m (with_words_loaded m s a ws)
+unfolding with_words_loaded
 loaded_parts m s a ws = go (words_barred m s a (length ws))
   where
-    go : (b : Bool) → PartsBy (job_part s) m (words_loaded_if m s a ws b)
+    go : (b : Bool) → PartsBy (job_part s) m (with_words_loaded_if m s a ws b)
     go true = tt
     go false = stored_parts ws m s a
 
@@ -113,21 +113,21 @@ on_parts : (m : Machine) (s : ℕ) (f : Whole → Result Machine Reason) (o : Op
 on_parts m s f (Some q) h = h q
 on_parts m s f None h = tt
 
-protect_parts : (m : Machine) (s k : ℕ) → PartsBy (job_part s) m (page_protected m s k)
-unfolding page_protected
+protect_parts : (m : Machine) (s k : ℕ) → PartsBy (job_part s) m (with_page_protected m s k)
+unfolding with_page_protected
 protect_parts m s k = on_parts m s _ (m.jobs s) (λ q. go q (page_of q.core k))
   where
-    go : (q : Whole) (o : Option Page) → PartsBy (job_part s) m (page_protected_in m s k q o)
-    go q (Some p) = one_job m s (protected k false q)
+    go : (q : Whole) (o : Option Page) → PartsBy (job_part s) m (with_page_protected_in m s k q o)
+    go q (Some p) = one_job m s (with_protection k false q)
     go q None = tt
 
 register_parts : (m : Machine) (s : ℕ) (f : Job → Job) → PartsBy (job_part s) m (on_registers m s f)
 unfolding on_registers
 register_parts m s f = on_parts m s (with_registers m s f) (m.jobs s) (λ q. one_job m s (record q { job = f q.job }))
 
-deposit_parts : (m : Machine) (s a w : ℕ) → PartsBy (job_part s) m (deposited m s a w)
-unfolding deposited
-deposit_parts m s a w = on_parts m s _ (m.jobs s) (λ q. core_parts m s q (deposited_in q.core a w (can_store q.core a) (is_some (word_at q.core a))))
+deposit_parts : (m : Machine) (s a w : ℕ) → PartsBy (job_part s) m (after_deposit m s a w)
+unfolding after_deposit
+deposit_parts m s a w = on_parts m s _ (m.jobs s) (λ q. core_parts m s q (after_deposit_in q.core a w (can_store q.core a) (is_some (word_at q.core a))))
 
 -- LOAD
 held_same : (s : ℕ) (o : Option ℕ) → is_none o ≡ false → held_by s o ≡ o
@@ -137,7 +137,7 @@ held_same s None e = cc
 empty_apart : (m : Machine) (k s : ℕ) → m.jobs s ≡ None → is_none (m.jobs k) ≡ false → k ≢ s
 empty_apart m k s none e at = let no : true ≡ false = sym (ap is_none (ap m.jobs at ∙ none)) ∙ e in cc
 
-load_parts : (m : Machine) (b : Block) (u j : ℕ) (console o : Option ℕ) → least_free (limit m) m.jobs ≡ o → PartsOf (touched m b (events.Load u j console)) m (Done (by_load b (loaded_in m u j console o)))
+load_parts : (m : Machine) (b : Block) (u j : ℕ) (console o : Option ℕ) → least_free (limit m) m.jobs ≡ o → PartsOf (touched m b (events.Load u j console)) m (Done (by_load b (after_load_in m u j console o)))
 load_parts m b u j (Some c) (Some s) is = record {
   jobs = λ k e. rw (ne_eqb k s (empty_apart m k s (least_empty (limit m) m.jobs s is) e)) refl;
   consoles = λ d e. refl;
@@ -164,8 +164,8 @@ load_parts m b u j None (Some s) is = record {
 load_parts m b u j console None is = tt
 
 -- VERSION, SYM, files, consoles and the clock
-version_parts : (m : Machine) (b : Block) (v : ℕ) → OnlyParts (touched m b (events.Version v)) m (versioned m v)
-unfolding versioned
+version_parts : (m : Machine) (b : Block) (v : ℕ) → OnlyParts (touched m b (events.Version v)) m (with_version m v)
+unfolding with_version
 version_parts m b v = elim (cases_Bool (no_job m.jobs)) [
   | inl is ↦ rw is (record {
     jobs = λ k e. refl;
@@ -180,11 +180,11 @@ version_parts m b v = elim (cases_Bool (no_job m.jobs)) [
   | inr is ↦ rw is (only_same _ m)
 ]
 
-symbol_parts : (m : Machine) (b : Block) (s name a : ℕ) → PartsBy (record no_part { symbols = λ k. k == s }) m (symbol_kept m s name a)
-unfolding symbol_kept
+symbol_parts : (m : Machine) (b : Block) (s name a : ℕ) → PartsBy (record no_part { symbols = λ k. k == s }) m (with_symbol_kept m s name a)
+unfolding with_symbol_kept
 symbol_parts m b s name a = go (m.jobs s)
   where
-    put : (room : Bool) → PartsBy (record no_part { symbols = λ k. k == s }) m (symbol_kept_if m s (name, a) room)
+    put : (room : Bool) → PartsBy (record no_part { symbols = λ k. k == s }) m (with_symbol_kept_if m s (name, a) room)
     put true = record {
       jobs = λ k e. refl;
       consoles = λ c e. refl;
@@ -197,7 +197,7 @@ symbol_parts m b s name a = go (m.jobs s)
     }
     put false = tt
 
-    go : (o : Option Whole) → PartsBy (record no_part { symbols = λ k. k == s }) m (symbol_kept_of m s (name, a) o)
+    go : (o : Option Whole) → PartsBy (record no_part { symbols = λ k. k == s }) m (with_symbol_kept_of m s (name, a) o)
     go (Some q) = put (nat_lt (length (m.symbols s)) most_symbols)
     go None = tt
 
@@ -213,30 +213,30 @@ files_parts m fs = record {
   links = refl;
 }
 
-made_parts : (m : Machine) (n : Names) → PartsBy file_part m (file_made m n)
-unfolding file_made
+made_parts : (m : Machine) (n : Names) → PartsBy file_part m (with_file_made m n)
+unfolding with_file_made
 made_parts m n = go (has_file n m.files) (nat_lt (length m.files) most_files)
   where
-    go : (there room : Bool) → PartsBy file_part m (file_made_if m n there room)
+    go : (there room : Bool) → PartsBy file_part m (with_file_made_if m n there room)
     go true room = tt
     go false true = files_parts m _
     go false false = tt
 
-added_parts : (m : Machine) (n : Names) (w : ℕ) → PartsBy file_part m (word_added m n w)
-unfolding word_added
+added_parts : (m : Machine) (n : Names) (w : ℕ) → PartsBy file_part m (with_word_added m n w)
+unfolding with_word_added
 added_parts m n w = go (file_named n m.files)
   where
-    put : (full : Bool) → PartsBy file_part m (word_added_if m n w full)
+    put : (full : Bool) → PartsBy file_part m (with_word_added_if m n w full)
     put true = tt
     put false = files_parts m _
 
-    go : (o : Option File) → PartsBy file_part m (word_added_to m n w o)
+    go : (o : Option File) → PartsBy file_part m (with_word_added_to m n w o)
     go (Some f) = put (is_full m.files (channels_of m) f.words)
     go None = only_same file_part m
 
-words_parts : (ws : List ℕ) (m : Machine) (n : Names) → PartsBy file_part m (words_added m n ws)
+words_parts : (ws : List ℕ) (m : Machine) (n : Names) → PartsBy file_part m (with_words_added m n ws)
 words_parts [] m n = only_same file_part m
-words_parts (w ∷ ws) m n = then_parts file_part m (word_added m n w) _ (added_parts m n w) (λ k. words_parts ws k n)
+words_parts (w ∷ ws) m n = then_parts file_part m (with_word_added m n w) _ (added_parts m n w) (λ k. words_parts ws k n)
 
 one_console : (m : Machine) (c : ℕ) (y : Console) → OnlyParts (console_part c) m (record m { consoles = changed m.consoles c y })
 one_console m c y = record {
@@ -250,11 +250,11 @@ one_console m c y = record {
   links = refl;
 }
 
-clock_parts : (m : Machine) (b : Block) (n : ℕ) → PartsOf (touched m b (events.Clock n)) m (Done (by_clock m b n (clocked m n)))
-unfolding clocked
+clock_parts : (m : Machine) (b : Block) (n : ℕ) → PartsOf (touched m b (events.Clock n)) m (Done (by_clock m b n (after_clock m n)))
+unfolding after_clock
 clock_parts m b n = go (nat_lt (m.clock + n) clock_end)
   where
-    go : (before : Bool) → PartsOf (touched m b (events.Clock n)) m (Done (by_clock m b n (clocked_if m n before)))
+    go : (before : Bool) → PartsOf (touched m b (events.Clock n)) m (Done (by_clock m b n (after_clock_if m n before)))
     go true = record {
       jobs = λ k e. rw e refl;
       consoles = λ c e. refl;
@@ -285,25 +285,25 @@ peek_parts m s (Some q) = tt
 peek_parts m s None = tt
 
 pub line_parts : (m : Machine) (b : Block) (e : Event) → PartsOf (touched m b e) m (lined m b e)
-unfolding lined operate loaded
+unfolding lined operate after_load
 line_parts m b (events.Version v) = version_parts m b v
 line_parts m b (events.Load u j console) = load_parts m b u j console (least_free (limit m) m.jobs) refl
 line_parts m b (events.Words a words) = disturbs_parts (job_part b.slot) m b.slot b _ (loaded_parts m b.slot a words.items)
 line_parts m b (events.ReadOnly page) = disturbs_parts (job_part b.slot) m b.slot b _ (protect_parts m b.slot page)
 line_parts m b (events.Symbol name a) = quiet_parts _ m b _ (symbol_parts m b b.slot name a)
-line_parts m b (events.Go a) = disturbs_parts (job_part b.slot) m b.slot b _ (register_parts m b.slot (started a))
+line_parts m b (events.Go a) = disturbs_parts (job_part b.slot) m b.slot b _ (register_parts m b.slot (after_go a))
 line_parts m b (events.File d x y) = quiet_parts file_part m _ _ (made_parts m (names_of d x y))
 line_parts m b (events.Append words) = quiet_parts file_part m b _ (words_parts words.items m b.file)
 line_parts m b (events.TypeIn c bytes) = one_console m c _
 line_parts m b (events.Drain c n) = one_console m c _
 line_parts m b (events.Clock n) = clock_parts m b n
-line_parts m b (events.Int s v w) = disturbs_parts (job_part s) m s b _ (register_parts m s (interrupted v w))
+line_parts m b (events.Int s v w) = disturbs_parts (job_part s) m s b _ (register_parts m s (after_int v w))
 line_parts m b (events.Exam s a n) = exam_parts m b s (in_a_line s a) (examined m s a n)
 line_parts m b (events.List s a n) = exam_parts m b s (listed s a) (examined m s a n)
 line_parts m b (events.State s) = state_parts m b s (state_shown m s)
 line_parts m b (events.Deposit s a w) = disturbs_parts (job_part s) m s b _ (deposit_parts m s a w)
-line_parts m b (events.Stop s) = disturbs_parts (job_part s) m s b _ (register_parts m s stopped)
-line_parts m b (events.Cont s) = disturbs_parts (job_part s) m s b _ (register_parts m s continued)
+line_parts m b (events.Stop s) = disturbs_parts (job_part s) m s b _ (register_parts m s after_stop)
+line_parts m b (events.Cont s) = disturbs_parts (job_part s) m s b _ (register_parts m s after_cont)
 line_parts m b (events.Peek s) = peek_parts m s (m.jobs s)
 line_parts m b (events.Show d x y) = show_parts m b (file_shown m d x y)
 line_parts m b (events.Tick s n) = tt

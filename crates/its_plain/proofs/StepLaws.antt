@@ -8,7 +8,7 @@ use Rattle.its_word.specs.declared.calls.Ask.{Ask}
 use Rattle.its_word.specs.declared.calls.Site.{Site}
 use Rattle.its_word.specs.declared.jobs.Job.{Job}
 use Rattle.its_plain.specs.Decode.{ask}
-use Rattle.its_plain.specs.CallStep.{Transition, quiet_step, acted, decision, faulted, by_ask, becomes, by_unit, delivery, by_delivery, unless_stopped, transition_of, transition, step}
+use Rattle.its_plain.specs.CallStep.{Transition, quiet_step, acted, decision, with_fault, by_ask, with_core_and_job, by_unit, delivery, by_delivery, unless_stopped, transition_of, transition, step}
 use Rattle.its_plain.specs.Change.{in_job}
 use Rattle.its_plain.specs.Decide.{reach}
 use Rattle.its_plain.specs.Interrupt.{deliverable, delivered}
@@ -23,8 +23,8 @@ AllOf P None = Unit {0}
 -- this holds in each case of the step of job q
 pub record EachCase (P : Transition → Type 0) (m : Machine) (j : ℕ) (q : Whole) : Type 0 where
   pub delivers : P (delivery m j q (delivered q.core q.job))
-  pub changes : (c : Core) (k : Job) → unit q.core q.job ≡ Changed c k → P (quiet_step (in_job m j (becomes c k)))
-  pub faults : (f : Fault) → P (quiet_step (in_job m j (faulted f)))
+  pub changes : (c : Core) (k : Job) → unit q.core q.job ≡ Changed c k → P (quiet_step (in_job m j (with_core_and_job c k)))
+  pub faults : (f : Fault) → P (quiet_step (in_job m j (with_fault f)))
   pub calls : (a : Ask) → AllOf P (acted m j a (reach m j q a) (decision m j q a))
 
 asks_has : (P : Transition → Type 0) (m : Machine) (j : ℕ) (q : Whole) (r : Result Ask Fault) → EachCase P m j q → AllOf P (by_ask m j q r)

@@ -9,7 +9,7 @@ use Rattle.its_word.specs.declared.session.Reason.TheVariants as reasons
 use Rattle.its_print.specs.Printing.{Line}
 use Rattle.its_print.specs.Printing as printed
 use Rattle.its_plain.specs.Machine.{no_machine}
-use Rattle.its_plain.specs.OperatorClock.{clocked}
+use Rattle.its_plain.specs.OperatorClock.{after_clock}
 use Rattle.its_plain.specs.OperatorLines.{operate, lined}
 use Rattle.its_plain.specs.Transcript.{Fate, Ended, Open, Refused, at_start, next_line, none, letter, end_line, input_end, refused_line, obeyed_line, all_made, tick_line, Transcript}
 use Rattle.its_plain.specs.Turns.{highest}
@@ -17,12 +17,12 @@ use Rattle.its_plain.proofs.RunLaws.{PacedOn, Run, shows_run}
 
 -- CLOCK shows nothing, and END ends the session
 clock : Transcript (Read (events.Clock 5) ∷ Read events.End ∷ []) [] Ended
-unfolding lined operate clocked no_machine
+unfolding lined operate after_clock no_machine
 clock = obeyed_line refl refl all_made (end_line refl)
 
 -- a slot without a job: PEEK is refused, and each tick has the letter `-`
 absent : Transcript (Read (events.Clock 5) ∷ Read (events.Peek 3) ∷ []) (printed.Refused 2 reasons.NoJob ∷ []) Refused
-unfolding lined operate clocked no_machine
+unfolding lined operate after_clock no_machine
 absent = obeyed_line refl refl all_made (refused_line refl)
 
 off : Transcript (Read (events.Tick 0 2) ∷ []) (printed.Ticks 0 (Off ∷ Off ∷ []) ∷ []) Open

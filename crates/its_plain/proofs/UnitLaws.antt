@@ -16,7 +16,7 @@ use Rattle.its_word.proofs.PageLaws.{pages_present-store}
 use Rattle.its_plain.specs.Job.{named_flags}
 use Rattle.its_plain.specs.UnitPlan.{Planned}
 use Rattle.its_word.specs.Stores.{first_fault, place, stored}
-use Rattle.its_plain.specs.Unit.{Outcome, Changed, Faulted, Called, left_by, made, outcome_of, outcome_at, done_by, reached, row_of, unit}
+use Rattle.its_plain.specs.Unit.{Outcome, Changed, Faulted, Called, after_plan, made, outcome_of, outcome_at, done_by, reached, row_of, unit}
 
 -- whether a page can be stored to, if it is present
 abbrev pub mark_at : Core → ℕ → Option Bool
@@ -83,7 +83,7 @@ pages_stored c (s ∷ ss) =
       count = r.count ∙ pages_present-store c (place s) s.word;
     }
 
-registers_left : (j : Job) (p : Plan) → SameRegisters j (left_by j p)
+registers_left : (j : Job) (p : Plan) → SameRegisters j (after_plan j p)
 registers_left j p = record {
   stopped = refl;
   pend2 = refl;
@@ -100,7 +100,7 @@ registers_left j p = record {
 named_twice : (f : ℕ) → named_flags (named_flags f) ≡ named_flags f
 named_twice f = and_assoc 0o760040 f 0o760040
 
-plan_keeps : (c : Core) (j : Job) (p : Plan) → Keeps c j (stored c p.stores.items) (left_by j p)
+plan_keeps : (c : Core) (j : Job) (p : Plan) → Keeps c j (stored c p.stores.items) (after_plan j p)
 plan_keeps c j p = record {
   pages = pages_stored c p.stores.items;
   registers = registers_left j p;

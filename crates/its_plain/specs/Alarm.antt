@@ -12,5 +12,5 @@ unfoldable pub time_after : ℕ → ℕ × ℕ → ℕ
 time_after c a = a.1 + ((c - a.1) / a.0 + 1) * a.0
 
 -- the alarm of a job after it went at clock c
-abbrev pub renewed : ℕ → Option (ℕ × ℕ) → Option (ℕ × ℕ)
-renewed c o = option_map (λ (a : ℕ × ℕ). (a.0, time_after c a)) o
+abbrev pub alarm_renewed : ℕ → Option (ℕ × ℕ) → Option (ℕ × ℕ)
+alarm_renewed c o = option_map (λ (a : ℕ × ℕ). (a.0, time_after c a)) o

@@ -41,15 +41,15 @@ unfoldable pub debts : Ask → ℕ → List Store
 debts a n = stores_of (drop (length a.inputs.items - n) a.inputs.items)
 
 -- inputs with new values
-abbrev pub valued : List Operand → List ℕ → List Operand
-valued (o ∷ os) (v ∷ vs) = record o { value = v } ∷ valued os vs
-valued os [] = os
-valued [] (v ∷ vs) = []
+abbrev pub operands_with_values : List Operand → List ℕ → List Operand
+operands_with_values (o ∷ os) (v ∷ vs) = record o { value = v } ∷ operands_with_values os vs
+operands_with_values os [] = os
+operands_with_values [] (v ∷ vs) = []
 
 -- a call whose last inputs have new values
-unfoldable pub revalued : Ask → List ℕ → Ask
-revalued a vs =
-    record a { inputs = record { items = take kept a.inputs.items ++ valued (drop kept a.inputs.items) vs } }
+unfoldable pub with_new_values : Ask → List ℕ → Ask
+with_new_values a vs =
+    record a { inputs = record { items = take kept a.inputs.items ++ operands_with_values (drop kept a.inputs.items) vs } }
   where
     kept : ℕ
     kept = length a.inputs.items - length vs

@@ -16,10 +16,10 @@ use Rattle.its_frame.specs.declared.variable.Variable.{Variable}
 use Rattle.its_frame.specs.declared.variable.Variable.TheVariants.{Upc, Ustp, Pirqc, Ifpir, Mask, Msk2, Df1, Df2}
 use Rattle.its_frame.specs.Variables.{variable_named}
 use Rattle.its_frame.specs.Errors as error
-use Rattle.its_plain.specs.Interrupt.{dismissed}
+use Rattle.its_plain.specs.Interrupt.{after_dismissal}
 use Rattle.its_plain.specs.Job.{IOC, with_pending}
 use Rattle.its_plain.specs.Machine.{Chan, Shut, On, Whole}
-use Rattle.its_plain.specs.Own.{exit_of, advanced, variable_of, with_variable}
+use Rattle.its_plain.specs.Own.{exit_of, with_advance, variable_of, with_variable}
 use Rattle.its_plain.specs.View.{View, Outline}
 use Rattle.its_plain.specs.Arguments.{input, has_input, place_of_input, is_shared}
 use Rattle.its_plain.specs.Tests.{Test, ◌⇒◌, first, finishes, fails, faults, goes, out}
@@ -72,7 +72,7 @@ dismissed_by v p w (Ok e) = Ends (record { items = [] }) (record { items = recor
 dismissed_by v p w (Err f) = faults v f
 
 abbrev pub dismiss_at : View → Ask → Option ℕ → Decision
-dismiss_at v a (Some p) = dismissed_by v p (input a 0) (dismissed v.own.core v.own.job p)
+dismiss_at v a (Some p) = dismissed_by v p (input a 0) (after_dismissal v.own.core v.own.job p)
 dismiss_at v a None = fails v a error.NO_WORD
 
 unfoldable pub dismiss : View → Ask → Decision
@@ -129,7 +129,7 @@ by_superior x = by_oneself x
 -- USRVAR job, name, optional new value: the output gets the value before, and then the new value is set
 abbrev pub set_own : View → Ask → Variable → Bool → Decision
 set_own v a x true =
-    Ends (record { items = [] }) (record { items = out a.outputs.items (variable_of v.slot v.own x) }) (exit_of (with_variable x (input a 2) (advanced 2 v.own.job)))
+    Ends (record { items = [] }) (record { items = out a.outputs.items (variable_of v.slot v.own x) }) (exit_of (with_variable x (input a 2) (with_advance 2 v.own.job)))
 set_own v a x false = finishes v [] (out a.outputs.items (variable_of v.slot v.own x))
 
 abbrev pub own_variable : View → Ask → Option Variable → Decision
@@ -181,4 +181,4 @@ realt v a =
 
 -- `.IOT` that fails: IOC is set, and PC gains 1
 abbrev pub ioc : View → Decision
-ioc v = Ends (record { items = [] }) (record { items = [] }) (exit_of (with_pending (advanced 1 v.own.job) IOC))
+ioc v = Ends (record { items = [] }) (record { items = [] }) (exit_of (with_pending (with_advance 1 v.own.job) IOC))

@@ -18,10 +18,10 @@ use Rattle.its_plain.specs.Job.{bit_of, with_pending}
 use Rattle.its_plain.specs.Interrupt.{Delivered, deliverable, delivered}
 use Rattle.its_plain.specs.Unit.{Outcome, Changed, Faulted, Called, unit}
 use Rattle.its_plain.specs.Machine.{Whole, Machine}
-use Rattle.its_plain.specs.Own.{with_stores, with_registers, leave}
+use Rattle.its_plain.specs.Own.{with_stores, with_registers, after_leave}
 use Rattle.its_plain.specs.Change.{in_job, effects}
 use Rattle.its_plain.specs.Moves.{Move, moves_of_all}
-use Rattle.its_plain.specs.Arguments.{input, debts, revalued}
+use Rattle.its_plain.specs.Arguments.{input, debts, with_new_values}
 use Rattle.its_plain.specs.Decode.{ask}
 use Rattle.its_plain.specs.View.{view}
 use Rattle.its_plain.specs.Decide.{decided, target, reach}
@@ -35,8 +35,8 @@ abbrev pub with_held : Ask → Option Held → Whole → Whole
 with_held a (Some h) q = with_stores (deposited q.core (input a 1) h ∷ []) q
 with_held a None q = q
 
-abbrev pub moved : Ask → Option Held → List ℕ → Whole → Whole
-moved a h vs q = with_stores (debts (revalued a vs) (length vs)) (with_held (revalued a vs) h q)
+abbrev pub after_moves : Ask → Option Held → List ℕ → Whole → Whole
+after_moves a h vs q = with_stores (debts (with_new_values a vs) (length vs)) (with_held (with_new_values a vs) h q)
 
 -- what a step does: the machine after it; the bytes that it moves; the slots, other than its own, of the jobs that it
 -- disturbs; and whether it is a part of a call that goes on
@@ -52,19 +52,19 @@ quiet_step n = record { machine = n; moves = []; disturbs = []; part = false }
 
 -- the result of a decision, for a call that reaches the jobs of these slots: first its changes, then the stores into the own core, then
 -- the registers. A call that waits has no step
-abbrev pub ended : List Store → (Whole → Whole) → Whole → Whole
-ended ss f q = f (with_stores ss q)
+abbrev pub after_end : List Store → (Whole → Whole) → Whole → Whole
+after_end ss f q = f (with_stores ss q)
 
 unfoldable pub acted : Machine → ℕ → Ask → List ℕ → Decision → Option Transition
 acted m j a ks (Waits r) = None
 acted m j a ks (Goes cs h vs) = Some (record {
-  machine = in_job (effects cs.items j m) j (moved a h vs.items);
+  machine = in_job (effects cs.items j m) j (after_moves a h vs.items);
   moves = moves_of_all cs.items j m;
   disturbs = ks;
   part = true;
 })
 acted m j a ks (Ends cs ss e) = Some (record {
-  machine = in_job (effects cs.items j m) j (ended ss.items (leave e));
+  machine = in_job (effects cs.items j m) j (after_end ss.items (after_leave e));
   moves = moves_of_all cs.items j m;
   disturbs = ks;
   part = false;
@@ -81,20 +81,20 @@ unfoldable pub decision : Machine → ℕ → Whole → Ask → Decision
 decision m j q a = decided (view m j q (target q a)) a
 
 -- a call by its decoding
-abbrev pub faulted : Fault → Whole → Whole
-faulted f q = with_registers (λ j. with_pending j (bit_of f)) q
+abbrev pub with_fault : Fault → Whole → Whole
+with_fault f q = with_registers (λ j. with_pending j (bit_of f)) q
 
 abbrev pub by_ask : Machine → ℕ → Whole → Result Ask Fault → Option Transition
 by_ask m j q (Ok a) = acted m j a (reach m j q a) (decision m j q a)
-by_ask m j q (Err f) = Some (quiet_step (in_job m j (faulted f)))
+by_ask m j q (Err f) = Some (quiet_step (in_job m j (with_fault f)))
 
 -- a unit that is done
-abbrev pub becomes : Core → Job → Whole → Whole
-becomes c j q = record q { core = c; job = j }
+abbrev pub with_core_and_job : Core → Job → Whole → Whole
+with_core_and_job c j q = record q { core = c; job = j }
 
 abbrev pub by_unit : Machine → ℕ → Whole → Outcome → Option Transition
-by_unit m j q (Changed c k) = Some (quiet_step (in_job m j (becomes c k)))
-by_unit m j q (Faulted f) = Some (quiet_step (in_job m j (faulted f)))
+by_unit m j q (Changed c k) = Some (quiet_step (in_job m j (with_core_and_job c k)))
+by_unit m j q (Faulted f) = Some (quiet_step (in_job m j (with_fault f)))
 by_unit m j q (Called s) = by_ask m j q (ask q.core s)
 
 -- a delivery: if a fatal bit stops the job, INF is set in its superior
@@ -110,7 +110,7 @@ informs false o = []
 
 abbrev pub delivery : Machine → ℕ → Whole → Delivered → Transition
 delivery m j q d = record {
-  machine = in_job (effects (informs d.stops q.superior) j m) j (becomes d.core d.job);
+  machine = in_job (effects (informs d.stops q.superior) j m) j (with_core_and_job d.core d.job);
   moves = [];
   disturbs = informed_slots d.stops q.superior;
   part = false;

@@ -27,31 +27,31 @@ unfoldable pub without_file : Names → List File → List File
 without_file n fs = without_names n fs
 
 -- a draft becomes the last file, in place of one with its names
-abbrev pub filed : File → List File → List File
-filed f fs = without_file f.names fs ++ f ∷ []
+abbrev pub with_file : File → List File → List File
+with_file f fs = without_file f.names fs ++ f ∷ []
 
 -- a file gets other names in its directory, and keeps its place
-unfoldable pub renamed : Names → ℕ → ℕ → List File → List File
-renamed n x y fs = with_changed n (named (names_of (slice_index_or n 0 0) x y)) fs
+unfoldable pub with_new_names : Names → ℕ → ℕ → List File → List File
+with_new_names n x y fs = with_changed n (named (names_of (slice_index_or n 0 0) x y)) fs
 
 abbrev pub channel_in : Option Whole → ℕ → Chan
 channel_in (Some q) n = q.channels n
 channel_in None n = Shut
 
-abbrev pub files_closed : Chan → List File → List File
-files_closed (Writes f) fs = filed f fs
-files_closed _ fs = fs
+abbrev pub files_after_close : Chan → List File → List File
+files_after_close (Writes f) fs = with_file f fs
+files_after_close _ fs = fs
 
 -- consoles
 abbrev pub rest_of : List ℕ → List ℕ
 rest_of (b ∷ bs) = bs
 rest_of [] = []
 
-abbrev pub taken_from : Console → Console
-taken_from c = record c { input = rest_of c.input }
+abbrev pub after_take : Console → Console
+after_take c = record c { input = rest_of c.input }
 
-abbrev pub put_to : ℕ → Console → Console
-put_to b c = record c { output = c.output ++ b ∷ [] }
+abbrev pub after_put : ℕ → Console → Console
+after_put b c = record c { output = c.output ++ b ∷ [] }
 
 abbrev pub on_console : Machine → ℕ → (Console → Console) → Machine
 on_console m c f = record m { consoles = changed m.consoles c (f (m.consoles c)) }
@@ -72,9 +72,9 @@ standing_if false p = None
 abbrev pub if_alive : Pipe → Option Pipe
 if_alive p = standing_if (is_alive p.link) p
 
-abbrev pub end_closed : Bool → Option Pipe → Option Pipe
-end_closed write (Some p) = if_alive (record p { link = with_end write Closed p.link })
-end_closed write None = None
+abbrev pub after_end_close : Bool → Option Pipe → Option Pipe
+after_end_close write (Some p) = if_alive (record p { link = with_end write Closed p.link })
+after_end_close write None = None
 
 abbrev pub with_sent : ℕ → Pipe → Pipe
 with_sent w p = record p { words = p.words ++ w ∷ [] }
@@ -99,35 +99,35 @@ superiors m k = superior_in (m.jobs k)
 abbrev pub is_gone : (ℕ → Option ℕ) → ℕ → ℕ → Bool
 is_gone sup r k = (k == r) || is_below sup r k
 
-abbrev pub chan_left : (ℕ → Bool) → Chan → Chan
-chan_left gone (On s write at) = if gone s then Shut else On s write at
-chan_left gone c = c
+abbrev pub chan_after_removal : (ℕ → Bool) → Chan → Chan
+chan_after_removal gone (On s write at) = if gone s then Shut else On s write at
+chan_after_removal gone c = c
 
-abbrev pub shut_on : (ℕ → Bool) → Whole → Whole
-shut_on gone q = record q { channels = λ n. chan_left gone (q.channels n) }
+abbrev pub after_shut : (ℕ → Bool) → Whole → Whole
+after_shut gone q = record q { channels = λ n. chan_after_removal gone (q.channels n) }
 
-abbrev pub left_job : (ℕ → Bool) → Bool → Option Whole → Option Whole
-left_job gone true o = None
-left_job gone false o = option_map (shut_on gone) o
+abbrev pub job_after_removal : (ℕ → Bool) → Bool → Option Whole → Option Whole
+job_after_removal gone true o = None
+job_after_removal gone false o = option_map (after_shut gone) o
 
-abbrev pub passed_on : (ℕ → Bool) → Option ℕ → Option ℕ → Option ℕ
-passed_on gone heir (Some h) = if gone h then heir else Some h
-passed_on gone heir None = None
+abbrev pub holder_after_removal : (ℕ → Bool) → Option ℕ → Option ℕ → Option ℕ
+holder_after_removal gone heir (Some h) = if gone h then heir else Some h
+holder_after_removal gone heir None = None
 
-abbrev pub symbols_left : Bool → List Symbol → List Symbol
-symbols_left true ss = []
-symbols_left false ss = ss
+abbrev pub symbols_after_removal : Bool → List Symbol → List Symbol
+symbols_after_removal true ss = []
+symbols_after_removal false ss = ss
 
-abbrev pub ends_left : (ℕ → Bool) → Option Pipe → Option Pipe
-ends_left gone (Some p) = if_alive (record p { link = link_left gone p.link })
-ends_left gone None = None
+abbrev pub ends_after_removal : (ℕ → Bool) → Option Pipe → Option Pipe
+ends_after_removal gone (Some p) = if_alive (record p { link = link_left gone p.link })
+ends_after_removal gone None = None
 
-unfoldable pub removed : (ℕ → Option ℕ) → ℕ → Machine → Machine
-removed sup r m = record m {
-  jobs = λ k. left_job (is_gone sup r) (is_gone sup r k) (m.jobs k);
-  holders = λ c. passed_on (is_gone sup r) (sup r) (m.holders c);
-  symbols = λ k. symbols_left (is_gone sup r k) (m.symbols k);
-  links = λ l. ends_left (is_gone sup r) (m.links l);
+unfoldable pub after_removal : (ℕ → Option ℕ) → ℕ → Machine → Machine
+after_removal sup r m = record m {
+  jobs = λ k. job_after_removal (is_gone sup r) (is_gone sup r k) (m.jobs k);
+  holders = λ c. holder_after_removal (is_gone sup r) (sup r) (m.holders c);
+  symbols = λ k. symbols_after_removal (is_gone sup r k) (m.symbols k);
+  links = λ l. ends_after_removal (is_gone sup r) (m.links l);
 }
 
 -- an inferior as OPEN makes it: stopped, with no page, closed channels, no alarm and no symbols, and with its maker's
@@ -144,8 +144,8 @@ inferior j o u n =
 abbrev pub with_page_at : ℕ → Option Page → Whole → Whole
 with_page_at k p q = record q { core = with_page q.core k p }
 
-abbrev pub protected : ℕ → Bool → Whole → Whole
-protected k w q = record q { core = with_page q.core k (marked (page_of q.core k) w) }
+abbrev pub with_protection : ℕ → Bool → Whole → Whole
+with_protection k w q = record q { core = with_page q.core k (marked (page_of q.core k) w) }
 
 abbrev pub poke : ℕ → ℕ → Store
 poke a w = record { at = a; word = w }
@@ -164,26 +164,26 @@ effect (changes.Shut n) j m = in_job m j (on_channel n (λ c. Shut))
 effect (changes.Move n at) j m = in_job m j (on_channel n (at_position at))
 effect (changes.Append n w) j m = in_job m j (on_channel n (with_word w))
 effect (changes.Close n) j m =
-    record (in_job m j (on_channel n (λ c. Shut))) { files = files_closed (channel_in (m.jobs j) n) m.files }
-effect (changes.Take c) j m = on_console m c taken_from
-effect (changes.Put c b) j m = on_console m c (put_to b)
+    record (in_job m j (on_channel n (λ c. Shut))) { files = files_after_close (channel_in (m.jobs j) n) m.files }
+effect (changes.Take c) j m = on_console m c after_take
+effect (changes.Put c b) j m = on_console m c (after_put b)
 effect (changes.Hold c s) j m = record m { holders = changed m.holders c (Some s) }
 effect (changes.Poke s a w) j m = in_job m s (with_stores (poke a w ∷ []))
 effect (changes.Set s v w) j m = in_job m s (with_registers (with_variable v w))
 effect (changes.Map s k) j m = in_job m s (with_page_at k (Some zero_page))
 effect (changes.Unmap s k) j m = in_job m s (with_page_at k None)
-effect (changes.Protect s k w) j m = in_job m s (protected k w)
+effect (changes.Protect s k w) j m = in_job m s (with_protection k w)
 effect (changes.Make s u n) j m = with_new m s (inferior j (m.jobs j) u n)
-effect (changes.Remove s) j m = removed (superiors m) s m
+effect (changes.Remove s) j m = after_removal (superiors m) s m
 effect (changes.Inform s) j m = in_job m s with_inf
 effect (changes.Arm alarm) j m = in_job m j (with_alarm alarm)
 effect (changes.Join n l write x y) j m =
     on_link (in_job m j (on_channel n (λ c. Linked l write))) l (λ o. Some (with_end_opened write j n (link_or_new x y o)))
-effect (changes.Part n l write) j m = on_link (in_job m j (on_channel n (λ c. Shut))) l (end_closed write)
+effect (changes.Part n l write) j m = on_link (in_job m j (on_channel n (λ c. Shut))) l (after_end_close write)
 effect (changes.Send l w) j m = on_link m l (option_map (with_sent w))
 effect (changes.Receive l) j m = on_link m l (option_map with_received)
 effect (changes.Delete d x y) j m = record m { files = without_file (names_of d x y) m.files }
-effect (changes.Rename d x y u v) j m = record m { files = renamed (names_of d x y) u v m.files }
+effect (changes.Rename d x y u v) j m = record m { files = with_new_names (names_of d x y) u v m.files }
 
 -- several, in their order
 abbrev pub effects : List Change → ℕ → Machine → Machine

@@ -12,7 +12,7 @@ use Rattle.its_plain.specs.CallBasic.{by_superior}
 use Rattle.its_plain.specs.CallFile.{has_file, is_read}
 use Rattle.its_plain.specs.CallLink.{has_link_names, can_open}
 use Rattle.its_plain.specs.CallTty.{is_other}
-use Rattle.its_plain.specs.Change.{channel_in, superiors, console_in, filed, without_file, renamed, taken_from, put_to, is_gone, shut_on, inferior, with_page_at, protected, poke, with_inf, link_or_new, with_end_opened, end_closed, with_sent, with_received, ends_left}
+use Rattle.its_plain.specs.Change.{channel_in, superiors, console_in, with_file, without_file, with_new_names, after_take, after_put, is_gone, after_shut, inferior, with_page_at, with_protection, poke, with_inf, link_or_new, with_end_opened, after_end_close, with_sent, with_received, ends_after_removal}
 use Rattle.its_plain.specs.Machine.{Names, File, Pipe, Shut, Writes, On, Linked, Whole, Machine}
 use Rattle.its_plain.specs.Operator.{Block}
 use Rattle.its_plain.specs.OperatorClock.{due}
@@ -31,7 +31,7 @@ pub data Written (q : Whole) : Whole → Type 0 where
   word_stored : (a w : ℕ) → Written q (with_stores (poke a w ∷ []) q)
   variable_set : (x : Variable) (w : ℕ) → by_superior x ≡ true → Written q (with_registers (with_variable x w) q)
   page_set : (k : ℕ) (p : Option Page) → Written q (with_page_at k p q)
-  page_marked : (k : ℕ) (w : Bool) → Written q (protected k w q)
+  page_marked : (k : ℕ) (w : Bool) → Written q (with_protection k w q)
 
 -- job j removes the job of slot r with all jobs below it: itself, by LOGOUT, or the job that a channel of its is on, by
 -- UCLOSE
@@ -56,7 +56,7 @@ pub data JobMay (m n : Machine) (j k : ℕ) : Type 0 where
   superior_informed : (q : Whole) → superiors m j ≡ Some k → m.jobs k ≡ Some q → n.jobs k ≡ Some (with_inf q) → JobMay m n j k
   -- it is the superior of j, and j logs out: INF is set in it, and its channels on j are closed
   superior_left : (q : Whole) → superiors m j ≡ Some k → m.jobs k ≡ Some q → n.jobs j ≡ None
-      → n.jobs k ≡ Some (with_inf (shut_on (is_gone (superiors m) j) q)) → JobMay m n j k
+      → n.jobs k ≡ Some (with_inf (after_shut (is_gone (superiors m) j) q)) → JobMay m n j k
   -- there was no job, and it is a new inferior of j, as OPEN makes one
   job_made : (u x : ℕ) → m.jobs k ≡ None → n.jobs k ≡ Some (inferior j (m.jobs j) u x) → JobMay m n j k
 
@@ -68,8 +68,8 @@ pub record Uses (m : Machine) (j c : ℕ) : Type 0 where
 -- what may become of the bytes at a console: one leaves the front of its input, or one is added to its output
 pub data ConsoleMay (m n : Machine) (j c : ℕ) : Type 0 where
   bytes_same : n.consoles c ≡ m.consoles c → ConsoleMay m n j c
-  byte_taken : Uses m j c → n.consoles c ≡ taken_from (m.consoles c) → ConsoleMay m n j c
-  byte_put : (b : ℕ) → Uses m j c → n.consoles c ≡ put_to b (m.consoles c) → ConsoleMay m n j c
+  byte_taken : Uses m j c → n.consoles c ≡ after_take (m.consoles c) → ConsoleMay m n j c
+  byte_put : (b : ℕ) → Uses m j c → n.consoles c ≡ after_put b (m.consoles c) → ConsoleMay m n j c
 
 -- job j may take its console: nobody holds it, or itself, or an inferior
 pub data CanTake (m : Machine) (j c : ℕ) : Type 0 where
@@ -93,9 +93,9 @@ IsUnread m x = is_read x (channels_of m) ≡ false
 -- or deletes or renames a file. No channel reads a file that goes or gets other names
 pub data FilesMay (m n : Machine) (j : ℕ) : Type 0 where
   files_same : n.files ≡ m.files → FilesMay m n j
-  draft_closed : (channel : ℕ) (f : File) → channel_in (m.jobs j) channel ≡ Writes f → IsUnread m f.names → n.files ≡ filed f m.files → FilesMay m n j
+  draft_closed : (channel : ℕ) (f : File) → channel_in (m.jobs j) channel ≡ Writes f → IsUnread m f.names → n.files ≡ with_file f m.files → FilesMay m n j
   file_deleted : (x : Names) → IsUnread m x → n.files ≡ without_file x m.files → FilesMay m n j
-  file_renamed : (d x y u v : ℕ) → IsUnread m (names_of d x y) → has_file (names_of d u v) m.files ≡ false → n.files ≡ renamed (names_of d x y) u v m.files → FilesMay m n j
+  file_renamed : (d x y u v : ℕ) → IsUnread m (names_of d x y) → has_file (names_of d u v) m.files ≡ false → n.files ≡ with_new_names (names_of d x y) u v m.files → FilesMay m n j
 
 -- the link, if there is one, has these names
 abbrev pub IsNamed : ℕ → ℕ → Option Pipe → Type 0
@@ -111,8 +111,8 @@ pub data LinkMay (m n : Machine) (j l : ℕ) : Type 0 where
       → n.links l ≡ Some (with_end_opened write j channel (link_or_new x y (m.links l))) → LinkMay m n j l
   word_sent : (channel w : ℕ) → channel_in (m.jobs j) channel ≡ Linked l true → n.links l ≡ option_map (with_sent w) (m.links l) → LinkMay m n j l
   word_received : (channel : ℕ) → channel_in (m.jobs j) channel ≡ Linked l false → n.links l ≡ option_map with_received (m.links l) → LinkMay m n j l
-  end_shut : (channel : ℕ) (write : Bool) → channel_in (m.jobs j) channel ≡ Linked l write → n.links l ≡ end_closed write (m.links l) → LinkMay m n j l
-  ends_gone : (r : ℕ) → RemovesTree m j r → n.links l ≡ ends_left (is_gone (superiors m) r) (m.links l) → LinkMay m n j l
+  end_shut : (channel : ℕ) (write : Bool) → channel_in (m.jobs j) channel ≡ Linked l write → n.links l ≡ after_end_close write (m.links l) → LinkMay m n j l
+  ends_gone : (r : ℕ) → RemovesTree m j r → n.links l ≡ ends_after_removal (is_gone (superiors m) r) (m.links l) → LinkMay m n j l
 
 -- the symbols of a job go with it, and a new job has none
 pub data SymbolsMay (m n : Machine) (j k : ℕ) : Type 0 where
@@ -142,7 +142,7 @@ pub data OnlyTells (m n : Machine) (j k : ℕ) : Type 0 where
   tells_nothing : n.jobs k ≡ m.jobs k → OnlyTells m n j k
   tells_stop : (q : Whole) → superiors m j ≡ Some k → m.jobs k ≡ Some q → n.jobs k ≡ Some (with_inf q) → OnlyTells m n j k
   tells_end : (q : Whole) → superiors m j ≡ Some k → m.jobs k ≡ Some q → n.jobs j ≡ None
-      → n.jobs k ≡ Some (with_inf (shut_on (is_gone (superiors m) j) q)) → OnlyTells m n j k
+      → n.jobs k ≡ Some (with_inf (after_shut (is_gone (superiors m) j) q)) → OnlyTells m n j k
   makes_job : (u x : ℕ) → m.jobs k ≡ None → n.jobs k ≡ Some (inferior j (m.jobs j) u x) → OnlyTells m n j k
 
 -- the parts of a machine: jobs by slot, consoles and their holders by number, the directory, the symbols of slots, the

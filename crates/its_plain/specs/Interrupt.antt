@@ -140,8 +140,8 @@ delivered c j =
 
 -- the registers that DISMIS leaves a job with, from the PC word and the deferrals that a delivery
 -- pushed below the stack pointer word
-abbrev pub dismissed_to : Job → ℕ → ℕ → ℕ → Exit
-dismissed_to j w d2 d1 = record {
+abbrev pub after_dismissal_to : Job → ℕ → ℕ → ℕ → Exit
+after_dismissal_to j w d2 d1 = record {
   pc = right_of w;
   flags = flags_of w;
   pend1 = j.pend1;
@@ -155,15 +155,15 @@ dismissed_to j w d2 d1 = record {
 abbrev pub below : ℕ → ℕ → ℕ
 below s k = (right_of s + (2 ^ 18 - k)) % 2 ^ 18
 
-abbrev pub dismissed_by : Job → Bool → Option ℕ → Option ℕ → Option ℕ → Result Exit Fault
-dismissed_by j can (Some w) (Some d2) (Some d1) = if can then Ok (dismissed_to j w d2 d1) else Err Wro
-dismissed_by j can _ _ _ = Err Mpv
+abbrev pub after_dismissal_by : Job → Bool → Option ℕ → Option ℕ → Option ℕ → Result Exit Fault
+after_dismissal_by j can (Some w) (Some d2) (Some d1) = if can then Ok (after_dismissal_to j w d2 d1) else Err Wro
+after_dismissal_by j can _ _ _ = Err Mpv
 
-abbrev pub dismissed_at : Core → Job → ℕ → Option ℕ → Result Exit Fault
-dismissed_at c j p (Some s) =
-    dismissed_by j (can_store c p) (word_at c (right_of s)) (word_at c (below s 1)) (word_at c (below s 2))
-dismissed_at c j p None = Err Mpv
+abbrev pub after_dismissal_at : Core → Job → ℕ → Option ℕ → Result Exit Fault
+after_dismissal_at c j p (Some s) =
+    after_dismissal_by j (can_store c p) (word_at c (right_of s)) (word_at c (below s 1)) (word_at c (below s 2))
+after_dismissal_at c j p None = Err Mpv
 
 -- DISMIS through the stack pointer word at p: MPV if a word is absent, else WRO if p is read only
-unfoldable pub dismissed : Core → Job → ℕ → Result Exit Fault
-dismissed c j p = dismissed_at c j p (word_at c p)
+unfoldable pub after_dismissal : Core → Job → ℕ → Result Exit Fault
+after_dismissal c j p = after_dismissal_at c j p (word_at c p)

@@ -15,7 +15,7 @@ use Rattle.its_frame.specs.declared.name.CallName.TheVariants.{Siot}
 use Rattle.its_plain.specs.Interrupt.{deliverable}
 use Rattle.its_plain.specs.Machine.{Chan, Shut, TtyIn, TtyOut, Reads, Writes, On, Linked, Whole, Machine}
 use Rattle.its_plain.specs.Change.{in_job, effects}
-use Rattle.its_plain.specs.Arguments.{input, revalued}
+use Rattle.its_plain.specs.Arguments.{input, with_new_values}
 use Rattle.its_plain.specs.Footprint.{Stands}
 use Rattle.its_plain.specs.View.{View, view}
 use Rattle.its_plain.specs.CallBasic.{channel_at}
@@ -25,7 +25,7 @@ use Rattle.its_plain.specs.CallFile.{words_of}
 use Rattle.its_plain.specs.CallUsr.{other_core}
 use Rattle.its_plain.specs.CallLink.{words_in}
 use Rattle.its_plain.specs.Decide.{call_named, target}
-use Rattle.its_plain.specs.CallStep.{moved, decision}
+use Rattle.its_plain.specs.CallStep.{after_moves, decision}
 
 -- a byte or word that comes in: there is one, these changes take it, and it is for the word that the pointer names
 pub record ComesIn (pointer : ℕ) (first : Option ℕ) (takes cs : List Change) (h : Option Held) : Type 0 where
@@ -77,7 +77,7 @@ abbrev pub new_arguments : Ask → List ℕ
 new_arguments a = next_pointer (input a 1) ∷ (input a 2 - 1) ∷ []
 
 abbrev pub rest_of_transfer : Ask → Ask
-rest_of_transfer a = revalued a (new_arguments a)
+rest_of_transfer a = with_new_values a (new_arguments a)
 
 -- one byte of the SIOT of job q in slot j, at this site and with these arguments, after which the machine is n: the byte is moved at
 -- the pointer incremented; one that comes in is there afterwards; and the job, whose registers are as they were, is at the same call
@@ -92,7 +92,7 @@ pub record OneByte (m : Machine) (j : ℕ) (q : Whole) (s : Site) (a : Ask) (cs 
   pub registers : after.job ≡ q.job
   pub counted : input a 2 ≢ 0
   pub stands : Stands after.core after.job s (rest_of_transfer a)
-  pub others : n ≡ in_job (effects cs j m) j (moved a h (new_arguments a))
+  pub others : n ≡ in_job (effects cs j m) j (after_moves a h (new_arguments a))
 
 -- a step moves one byte, or it ends the call and moves none: it makes no change. A SIOT that waits has no step, and
 -- none removes its job

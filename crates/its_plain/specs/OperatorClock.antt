@@ -5,7 +5,7 @@ use Rattle.std.specs.List.{range_with_len}
 use Rattle.its_word.specs.Limits.{slots}
 use Rattle.its_word.specs.declared.session.Reason.{Reason}
 use Rattle.its_word.specs.declared.session.Reason.TheVariants.{Range}
-use Rattle.its_plain.specs.Alarm.{is_due, renewed}
+use Rattle.its_plain.specs.Alarm.{is_due, alarm_renewed}
 use Rattle.its_plain.specs.Job.{ALR, with_pending}
 use Rattle.its_plain.specs.Machine.{Whole, Machine}
 
@@ -22,24 +22,24 @@ unfoldable pub due_slots : ℕ → (ℕ → Option Whole) → List ℕ
 due_slots c jobs = filter (due c jobs) (range_with_len 0 slots)
 
 -- the alarm of a job goes at clock c: ALR is set in it, once, and the alarm has its next time
-abbrev pub rung : ℕ → Whole → Whole
-rung c q = record q { job = with_pending q.job ALR; alarm = renewed c q.alarm }
+abbrev pub after_alarm : ℕ → Whole → Whole
+after_alarm c q = record q { job = with_pending q.job ALR; alarm = alarm_renewed c q.alarm }
 
-abbrev pub rung_if : ℕ → Bool → Option Whole → Option Whole
-rung_if c true o = option_map (rung c) o
-rung_if c false o = o
+abbrev pub after_alarm_if : ℕ → Bool → Option Whole → Option Whole
+after_alarm_if c true o = option_map (after_alarm c) o
+after_alarm_if c false o = o
 
 -- the clock becomes c, and the alarms that are due go
 abbrev pub at_clock : ℕ → Machine → Machine
-at_clock c m = record m { jobs = λ k. rung_if c (due c m.jobs k) (m.jobs k); clock = c }
+at_clock c m = record m { jobs = λ k. after_alarm_if c (due c m.jobs k) (m.jobs k); clock = c }
 
 -- CLOCK: the clock gains n, and remains below 2 ^ 34
 abbrev pub clock_end : ℕ
 clock_end = 0o200000000000
 
-abbrev pub clocked_if : Machine → ℕ → Bool → Result Machine Reason
-clocked_if m n true = Ok (at_clock (m.clock + n) m)
-clocked_if m n false = Err Range
+abbrev pub after_clock_if : Machine → ℕ → Bool → Result Machine Reason
+after_clock_if m n true = Ok (at_clock (m.clock + n) m)
+after_clock_if m n false = Err Range
 
-unfoldable pub clocked : Machine → ℕ → Result Machine Reason
-clocked m n = clocked_if m n (nat_lt (m.clock + n) clock_end)
+unfoldable pub after_clock : Machine → ℕ → Result Machine Reason
+after_clock m n = after_clock_if m n (nat_lt (m.clock + n) clock_end)

@@ -7,11 +7,11 @@ use Rattle.its_plain.specs.Change.{on_console}
 
 -- TYPE: the bytes that have room wait as input, at most 64 in all; those beyond that room are dropped. DRAIN: up to n
 -- bytes of the output
-abbrev pub typed : ℕ → List ℕ → Machine → Machine
-typed c bytes m = on_console m c (λ x. record x { input = take most_waiting (x.input ++ bytes) })
+abbrev pub with_typed : ℕ → List ℕ → Machine → Machine
+with_typed c bytes m = on_console m c (λ x. record x { input = take most_waiting (x.input ++ bytes) })
 
 abbrev pub dropped : Console → List ℕ → ℕ
 dropped x bytes = length bytes - (most_waiting - length x.input)
 
-abbrev pub drained : ℕ → ℕ → Machine → Machine
-drained c n m = on_console m c (λ x. record x { output = drop n x.output })
+abbrev pub after_drain : ℕ → ℕ → Machine → Machine
+after_drain c n m = on_console m c (λ x. record x { output = drop n x.output })

@@ -21,29 +21,29 @@ channels_of m k = channel_in (m.jobs k)
 abbrev pub with_files : Machine → List File → Machine
 with_files m fs = record m { files = fs }
 
-abbrev pub file_made_if : Machine → Names → Bool → Bool → Result Machine Reason
-file_made_if m n true room = Err Exists
-file_made_if m n false true = Ok (with_files m (m.files ++ record { names = n; words = [] } ∷ []))
-file_made_if m n false false = Err Full
+abbrev pub with_file_made_if : Machine → Names → Bool → Bool → Result Machine Reason
+with_file_made_if m n true room = Err Exists
+with_file_made_if m n false true = Ok (with_files m (m.files ++ record { names = n; words = [] } ∷ []))
+with_file_made_if m n false false = Err Full
 
-unfoldable pub file_made : Machine → Names → Result Machine Reason
-file_made m n = file_made_if m n (has_file n m.files) (nat_lt (length m.files) most_files)
+unfoldable pub with_file_made : Machine → Names → Result Machine Reason
+with_file_made m n = with_file_made_if m n (has_file n m.files) (nat_lt (length m.files) most_files)
 
 -- one more word after those of the file with these names, if there is one
-abbrev pub word_added_if : Machine → Names → ℕ → Bool → Result Machine Reason
-word_added_if m n w true = Err Full
-word_added_if m n w false = Ok (with_files m (with_changed n (longer w) m.files))
+abbrev pub with_word_added_if : Machine → Names → ℕ → Bool → Result Machine Reason
+with_word_added_if m n w true = Err Full
+with_word_added_if m n w false = Ok (with_files m (with_changed n (longer w) m.files))
 
-abbrev pub word_added_to : Machine → Names → ℕ → Option File → Result Machine Reason
-word_added_to m n w (Some f) = word_added_if m n w (is_full m.files (channels_of m) f.words)
-word_added_to m n w None = Ok m
+abbrev pub with_word_added_to : Machine → Names → ℕ → Option File → Result Machine Reason
+with_word_added_to m n w (Some f) = with_word_added_if m n w (is_full m.files (channels_of m) f.words)
+with_word_added_to m n w None = Ok m
 
-unfoldable pub word_added : Machine → Names → ℕ → Result Machine Reason
-word_added m n w = word_added_to m n w (file_named n m.files)
+unfoldable pub with_word_added : Machine → Names → ℕ → Result Machine Reason
+with_word_added m n w = with_word_added_to m n w (file_named n m.files)
 
-abbrev pub words_added : Machine → Names → List ℕ → Result Machine Reason
-words_added m n [] = Ok m
-words_added m n (w ∷ ws) = and_then (word_added m n w) (λ k. words_added k n ws)
+abbrev pub with_words_added : Machine → Names → List ℕ → Result Machine Reason
+with_words_added m n [] = Ok m
+with_words_added m n (w ∷ ws) = and_then (with_word_added m n w) (λ k. with_words_added k n ws)
 
 -- DIR: the files of a directory, in their order
 abbrev pub name_in : Names → ℕ → ℕ

@@ -11,7 +11,7 @@ use Rattle.its_word.specs.declared.show.JobShow.{JobShow}
 use Rattle.its_word.specs.declared.session.Reason.{Reason}
 use Rattle.its_word.specs.declared.session.Reason.TheVariants.{NoJob, NoPage, ReadOnly, Full}
 use Rattle.its_plain.specs.Job.{pc_word, FATAL}
-use Rattle.its_plain.specs.Change.{protected}
+use Rattle.its_plain.specs.Change.{with_protection}
 use Rattle.its_plain.specs.Machine.{Symbol, Whole, Machine, whole, with_job, with_new, changed, mapped, limit, words_at}
 use Rattle.its_plain.specs.Operator.{and_then}
 use Rattle.its_plain.specs.OperatorSymbols.{symbol_shown}
@@ -34,39 +34,39 @@ abbrev pub with_holder : Machine → ℕ → Option ℕ → Machine
 with_holder m s (Some c) = record m { holders = changed m.holders c (held_by s (m.holders c)) }
 with_holder m s None = m
 
-abbrev pub loaded_in : Machine → ℕ → ℕ → Option ℕ → Option ℕ → Result (Machine × ℕ) Reason
-loaded_in m u j console (Some s) = Ok (with_holder (with_new m s (new_job u j console)) s console, s)
-loaded_in m u j console None = Err Full
+abbrev pub after_load_in : Machine → ℕ → ℕ → Option ℕ → Option ℕ → Result (Machine × ℕ) Reason
+after_load_in m u j console (Some s) = Ok (with_holder (with_new m s (new_job u j console)) s console, s)
+after_load_in m u j console None = Err Full
 
-unfoldable pub loaded : Machine → ℕ → ℕ → Option ℕ → Result (Machine × ℕ) Reason
-loaded m u j console = loaded_in m u j console (least_free (limit m) m.jobs)
+unfoldable pub after_load : Machine → ℕ → ℕ → Option ℕ → Result (Machine × ℕ) Reason
+after_load m u j console = after_load_in m u j console (least_free (limit m) m.jobs)
 
 -- one word of an a/ line: an absent page is made, writable and of zeros, if fewer than the most pages are mapped
-abbrev pub stored_in : Core → ℕ → ℕ → Bool → Bool → Bool → Result Core Reason
-stored_in c a w can there room =
+abbrev pub with_stored_in : Core → ℕ → ℕ → Bool → Bool → Bool → Result Core Reason
+with_stored_in c a w can there room =
     if can then Ok (store c a w)
     else (if there then Err ReadOnly
     else (if room then Ok (store (with_page c (a / 1024) (Some zero_page)) a w) else Err Full))
 
-unfoldable pub stored : ℕ → Core → ℕ → ℕ → Result Core Reason
-stored pages c a w = stored_in c a w (can_store c a) (is_some (word_at c a)) (nat_lt pages most_pages)
+unfoldable pub with_stored : ℕ → Core → ℕ → ℕ → Result Core Reason
+with_stored pages c a w = with_stored_in c a w (can_store c a) (is_some (word_at c a)) (nat_lt pages most_pages)
 
 -- a job in a slot with its core changed
 abbrev pub with_core : Machine → ℕ → Whole → Result Core Reason → Result Machine Reason
 with_core m s q (Ok c) = Ok (with_job m s (record q { core = c }))
 with_core m s q (Err r) = Err r
 
-abbrev pub word_loaded_of : Machine → ℕ → ℕ → ℕ → Option Whole → Result Machine Reason
-word_loaded_of m s a w (Some q) = with_core m s q (stored (mapped m) q.core a w)
-word_loaded_of m s a w None = Err NoJob
+abbrev pub with_word_loaded_of : Machine → ℕ → ℕ → ℕ → Option Whole → Result Machine Reason
+with_word_loaded_of m s a w (Some q) = with_core m s q (with_stored (mapped m) q.core a w)
+with_word_loaded_of m s a w None = Err NoJob
 
-unfoldable pub word_loaded : Machine → ℕ → ℕ → ℕ → Result Machine Reason
-word_loaded m s a w = word_loaded_of m s a w (m.jobs s)
+unfoldable pub with_word_loaded : Machine → ℕ → ℕ → ℕ → Result Machine Reason
+with_word_loaded m s a w = with_word_loaded_of m s a w (m.jobs s)
 
 -- the words of an a/ line, in order
-abbrev pub words_stored : Machine → ℕ → ℕ → List ℕ → Result Machine Reason
-words_stored m s a [] = Ok m
-words_stored m s a (w ∷ ws) = and_then (word_loaded m s a w) (λ n. words_stored n s (a + 1) ws)
+abbrev pub with_words_stored : Machine → ℕ → ℕ → List ℕ → Result Machine Reason
+with_words_stored m s a [] = Ok m
+with_words_stored m s a (w ∷ ws) = and_then (with_word_loaded m s a w) (λ n. with_words_stored n s (a + 1) ws)
 
 -- a page that is there and read only has the word at an address
 abbrev pub is_barred : Core → ℕ → Bool
@@ -85,20 +85,20 @@ abbrev pub words_barred : Machine → ℕ → ℕ → ℕ → Bool
 words_barred m s a n = barred_in (m.jobs s) a n
 
 -- an a/ line: all its words are tested for read-only pages before the first is stored
-abbrev pub words_loaded_if : Machine → ℕ → ℕ → List ℕ → Bool → Result Machine Reason
-words_loaded_if m s a ws true = Err ReadOnly
-words_loaded_if m s a ws false = words_stored m s a ws
+abbrev pub with_words_loaded_if : Machine → ℕ → ℕ → List ℕ → Bool → Result Machine Reason
+with_words_loaded_if m s a ws true = Err ReadOnly
+with_words_loaded_if m s a ws false = with_words_stored m s a ws
 
-unfoldable pub words_loaded : Machine → ℕ → ℕ → List ℕ → Result Machine Reason
-words_loaded m s a ws = words_loaded_if m s a ws (words_barred m s a (length ws))
+unfoldable pub with_words_loaded : Machine → ℕ → ℕ → List ℕ → Result Machine Reason
+with_words_loaded m s a ws = with_words_loaded_if m s a ws (words_barred m s a (length ws))
 
 -- RO: a page that is there becomes read only
-abbrev pub page_protected_in : Machine → ℕ → ℕ → Whole → Option Page → Result Machine Reason
-page_protected_in m s k q (Some p) = Ok (with_job m s (protected k false q))
-page_protected_in m s k q None = Err NoPage
+abbrev pub with_page_protected_in : Machine → ℕ → ℕ → Whole → Option Page → Result Machine Reason
+with_page_protected_in m s k q (Some p) = Ok (with_job m s (with_protection k false q))
+with_page_protected_in m s k q None = Err NoPage
 
-unfoldable pub page_protected : Machine → ℕ → ℕ → Result Machine Reason
-page_protected m s k = on_job m s (λ q. page_protected_in m s k q (page_of q.core k)) (m.jobs s)
+unfoldable pub with_page_protected : Machine → ℕ → ℕ → Result Machine Reason
+with_page_protected m s k = on_job m s (λ q. with_page_protected_in m s k q (page_of q.core k)) (m.jobs s)
 
 -- the registers of a job changed
 abbrev pub with_registers : Machine → ℕ → (Job → Job) → Whole → Result Machine Reason
@@ -108,19 +108,19 @@ unfoldable pub on_registers : Machine → ℕ → (Job → Job) → Result Machi
 on_registers m s f = on_job m s (with_registers m s f) (m.jobs s)
 
 -- GO: the PC, no flags, and the job runs
-abbrev pub started : ℕ → Job → Job
-started a j = record j { pc = a; flags = 0; stopped = false }
+abbrev pub after_go : ℕ → Job → Job
+after_go a j = record j { pc = a; flags = 0; stopped = false }
 
 -- INT: the bits are added to those that are pending
-abbrev pub interrupted : ℕ → ℕ → Job → Job
-interrupted v w j = record j { pend1 = bit_or j.pend1 v; pend2 = bit_or j.pend2 w }
+abbrev pub after_int : ℕ → ℕ → Job → Job
+after_int v w j = record j { pend1 = bit_or j.pend1 v; pend2 = bit_or j.pend2 w }
 
-abbrev pub stopped : Job → Job
-stopped j = record j { stopped = true }
+abbrev pub after_stop : Job → Job
+after_stop j = record j { stopped = true }
 
 -- CONT: the job runs, and no fatal bit is pending
-abbrev pub continued : Job → Job
-continued j = record j { stopped = false; pend1 = bit_and j.pend1 (complement_of FATAL) }
+abbrev pub after_cont : Job → Job
+after_cont j = record j { stopped = false; pend1 = bit_and j.pend1 (complement_of FATAL) }
 
 -- EXAM: n words, all of whose pages must be present
 abbrev pub seen : Option (List ℕ) → Result (List ℕ) Reason
@@ -160,9 +160,9 @@ unfoldable pub state_shown : Machine → ℕ → Result JobShow Reason
 state_shown m s = on_job m s (λ q. Ok (shown q.job q.superior (symbol_shown q.job.pc (m.symbols s)))) (m.jobs s)
 
 -- DEPOSIT
-abbrev pub deposited_in : Core → ℕ → ℕ → Bool → Bool → Result Core Reason
-deposited_in c a w can there = if can then Ok (store c a w) else (if there then Err ReadOnly else Err NoPage)
+abbrev pub after_deposit_in : Core → ℕ → ℕ → Bool → Bool → Result Core Reason
+after_deposit_in c a w can there = if can then Ok (store c a w) else (if there then Err ReadOnly else Err NoPage)
 
-unfoldable pub deposited : Machine → ℕ → ℕ → ℕ → Result Machine Reason
-deposited m s a w =
-    on_job m s (λ q. with_core m s q (deposited_in q.core a w (can_store q.core a) (is_some (word_at q.core a)))) (m.jobs s)
+unfoldable pub after_deposit : Machine → ℕ → ℕ → ℕ → Result Machine Reason
+after_deposit m s a w =
+    on_job m s (λ q. with_core m s q (after_deposit_in q.core a w (can_store q.core a) (is_some (word_at q.core a)))) (m.jobs s)

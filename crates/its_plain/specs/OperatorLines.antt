@@ -12,12 +12,12 @@ use Rattle.its_print.specs.Printing as printed
 use Rattle.its_plain.specs.Machine.{Whole, Machine}
 use Rattle.its_plain.specs.Own.{names_of}
 use Rattle.its_plain.specs.Operator.{Block, Operated, Refuses, Does, Ticks, Quits, nobody, only, disturbs, quietly}
-use Rattle.its_plain.specs.OperatorClock.{due, clocked}
-use Rattle.its_plain.specs.OperatorSymbols.{symbol_kept}
-use Rattle.its_plain.specs.OperatorVersion.{versioned}
-use Rattle.its_plain.specs.OperatorConsoles.{typed, dropped, drained}
-use Rattle.its_plain.specs.OperatorFiles.{file_made, words_added, files_in, listing, file_shown}
-use Rattle.its_plain.specs.OperatorJobs.{loaded, words_loaded, page_protected, started, interrupted, stopped, continued, on_registers, examined, state_shown, deposited}
+use Rattle.its_plain.specs.OperatorClock.{due, after_clock}
+use Rattle.its_plain.specs.OperatorSymbols.{with_symbol_kept}
+use Rattle.its_plain.specs.OperatorVersion.{with_version}
+use Rattle.its_plain.specs.OperatorConsoles.{with_typed, dropped, after_drain}
+use Rattle.its_plain.specs.OperatorFiles.{with_file_made, with_words_added, files_in, listing, file_shown}
+use Rattle.its_plain.specs.OperatorJobs.{after_load, with_words_loaded, with_page_protected, after_go, after_int, after_stop, after_cont, on_registers, examined, state_shown, after_deposit}
 
 -- lines that show something of a job
 abbrev pub by_load : Block → Result (Machine × ℕ) Reason → Operated
@@ -52,28 +52,28 @@ by_clock m b n (Err r) = Refuses r
 -- PEEK does nothing to the machine
 unfoldable pub operate : Machine → Block → Event → Operated
 operate m b Nothing = Does m [] nobody b
-operate m b (Version v) = Does (versioned m v) [] nobody b
-operate m b (Load u j console) = by_load b (loaded m u j console)
-operate m b (Words a words) = disturbs b.slot b (words_loaded m b.slot a words.items)
-operate m b (ReadOnly page) = disturbs b.slot b (page_protected m b.slot page)
-operate m b (Symbol name a) = quietly b (symbol_kept m b.slot name a)
-operate m b (Go a) = disturbs b.slot b (on_registers m b.slot (started a))
-operate m b (File d x y) = quietly (record b { file = names_of d x y }) (file_made m (names_of d x y))
-operate m b (Append words) = quietly b (words_added m b.file words.items)
+operate m b (Version v) = Does (with_version m v) [] nobody b
+operate m b (Load u j console) = by_load b (after_load m u j console)
+operate m b (Words a words) = disturbs b.slot b (with_words_loaded m b.slot a words.items)
+operate m b (ReadOnly page) = disturbs b.slot b (with_page_protected m b.slot page)
+operate m b (Symbol name a) = quietly b (with_symbol_kept m b.slot name a)
+operate m b (Go a) = disturbs b.slot b (on_registers m b.slot (after_go a))
+operate m b (File d x y) = quietly (record b { file = names_of d x y }) (with_file_made m (names_of d x y))
+operate m b (Append words) = quietly b (with_words_added m b.file words.items)
 operate m b EndFile = Does m [] nobody b
 operate m b (Tick s n) = Ticks s n
 operate m b (Run n q) = Does m [] nobody b
 operate m b (TypeIn c bytes) =
-    Does (typed c bytes.items m) (printed.Typed c (dropped (m.consoles c) bytes.items) ∷ []) nobody b
-operate m b (Drain c n) = Does (drained c n m) (printed.Drained c (take n (m.consoles c).output) ∷ []) nobody b
-operate m b (Clock n) = by_clock m b n (clocked m n)
-operate m b (Int s v w) = disturbs s b (on_registers m s (interrupted v w))
+    Does (with_typed c bytes.items m) (printed.Typed c (dropped (m.consoles c) bytes.items) ∷ []) nobody b
+operate m b (Drain c n) = Does (after_drain c n m) (printed.Drained c (take n (m.consoles c).output) ∷ []) nobody b
+operate m b (Clock n) = by_clock m b n (after_clock m n)
+operate m b (Int s v w) = disturbs s b (on_registers m s (after_int v w))
 operate m b (Exam s a n) = by_exam m b s (in_a_line s a) (examined m s a n)
 operate m b (events.List s a n) = by_exam m b s (printed.listed s a) (examined m s a n)
 operate m b (State s) = by_state m b s (state_shown m s)
-operate m b (Deposit s a w) = disturbs s b (deposited m s a w)
-operate m b (Stop s) = disturbs s b (on_registers m s stopped)
-operate m b (Cont s) = disturbs s b (on_registers m s continued)
+operate m b (Deposit s a w) = disturbs s b (after_deposit m s a w)
+operate m b (Stop s) = disturbs s b (on_registers m s after_stop)
+operate m b (Cont s) = disturbs s b (on_registers m s after_cont)
 operate m b (Peek s) = Does m [] nobody b
 operate m b (Dir d) = Does m (listing d (files_in d m.files)) nobody b
 operate m b (Show d x y) = shows m b (file_shown m d x y)

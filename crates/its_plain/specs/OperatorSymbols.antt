@@ -40,13 +40,13 @@ symbol_shown pc ss = with_distance pc (nearest pc ss)
 abbrev pub with_symbol : Machine → ℕ → Symbol → Machine
 with_symbol m s x = record m { symbols = changed m.symbols s (m.symbols s ++ x ∷ []) }
 
-abbrev pub symbol_kept_if : Machine → ℕ → Symbol → Bool → Result Machine Reason
-symbol_kept_if m s x true = Ok (with_symbol m s x)
-symbol_kept_if m s x false = Err Full
+abbrev pub with_symbol_kept_if : Machine → ℕ → Symbol → Bool → Result Machine Reason
+with_symbol_kept_if m s x true = Ok (with_symbol m s x)
+with_symbol_kept_if m s x false = Err Full
 
-abbrev pub symbol_kept_of : Machine → ℕ → Symbol → Option Whole → Result Machine Reason
-symbol_kept_of m s x (Some q) = symbol_kept_if m s x (nat_lt (length (m.symbols s)) most_symbols)
-symbol_kept_of m s x None = Err NoJob
+abbrev pub with_symbol_kept_of : Machine → ℕ → Symbol → Option Whole → Result Machine Reason
+with_symbol_kept_of m s x (Some q) = with_symbol_kept_if m s x (nat_lt (length (m.symbols s)) most_symbols)
+with_symbol_kept_of m s x None = Err NoJob
 
-unfoldable pub symbol_kept : Machine → ℕ → ℕ → ℕ → Result Machine Reason
-symbol_kept m s name a = symbol_kept_of m s (name, a) (m.jobs s)
+unfoldable pub with_symbol_kept : Machine → ℕ → ℕ → ℕ → Result Machine Reason
+with_symbol_kept m s name a = with_symbol_kept_of m s (name, a) (m.jobs s)

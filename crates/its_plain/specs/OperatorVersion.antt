@@ -6,5 +6,5 @@ use Rattle.its_plain.specs.Machine.{Machine}
 
 -- if no slot has a job, the machine becomes one of this version, 1 or 2; else it is unchanged. (In a session VERSION is
 -- allowed on line 1 alone; then there is no job, and the version is 1)
-unfoldable pub versioned : Machine → ℕ → Machine
-versioned m v = if no_job m.jobs then record m { version = v } else m
+unfoldable pub with_version : Machine → ℕ → Machine
+with_version m v = if no_job m.jobs then record m { version = v } else m

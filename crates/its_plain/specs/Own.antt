@@ -34,8 +34,8 @@ exit_of j = record {
   defer2 = j.defer2;
 }
 
-abbrev pub left_with : Exit → Job → Job
-left_with e j = record j {
+abbrev pub after_exit : Exit → Job → Job
+after_exit e j = record j {
   pc = e.pc;
   flags = e.flags;
   pend1 = e.pend1;
@@ -49,12 +49,12 @@ left_with e j = record j {
 abbrev pub with_registers : (Job → Job) → Whole → Whole
 with_registers f q = record q { job = f q.job }
 
-abbrev pub leave : Exit → Whole → Whole
-leave e q = with_registers (left_with e) q
+abbrev pub after_leave : Exit → Whole → Whole
+after_leave e q = with_registers (after_exit e) q
 
 -- a job whose call is over, PC so many words further; first part done is cleared
-abbrev pub advanced : ℕ → Job → Job
-advanced n j = record j { pc = (j.pc + n) % 2 ^ 18; flags = without j.flags BYTE_HALF }
+abbrev pub with_advance : ℕ → Job → Job
+with_advance n j = record j { pc = (j.pc + n) % 2 ^ 18; flags = without j.flags BYTE_HALF }
 
 -- channels
 abbrev pub names_of : ℕ → ℕ → ℕ → Names

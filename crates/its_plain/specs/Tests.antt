@@ -10,7 +10,7 @@ use Rattle.its_frame.specs.declared.decision.Decision.{Decision}
 use Rattle.its_frame.specs.declared.decision.Decision.TheVariants.{Goes, Ends}
 use Rattle.its_frame.specs.declared.decision.Held.{Held}
 use Rattle.its_plain.specs.Job.{bit_of, with_pending}
-use Rattle.its_plain.specs.Own.{exit_of, advanced}
+use Rattle.its_plain.specs.Own.{exit_of, with_advance}
 use Rattle.its_plain.specs.View.{View}
 
 -- a test, and the decision of a call if it holds
@@ -29,7 +29,7 @@ first (t ∷ ts) d = if t.holds then t.stop else first ts d
 
 -- the call finishes: changes, stores, and PC past the call and the instruction after it
 abbrev pub finishes : View → List Change → List Store → Decision
-finishes v cs ss = Ends (record { items = cs }) (record { items = ss }) (exit_of (advanced 2 v.own.job))
+finishes v cs ss = Ends (record { items = cs }) (record { items = ss }) (exit_of (with_advance 2 v.own.job))
 
 -- it fails with a number, which is stored at the error address if there is one; PC gains 1
 abbrev pub number_at : Option ℕ → ℕ → List Store
@@ -37,7 +37,7 @@ number_at (Some p) n = record { at = p; word = n } ∷ []
 number_at None n = []
 
 abbrev pub fails : View → Ask → ℕ → Decision
-fails v a n = Ends (record { items = [] }) (record { items = number_at a.error n }) (exit_of (advanced 1 v.own.job))
+fails v a n = Ends (record { items = [] }) (record { items = number_at a.error n }) (exit_of (with_advance 1 v.own.job))
 
 -- it faults: the pending bit is set, and PC stays
 abbrev pub faults : View → Fault → Decision

@@ -12,7 +12,7 @@ use Rattle.its_frame.specs.declared.change.Change.{Change}
 use Rattle.its_frame.specs.declared.decision.Decision.{Decision}
 use Rattle.its_frame.specs.declared.decision.Decision.TheVariants.{Ends}
 use Rattle.its_frame.specs.Errors as error
-use Rattle.its_plain.specs.Own.{exit_of, advanced}
+use Rattle.its_plain.specs.Own.{exit_of, with_advance}
 use Rattle.its_plain.specs.View.{View}
 use Rattle.its_plain.specs.Arguments.{input, place_of_input, in_footprint}
 use Rattle.its_plain.specs.Tests.{Test, ◌⇒◌, first, finishes, fails, faults}
@@ -33,7 +33,7 @@ word_of v p = unwrap_or (word_at v.own.core p) 0
 
 -- `.IOT` of the word at E. PC gains 1
 abbrev pub iot_ends : View → List Change → List Store → Decision
-iot_ends v cs ss = Ends (record { items = cs }) (record { items = ss }) (exit_of (advanced 1 v.own.job))
+iot_ends v cs ss = Ends (record { items = cs }) (record { items = ss }) (exit_of (with_advance 1 v.own.job))
 
 -- SIOT channel, pointer, count: one byte; pointer and count become those of the rest. I and X, bits 13 to 17 of the
 -- pointer, have to be 0

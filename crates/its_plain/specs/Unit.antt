@@ -109,12 +109,12 @@ row_of c x Call = Err Ilo
 row_of c x Illegal = Err Ilo
 
 -- the registers after a plan: PC has 18 bits, and of the flags only the named ones are kept
-abbrev pub left_by : Job → Plan → Job
-left_by j p = with_pending (record j { pc = p.pc % 2 ^ 18; flags = named_flags p.flags }) p.pending
+abbrev pub after_plan : Job → Plan → Job
+after_plan j p = with_pending (record j { pc = p.pc % 2 ^ 18; flags = named_flags p.flags }) p.pending
 
 -- all stores are checked before any is made
 abbrev pub made : Core → Job → Plan → Option Fault → Outcome
-made c j p None = Changed (stored c p.stores.items) (left_by j p)
+made c j p None = Changed (stored c p.stores.items) (after_plan j p)
 made c j p (Some f) = Faulted f
 
 abbrev pub outcome_of : Core → Job → Planned → Outcome

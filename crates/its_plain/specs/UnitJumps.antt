@@ -52,8 +52,8 @@ branch_row c x Jfcl =
     Ok (record (jump x [] 0 (is_on x.flags (named_by x.a))) { flags = without x.flags (named_by x.a + BYTE_HALF) })
 
 -- the same with PDL set if the count in the left half ran out
-abbrev pub counted : ℕ → ℕ → Plan → Plan
-counted end pointer p = record p { pending = if left_of pointer == end then PDL else 0 }
+abbrev pub with_count : ℕ → ℕ → Plan → Plan
+with_count end pointer p = record p { pending = if left_of pointer == end then PDL else 0 }
 
 -- 260 PUSHJ, 261 PUSH: AC +1,,1, then the word to C(right AC); PDL if AC's left half becomes 0. 262 POP, 263 POPJ:
 -- the word C(right AC), then AC -1,,1; PDL if AC's left half becomes 777777. AC is stored before memory. 264 JSR, 265
@@ -61,16 +61,16 @@ counted end pointer p = record p { pending = if left_of pointer == end then PDL 
 unfoldable pub stack_row : Core → Context → StackOp → Planned
 stack_row c x Pushj =
     let p = both_up (ac c x) in
-    Ok (counted 0 p (completes x (to x.a p ∷ to (right_of p) (pc_word x.flags (x.pc + 1)) ∷ []) 0 x.e))
+    Ok (with_count 0 p (completes x (to x.a p ∷ to (right_of p) (pc_word x.flags (x.pc + 1)) ∷ []) 0 x.e))
 stack_row c x Push =
     let p = both_up (ac c x) in
-    given (read_of c x.e) (λ w. Ok (counted 0 p (next x (to x.a p ∷ to (right_of p) w ∷ []) 0)))
+    given (read_of c x.e) (λ w. Ok (with_count 0 p (next x (to x.a p ∷ to (right_of p) w ∷ []) 0)))
 stack_row c x Pop =
     let p = both_down (ac c x) in
-    given (read_of c (right_of (ac c x))) (λ w. Ok (counted 0o777777 p (next x (to x.a p ∷ to x.e w ∷ []) 0)))
+    given (read_of c (right_of (ac c x))) (λ w. Ok (with_count 0o777777 p (next x (to x.a p ∷ to x.e w ∷ []) 0)))
 stack_row c x Popj =
     let p = both_down (ac c x) in
-    given (read_of c (right_of (ac c x))) (λ w. Ok (counted 0o777777 p (completes x (to x.a p ∷ []) 0 (right_of w))))
+    given (read_of c (right_of (ac c x))) (λ w. Ok (with_count 0o777777 p (completes x (to x.a p ∷ []) 0 (right_of w))))
 stack_row c x Jsr = Ok (completes x (to x.e (pc_word x.flags (x.pc + 1)) ∷ []) 0 (x.e + 1))
 stack_row c x Jsp = Ok (completes x (to x.a (pc_word x.flags (x.pc + 1)) ∷ []) 0 x.e)
 stack_row c x Jsa = Ok (completes x (to x.e (ac c x) ∷ to x.a (pair_of x.e (x.pc + 1)) ∷ []) 0 (x.e + 1))

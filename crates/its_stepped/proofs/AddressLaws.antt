@@ -16,18 +16,18 @@ use Rattle.its_frame.specs.declared.decision.Decision.TheVariants.{Waits, Goes, 
 use Rattle.its_frame.specs.declared.decision.Held.{Held}
 use Rattle.its_frame.specs.declared.variable.Variable.{Variable}
 use Rattle.its_frame.specs.declared.variable.Variable.TheVariants.{Upc}
-use Rattle.its_plain.specs.Arguments.{input, has_input, place_of_input, revalued}
+use Rattle.its_plain.specs.Arguments.{input, has_input, place_of_input, with_new_values}
 use Rattle.its_frame.specs.Variables.{variable_named}
 use Rattle.its_plain.specs.CallBasic.{dismissed_by, dismiss_at, dismiss, Party, Oneself, Channel, by_oneself, by_superior, set_own, own_variable, set_other, value_of_other, other_variable, usrvar_of, channel_at, party, usrvar}
 use Rattle.its_plain.specs.CallTty.{view_console, has_console, can_take, is_holder, lands, ttylnd_of, ttylnd}
 use Rattle.its_plain.specs.CallStep.{with_held, acted, decision, informs, step}
 use Rattle.its_plain.specs.CallUsr.{inferior_named, any_named, makes_job, opens_job, usr_tests, opens_usr, uclose_on, uclose}
-use Rattle.its_plain.specs.Change.{in_job, is_gone, left_job, removed, superiors, inferior, effect, effects}
+use Rattle.its_plain.specs.Change.{in_job, is_gone, job_after_removal, after_removal, superiors, inferior, effect, effects}
 use Rattle.its_plain.specs.Decide.{call_named, decided_by, decided, target, reach}
 use Rattle.its_plain.specs.Interrupt as interrupt
-use Rattle.its_plain.specs.Interrupt.{delivered, dismissed, dismissed_at, below}
+use Rattle.its_plain.specs.Interrupt.{delivered, after_dismissal, after_dismissal_at, below}
 use Rattle.its_plain.specs.Machine.{Chan, Shut, On, Linked, Whole, Machine, no_machine, with_new}
-use Rattle.its_plain.specs.Own.{on_channel, with_variable, advanced}
+use Rattle.its_plain.specs.Own.{on_channel, with_variable, with_advance}
 use Rattle.its_plain.specs.Tests.{◌⇒◌, finishes, fails, out}
 use Rattle.its_plain.specs.Unit.{Changed, unit}
 use Rattle.its_plain.specs.View.{View, view}
@@ -60,13 +60,13 @@ jobs_addressed : (m n : Machine) → n.jobs ≡ m.jobs → Addressed m → Addre
 jobs_addressed m n e a = record { each = λ k. subst (λ (jobs : ℕ → Option Whole). AddressedBy (jobs k)) (sym e) (a.each k) }
 
 -- a removal
-removed_job : (gone : ℕ → Bool) (b : Bool) (o : Option Whole) → AddressedBy o → AddressedBy (left_job gone b o)
+removed_job : (gone : ℕ → Bool) (b : Bool) (o : Option Whole) → AddressedBy o → AddressedBy (job_after_removal gone b o)
 removed_job gone true o a = tt
 removed_job gone false None a = tt
 removed_job gone false (Some q) a = a
 
-removed_addressed : (sup : ℕ → Option ℕ) (r : ℕ) (m : Machine) → Addressed m → Addressed (removed sup r m)
-unfolding removed
+removed_addressed : (sup : ℕ → Option ℕ) (r : ℕ) (m : Machine) → Addressed m → Addressed (after_removal sup r m)
+unfolding after_removal
 removed_addressed sup r m a = record { each = λ k. removed_job (is_gone sup r) (is_gone sup r k) (m.jobs k) (a.each k) }
 
 -- a job that is made
@@ -122,7 +122,7 @@ LeavesAddress (Goes cs h vs) = Unit {0}
 LeavesAddress (Ends cs ss e) = e.pc < 2 ^ 18
 LeavesAddress (Gone cs) = Unit {0}
 
-pub advanced_addressed : (n : ℕ) (j : Job) → (advanced n j).pc < 2 ^ 18
+pub advanced_addressed : (n : ℕ) (j : Job) → (with_advance n j).pc < 2 ^ 18
 advanced_addressed n j = mod_below (j.pc + n) (2 ^ 18) (omega arith)
 
 -- DISMIS
@@ -130,19 +130,19 @@ abbrev PopsAddress : Result Exit Fault → Type 0
 PopsAddress (Ok e) = e.pc < 2 ^ 18
 PopsAddress (Err f) = Unit {0}
 
-popped_address : (j : Job) (can : Bool) (o p r : Option ℕ) → PopsAddress (interrupt.dismissed_by j can o p r)
+popped_address : (j : Job) (can : Bool) (o p r : Option ℕ) → PopsAddress (interrupt.after_dismissal_by j can o p r)
 popped_address j true (Some w) (Some d) (Some e) = mod_below w (2 ^ 18) (omega arith)
 popped_address j false (Some w) (Some d) (Some e) = tt
 popped_address j can (Some w) (Some d) None = tt
 popped_address j can (Some w) None r = tt
 popped_address j can None p r = tt
 
-pointer_address : (c : Core) (j : Job) (p : ℕ) (o : Option ℕ) → PopsAddress (dismissed_at c j p o)
+pointer_address : (c : Core) (j : Job) (p : ℕ) (o : Option ℕ) → PopsAddress (after_dismissal_at c j p o)
 pointer_address c j p (Some s) = popped_address j (can_store c p) (word_at c (right_of s)) (word_at c (below s 1)) (word_at c (below s 2))
 pointer_address c j p None = tt
 
-dismissed_address : (c : Core) (j : Job) (p : ℕ) → PopsAddress (dismissed c j p)
-unfolding dismissed
+dismissed_address : (c : Core) (j : Job) (p : ℕ) → PopsAddress (after_dismissal c j p)
+unfolding after_dismissal
 dismissed_address c j p = pointer_address c j p (word_at c p)
 
 dismissed_leaves : (x : View) (p w : ℕ) (r : Result Exit Fault) → x.own.job.pc < 2 ^ 18 → PopsAddress r → LeavesAddress (dismissed_by x p w r)
@@ -154,12 +154,12 @@ unfolding dismiss
 dismiss_leaves x a h = go (place_of_input a 0)
   where
     go : (o : Option ℕ) → LeavesAddress (dismiss_at x a o)
-    go (Some p) = dismissed_leaves x p (input a 0) (dismissed x.own.core x.own.job p) h (dismissed_address x.own.core x.own.job p)
+    go (Some p) = dismissed_leaves x p (input a 0) (after_dismissal x.own.core x.own.job p) h (dismissed_address x.own.core x.own.job p)
     go None = advanced_addressed 1 x.own.job
 
 -- USRVAR
 own_leaves : (x : View) (a : Ask) (y : Variable) (b : Bool) → LeavesAddress (set_own x a y b)
-own_leaves x a y true = variable_addressed y (input a 2) (advanced 2 x.own.job) (advanced_addressed 2 x.own.job)
+own_leaves x a y true = variable_addressed y (input a 2) (with_advance 2 x.own.job) (advanced_addressed 2 x.own.job)
 own_leaves x a y false = advanced_addressed 2 x.own.job
 
 own_variable_leaves : (x : View) (a : Ask) (o : Option Variable) → LeavesAddress (own_variable x a o)
@@ -271,7 +271,7 @@ acted_addressed : (m : Machine) (j : ℕ) (a : Ask) (ks : List ℕ) (d : Decisio
 unfolding acted
 acted_addressed m j a ks (Waits r) l h = tt
 acted_addressed m j a ks (Goes cs b vs) l h =
-    job_addressed (effects cs.items j m) j _ (λ q x. subst (λ (i : Job). i.pc < 2 ^ 18) (sym (held_job (revalued a vs.items) b q)) x) (effects_addressed cs.items j m h)
+    job_addressed (effects cs.items j m) j _ (λ q x. subst (λ (i : Job). i.pc < 2 ^ 18) (sym (held_job (with_new_values a vs.items) b q)) x) (effects_addressed cs.items j m h)
 acted_addressed m j a ks (Ends cs ss e) l h = job_addressed (effects cs.items j m) j _ (λ q x. l) (effects_addressed cs.items j m h)
 acted_addressed m j a ks (Gone cs) l h = effects_addressed (changes.Remove j ∷ cs.items) j m h
 

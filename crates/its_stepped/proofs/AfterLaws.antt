@@ -7,8 +7,8 @@ use Rattle.its_plain.specs.Operator.{Block, Refuses, Does, Ticks, Quits}
 use Rattle.its_plain.specs.OperatorLines.{Lined, Done, Peeks, lined}
 use Rattle.its_stepped.specs.State.{State, plain}
 use Rattle.its_stepped.specs.Sound.{Sound}
-use Rattle.its_stepped.specs.Tick.{helped_if}
-use Rattle.its_stepped.specs.Lines.{looks_at_files, calmed, state_after, after_line, lifted_line, machine_after, touched_by}
+use Rattle.its_stepped.specs.Tick.{after_help_if}
+use Rattle.its_stepped.specs.Lines.{looks_at_files, after_calm, state_after, after_line, lifted_line, machine_after, touched_by}
 use Rattle.its_stepped.proofs.HelpLaws.{helped_if_plain, helped_if_sound, helped_if_others}
 use Rattle.its_stepped.proofs.LineLaws.{line_plain}
 use Rattle.its_stepped.proofs.KeptLaws.{KeptBy, line_kept}
@@ -20,7 +20,7 @@ sound_by w u v _ sound h = sound
 pub after_sound : (w : State) (b : Block) (e : Event) → Sound w → Sound (after_line w b e)
 unfolding after_line
 after_sound w b e sound =
-    sound_by w (helped_if (looks_at_files e) w) (calmed w b e) (lined (calmed w b e).raw b e) (helped_if_sound (looks_at_files e) w sound) (line_kept w b e sound)
+    sound_by w (after_help_if (looks_at_files e) w) (after_calm w b e) (lined (after_calm w b e).raw b e) (helped_if_sound (looks_at_files e) w sound) (line_kept w b e sound)
 
 plain_by : (w v : State) (l : Lined) → plain (state_after w v l) ≡ machine_after (plain w) (lifted_line v l)
 plain_by w v (Done (Does m out touched b)) = refl
@@ -32,8 +32,8 @@ plain_by w v (Peeks s) = refl
 pub after_plain : (w : State) (b : Block) (e : Event) → Sound w → plain (after_line w b e) ≡ machine_after (plain w) (lined (plain w) b e)
 unfolding after_line
 after_plain w b e sound =
-    let l = lined (calmed w b e).raw b e in
-    plain_by (helped_if (looks_at_files e) w) (calmed w b e) l ∙ ap (λ m. machine_after m (lifted_line (calmed w b e) l)) (helped_if_plain (looks_at_files e) w)
+    let l = lined (after_calm w b e).raw b e in
+    plain_by (after_help_if (looks_at_files e) w) (after_calm w b e) l ∙ ap (λ m. machine_after m (lifted_line (after_calm w b e) l)) (helped_if_plain (looks_at_files e) w)
     ∙ ap (machine_after (plain w)) (sym (line_plain w b e sound))
 
 frames_by : (w u v : State) (l : Lined) (k : ℕ) → u.frames k ≡ w.frames k → touched_by (lifted_line v l) k ≡ false → KeptBy w v l → (state_after u v l).frames k ≡ w.frames k
@@ -43,5 +43,5 @@ frames_by w u v _ k same away h = same
 pub after_frames : (w : State) (b : Block) (e : Event) (k : ℕ) → Sound w → touched_by (lined (plain w) b e) k ≡ false → (after_line w b e).frames k ≡ w.frames k
 unfolding after_line
 after_frames w b e k sound away =
-    frames_by w (helped_if (looks_at_files e) w) (calmed w b e) (lined (calmed w b e).raw b e) k (helped_if_others (looks_at_files e) w k).frame
+    frames_by w (after_help_if (looks_at_files e) w) (after_calm w b e) (lined (after_calm w b e).raw b e) k (helped_if_others (looks_at_files e) w k).frame
     (sym (ap (λ l. touched_by l k) (line_plain w b e sound)) ∙ away) (line_kept w b e sound)

@@ -13,16 +13,16 @@ use Rattle.its_frame.specs.declared.decision.Decision.{Decision}
 use Rattle.its_frame.specs.declared.decision.Decision.TheVariants.{Waits, Goes, Ends, Gone}
 use Rattle.its_frame.specs.declared.decision.Held.{Held}
 use Rattle.its_print.specs.Printing.{Line}
-use Rattle.its_plain.specs.Arguments.{revalued}
+use Rattle.its_plain.specs.Arguments.{with_new_values}
 use Rattle.its_plain.specs.CallStep.{with_held, acted, decision, informs, step}
-use Rattle.its_plain.specs.Change.{in_job, is_gone, left_job, removed, superiors, inferior, with_alarm, effect, effects}
+use Rattle.its_plain.specs.Change.{in_job, is_gone, job_after_removal, after_removal, superiors, inferior, with_alarm, effect, effects}
 use Rattle.its_plain.specs.Decide.{reach}
 use Rattle.its_plain.specs.Interrupt.{delivered}
 use Rattle.its_plain.specs.Machine.{Shut, Linked, Whole, Machine, no_machine, with_new}
 use Rattle.its_plain.specs.Operator.{Block, Does}
 use Rattle.its_plain.specs.OperatorLines.{Done, lined}
-use Rattle.its_plain.specs.Alarm.{is_due, time_after, renewed}
-use Rattle.its_plain.specs.OperatorClock.{alarm_in, due, rung_if, at_clock}
+use Rattle.its_plain.specs.Alarm.{is_due, time_after, alarm_renewed}
+use Rattle.its_plain.specs.OperatorClock.{alarm_in, due, after_alarm_if, at_clock}
 use Rattle.its_plain.specs.Own.{on_channel}
 use Rattle.its_plain.proofs.CallLineLaws.{AlarmsKept, Same, Went, LineKeepsBy, line_keeps}
 use Rattle.its_plain.proofs.StepLaws.{AllOf, step_has}
@@ -60,13 +60,13 @@ jobs_alarmed m n e t a = record {
 }
 
 -- a removal, and a job that is made
-removed_job : (c : ℕ) (gone : ℕ → Bool) (b : Bool) (o : Option Whole) → AlarmedBy c o → AlarmedBy c (left_job gone b o)
+removed_job : (c : ℕ) (gone : ℕ → Bool) (b : Bool) (o : Option Whole) → AlarmedBy c o → AlarmedBy c (job_after_removal gone b o)
 removed_job c gone true o a = tt
 removed_job c gone false None a = tt
 removed_job c gone false (Some q) a = a
 
-removed_alarmed : (sup : ℕ → Option ℕ) (r : ℕ) (m : Machine) → Alarmed m → Alarmed (removed sup r m)
-unfolding removed
+removed_alarmed : (sup : ℕ → Option ℕ) (r : ℕ) (m : Machine) → Alarmed m → Alarmed (after_removal sup r m)
+unfolding after_removal
 removed_alarmed sup r m a = record { each = λ k. removed_job m.clock (is_gone sup r) (is_gone sup r k) (m.jobs k) (a.each k) }
 
 either_alarmed : (c : ℕ) (b : Bool) (p o : Option Whole) → AlarmedBy c p → AlarmedBy c o → AlarmedBy c (if b then p else o)
@@ -114,7 +114,7 @@ gone_alarmed m j h = removed_alarmed (superiors m) j m h
 acted_alarmed : (m : Machine) (j : ℕ) (a : Ask) (ks : List ℕ) (d : Decision) → FitsAll d j m → Alarmed m → AllOf (λ t. Alarmed t.machine) (acted m j a ks d)
 unfolding acted
 acted_alarmed m j a ks (Waits r) f h = tt
-acted_alarmed m j a ks (Goes cs b vs) f h = job_alarmed (effects cs.items j m) j _ (λ q. held_alarm (revalued a vs.items) b q) (effects_alarmed cs.items j m f h)
+acted_alarmed m j a ks (Goes cs b vs) f h = job_alarmed (effects cs.items j m) j _ (λ q. held_alarm (with_new_values a vs.items) b q) (effects_alarmed cs.items j m f h)
 acted_alarmed m j a ks (Ends cs ss e) f h = job_alarmed (effects cs.items j m) j _ (λ q. refl) (effects_alarmed cs.items j m f h)
 acted_alarmed m j a ks (Gone cs) f h = effects_alarmed cs.items j (effect (changes.Remove j) j m) f.0 (gone_alarmed m j h)
 
@@ -147,7 +147,7 @@ after_above c a some due =
     rw e (omega arith)
 
 -- CLOCK: an alarm that goes is to come again, and one that does not go was to come later
-goes_alarmed : (c d : ℕ) (o : Option (ℕ × ℕ)) → is_due d o ≡ true → IfSome o (λ a. Coming c a) → IfSome (renewed d o) (λ a. Coming d a)
+goes_alarmed : (c d : ℕ) (o : Option (ℕ × ℕ)) → is_due d o ≡ true → IfSome o (λ a. Coming c a) → IfSome (alarm_renewed d o) (λ a. Coming d a)
 goes_alarmed c d (Some a) due h = record { some = h.some; most = h.most; next = after_above d a h.some (leb-true a.1 d due) }
 goes_alarmed c d None due h = tt
 
@@ -155,13 +155,13 @@ waits_alarmed : (c d : ℕ) (o : Option (ℕ × ℕ)) → is_due d o ≡ false �
 waits_alarmed c d (Some a) due h = record { some = h.some; most = h.most; next = leb-false a.1 d due }
 waits_alarmed c d None due h = tt
 
-went_by : (c d : ℕ) (o : Option Whole) (b : Bool) → is_due d (alarm_in o) ≡ b → AlarmedBy c o → AlarmedBy d (rung_if d b o)
+went_by : (c d : ℕ) (o : Option Whole) (b : Bool) → is_due d (alarm_in o) ≡ b → AlarmedBy c o → AlarmedBy d (after_alarm_if d b o)
 went_by c d (Some q) true due h = goes_alarmed c d q.alarm due h
 went_by c d (Some q) false due h = waits_alarmed c d q.alarm due h
 went_by c d None true due h = tt
 went_by c d None false due h = tt
 
-went_alarmed : (c d k : ℕ) (o : Option Whole) (there : Bool) → nat_lt k slots ≡ there → (slots ≤ k → o ≡ None) → AlarmedBy c o → AlarmedBy d (rung_if d (there && is_due d (alarm_in o)) o)
+went_alarmed : (c d k : ℕ) (o : Option Whole) (there : Bool) → nat_lt k slots ≡ there → (slots ≤ k → o ≡ None) → AlarmedBy c o → AlarmedBy d (after_alarm_if d (there && is_due d (alarm_in o)) o)
 went_alarmed c d k o true is few h = went_by c d o (is_due d (alarm_in o)) refl h
 went_alarmed c d k o false is few h = subst (AlarmedBy d) (sym (few (ltb-false k slots is))) tt
 

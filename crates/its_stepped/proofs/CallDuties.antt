@@ -13,10 +13,10 @@ use Rattle.its_word.specs.declared.plan.Store.{Store}
 use Rattle.its_frame.specs.declared.change.Change.TheVariants as changes
 use Rattle.its_frame.specs.declared.name.CallName.{CallName}
 use Rattle.its_frame.specs.declared.name.CallName.TheVariants.{Hang, Sleep}
-use Rattle.its_plain.specs.Arguments.{stores_of, valued, input, place_of_input, is_shared, debts, revalued}
+use Rattle.its_plain.specs.Arguments.{stores_of, operands_with_values, input, place_of_input, is_shared, debts, with_new_values}
 use Rattle.its_plain.specs.CallBasic.{hang, sleep_tests, sleep, negated, shared_place, read_only, popped, dismissed_by, dismiss_at, dismiss, is_negative, longest_period, alarm_of, realt}
 use Rattle.its_plain.specs.Decide.{call_named}
-use Rattle.its_plain.specs.Interrupt.{dismissed, dismissed_at, below}
+use Rattle.its_plain.specs.Interrupt.{after_dismissal, after_dismissal_at, below}
 use Rattle.its_plain.specs.Interrupt as interrupts
 use Rattle.its_plain.specs.Machine.{Machine}
 use Rattle.its_plain.specs.Tests.{◌⇒◌, finishes, fails, goes}
@@ -47,16 +47,16 @@ unfolding debts
 one_debt a v p e = ap (λ xs. stores_of (drop (length xs - 1) xs)) e
 
 one_valued : (a : Ask) (v p w : ℕ) → a.inputs.items ≡ record { value = v; place = Some p } ∷ []
-    → revalued a (w ∷ []) ≡ record a { inputs = record { items = record { value = w; place = Some p } ∷ [] } }
-unfolding revalued
-one_valued a v p w e = ap (λ xs. record a { inputs = record { items = take (length xs - 1) xs ++ valued (drop (length xs - 1) xs) (w ∷ []) } }) e
+    → with_new_values a (w ∷ []) ≡ record a { inputs = record { items = record { value = w; place = Some p } ∷ [] } }
+unfolding with_new_values
+one_valued a v p w e = ap (λ xs. record a { inputs = record { items = take (length xs - 1) xs ++ operands_with_values (drop (length xs - 1) xs) (w ∷ []) } }) e
 
-new_debt : (a : Ask) (v p w : ℕ) → a.inputs.items ≡ record { value = v; place = Some p } ∷ [] → debts (revalued a (w ∷ [])) 1 ≡ record { at = p; word = w } ∷ []
+new_debt : (a : Ask) (v p w : ℕ) → a.inputs.items ≡ record { value = v; place = Some p } ∷ [] → debts (with_new_values a (w ∷ [])) 1 ≡ record { at = p; word = w } ∷ []
 new_debt a v p w e =
     ap (λ (k : Ask). debts k 1) (one_valued a v p w e) ∙ one_debt (record a { inputs = record { items = record { value = w; place = Some p } ∷ [] } }) w p refl
 
-pub named_same : (a : Ask) (vs : List ℕ) → (revalued a vs).name ≡ a.name
-unfolding revalued
+pub named_same : (a : Ask) (vs : List ℕ) → (with_new_values a vs).name ≡ a.name
+unfolding with_new_values
 named_same a vs = refl
 
 -- one word at most is pending
@@ -82,7 +82,7 @@ slept_duty : (d : Decoding) (m : Machine) (v : State) (j : ℕ) (x : View) (s : 
 slept_duty d m v j x s a n k p w c e one at alone can =
     let owed = new_debt a k p w one in
     let few : n ≤ 1 = (let f = c.debts.few in let o = sleeper_owes a e in omega arith) in
-    let same : most_owed (revalued a (w ∷ [])) ≡ 1 = sleeper_owes (revalued a (w ∷ [])) (ap call_named (named_same a (w ∷ [])) ∙ e) in
+    let same : most_owed (with_new_values a (w ∷ [])) ≡ 1 = sleeper_owes (with_new_values a (w ∷ [])) (ap call_named (named_same a (w ∷ [])) ∙ e) in
     record {
       quiet = tt;
       spare = tt;
@@ -98,7 +98,7 @@ slept_duty d m v j x s a n k p w c e one at alone can =
         read = ap (λ (ss : List Store). length ss) owed;
         stored = subst (λ (ss : List Store). Stored x.own.core ss) (sym owed) (ap (can_store x.own.core) at ∙ can, tt);
       };
-      stands = subst (λ (i : Core). Stands i x.own.job s (revalued a (w ∷ []))) (sym (ap (stored x.own.core) owed ∙ stored_one x.own.core p w at))
+      stands = subst (λ (i : Core). Stands i x.own.job s (with_new_values a (w ∷ []))) (sym (ap (stored x.own.core) owed ∙ stored_one x.own.core p w at))
           (subst (λ (i : Ask). Stands (store x.own.core p w) x.own.job s i) (sym (one_valued a k p w one)) (d.slept x.own.core x.own.job s a p k w c.stands one alone can));
     }
 
@@ -126,30 +126,30 @@ sleep_duty d m v j x s a n c e z =
     (λ t. sleep_goes d m v j x s a n (negated (x.clock + input a 0)) (place_of_input a 0) c e z refl t.1.1.1.1.0 t.1.1.1.1.1.0)
 
 -- DISMIS
-can_dismiss : (j : Job) (can : Bool) (a b c : Option ℕ) (e : Exit) → interrupts.dismissed_by j can a b c ≡ Ok e → can ≡ true
+can_dismiss : (j : Job) (can : Bool) (a b c : Option ℕ) (e : Exit) → interrupts.after_dismissal_by j can a b c ≡ Ok e → can ≡ true
 can_dismiss j true a b c e h = refl
 can_dismiss j false (Some w) (Some d2) (Some d1) e h = cc
 can_dismiss j false (Some w) (Some d2) None e h = cc
 can_dismiss j false (Some w) None c e h = cc
 can_dismiss j false None b c e h = cc
 
-can_dismiss_at : (c : Core) (j : Job) (p : ℕ) (o : Option ℕ) (e : Exit) → dismissed_at c j p o ≡ Ok e → can_store c p ≡ true
+can_dismiss_at : (c : Core) (j : Job) (p : ℕ) (o : Option ℕ) (e : Exit) → after_dismissal_at c j p o ≡ Ok e → can_store c p ≡ true
 can_dismiss_at c j p (Some s) e h = can_dismiss j (can_store c p) _ _ _ e h
 can_dismiss_at c j p None e h = cc
 
-can_dismissed : (c : Core) (j : Job) (p : ℕ) (e : Exit) → dismissed c j p ≡ Ok e → can_store c p ≡ true
-unfolding dismissed
+can_dismissed : (c : Core) (j : Job) (p : ℕ) (e : Exit) → after_dismissal c j p ≡ Ok e → can_store c p ≡ true
+unfolding after_dismissal
 can_dismissed c j p e h = can_dismiss_at c j p (word_at c p) e h
 
 dismissed_duty : (m : Machine) (v : State) (j : ℕ) (x : View) (s : Site) (a : Ask) (n p : ℕ) (r : Result Exit Fault) → Calling m v j x.own s a n → p % 2 ^ 18 ≡ p
-    → dismissed x.own.core x.own.job p ≡ r → Duty v j x.own s a n (dismissed_by x p (input a 0) r)
+    → after_dismissal x.own.core x.own.job p ≡ r → Duty v j x.own s a n (dismissed_by x p (input a 0) r)
 dismissed_duty m v j x s a n p (Ok e) c at is =
     ending_duty m v j x.own s a n [] (record { at = p; word = popped (input a 0) } ∷ []) c tt tt refl (ap (can_store x.own.core) at ∙ can_dismissed x.own.core x.own.job p e is, tt) (omega arith)
 dismissed_duty m v j x s a n p (Err f) c at is = faults_duty m v j x s a n f c
 
 dismiss_at_duty : (m : Machine) (v : State) (j : ℕ) (x : View) (s : Site) (a : Ask) (n : ℕ) (o : Option ℕ) → Calling m v j x.own s a n → place_of_input a 0 ≡ o
     → Duty v j x.own s a n (dismiss_at x a o)
-dismiss_at_duty m v j x s a n (Some p) c is = dismissed_duty m v j x s a n p (dismissed x.own.core x.own.job p) c (c.fetched.input 0 p is) refl
+dismiss_at_duty m v j x s a n (Some p) c is = dismissed_duty m v j x s a n p (after_dismissal x.own.core x.own.job p) c (c.fetched.input 0 p is) refl
 dismiss_at_duty m v j x s a n None c is = fails_duty m v j x s a n 0o17 c
 
 pub dismiss_duty : (m : Machine) (v : State) (j : ℕ) (x : View) (s : Site) (a : Ask) (n : ℕ) → Calling m v j x.own s a n → Duty v j x.own s a n (dismiss x a)

@@ -12,7 +12,7 @@ use Rattle.its_plain.specs.OperatorClock.{clock_end}
 use Rattle.its_plain.specs.OperatorLines.{Done, lined}
 use Rattle.its_plain.specs.CallStep.{acted, decision, informs, step}
 use Rattle.its_plain.specs.Decide.{reach}
-use Rattle.its_plain.specs.Change.{removed, effect, effects}
+use Rattle.its_plain.specs.Change.{after_removal, effect, effects}
 use Rattle.its_plain.specs.Interrupt.{delivered}
 use Rattle.its_plain.specs.Machine.{Machine}
 use Rattle.its_plain.specs.Operator.{Block, Does}
@@ -21,7 +21,7 @@ use Rattle.its_plain.proofs.StepLaws.{AllOf, step_has}
 
 -- a change
 effect_clock : (c : Change) (j : ℕ) (m : Machine) → (effect c j m).clock ≡ m.clock
-unfolding effect removed
+unfolding effect after_removal
 effect_clock (changes.Open n on) j m = refl
 effect_clock (changes.Shut n) j m = refl
 effect_clock (changes.Move n at) j m = refl

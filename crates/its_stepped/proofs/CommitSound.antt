@@ -23,12 +23,12 @@ use Rattle.its_plain.specs.Interrupt.{deliverable}
 use Rattle.its_plain.specs.Machine.{Whole, changed}
 use Rattle.its_plain.specs.Own.{with_stores}
 use Rattle.its_plain.specs.Change.{on_slot, is_gone, superiors}
-use Rattle.its_plain.specs.Arguments.{input, in_footprint, debts, revalued}
+use Rattle.its_plain.specs.Arguments.{input, in_footprint, debts, with_new_values}
 use Rattle.its_plain.specs.Decide.{call_named}
 use Rattle.its_plain.specs.CallStep.{deposited, with_held}
 use Rattle.its_word.specs.Stores.{stored}
 use Rattle.its_stepped.specs.State.{State, seen, with_slot, same, waiting, ending}
-use Rattle.its_stepped.specs.Commit.{effect_on, effects_on, sleeps, stays, gone_on, owed_parts, owed_by, committed}
+use Rattle.its_stepped.specs.Commit.{effect_on, effects_on, sleeps, stays, after_going_on, owed_parts, owed_by, after_commit}
 use Rattle.its_stepped.specs.Tick.{reserves}
 use Rattle.its_stepped.specs.Sound.{Stuck, Stands, Stored, Debts, IsWaitable, Transfers, WaitingPays, SoundFrame, SoundBy, SoundSlot, MarkBy, Sound}
 use Rattle.its_stepped.specs.Quiet.{AllQuiet}
@@ -229,10 +229,10 @@ stays_frame false q s a n r e runs quiet stands d page none fine = record {
 
 -- the frame after it, of a caller with the core and registers that it had
 on_frame : (q : Whole) (s : Site) (a : Ask) (n : ℕ) (olds : List Store) (b : Option Held) (r : Option ℕ) → q.job.stopped ≡ false → deliverable q.job ≡ false
-    → seen (Some (gone_on s a n b)) q ≡ with_stores (debts a n) (with_held a b (with_stores olds q)) → IfSome b (HeldFits (stored q.core olds) olds n)
+    → seen (Some (after_going_on s a n b)) q ≡ with_stores (debts a n) (with_held a b (with_stores olds q)) → IfSome b (HeldFits (stored q.core olds) olds n)
     → IfSome b (λ x. has_size (input a 1) ≡ true) → IfSome b (λ x. Transfers a) → IfSome b (λ x. in_footprint x.place a ≡ false)
     → Stands (with_stores (debts a n) (with_held a b (with_stores olds q))).core (with_stores (debts a n) (with_held a b (with_stores olds q))).job s a → Debts q.core a n → r ≡ None
-    → reserves a ≡ false → a.fail ≡ 0 → SoundFrame q (gone_on s a n b) r
+    → reserves a ≡ false → a.fail ≡ 0 → SoundFrame q (after_going_on s a n b) r
 unfolding seen
 on_frame q s a n olds None r runs quiet is f size moves out stands d page none fine =
     stays_frame (sleeps (call_named a.name)) q s a n r refl runs quiet
@@ -254,17 +254,17 @@ on_frame q s a n olds (Some b) r runs quiet is f size moves out stands d page no
 }
 
 -- the rest is of the same call
-revalued_fine : (a : Ask) (vs : List ℕ) → a.fail ≡ 0 → (revalued a vs).fail ≡ 0
-unfolding revalued
+revalued_fine : (a : Ask) (vs : List ℕ) → a.fail ≡ 0 → (with_new_values a vs).fail ≡ 0
+unfolding with_new_values
 revalued_fine a vs fine = fine
 
-transfers_rest : (b : Option Held) (a : Ask) (vs : List ℕ) → IfSome b (λ x. Transfers a) → IfSome b (λ x. Transfers (revalued a vs))
-unfolding revalued
+transfers_rest : (b : Option Held) (a : Ask) (vs : List ℕ) → IfSome b (λ x. Transfers a) → IfSome b (λ x. Transfers (with_new_values a vs))
+unfolding with_new_values
 transfers_rest None a vs h = tt
 transfers_rest (Some b) a vs h = record { siot = h.siot; no_error = h.no_error }
 
 -- the word of a held byte is outside the footprint of the rest
-outside_rest : (b : Option Held) (a : Ask) (vs : List ℕ) → IfSome b (λ x. in_footprint x.place a ≡ false) → IfSome b (λ x. in_footprint x.place (revalued a vs) ≡ false)
+outside_rest : (b : Option Held) (a : Ask) (vs : List ℕ) → IfSome b (λ x. in_footprint x.place a ≡ false) → IfSome b (λ x. in_footprint x.place (with_new_values a vs) ≡ false)
 outside_rest None a vs h = tt
 outside_rest (Some b) a vs h = footprint_same b.place a vs ∙ h
 
@@ -273,10 +273,10 @@ stands_from f c d k i s a e t h = subst (λ (x : Core). Stands (f x) k s a) (sym
 
 pub goes_sound : (v : State) (j : ℕ) (q : Whole) (s : Site) (a : Ask) (n : ℕ) (cs : List Change) (b : Option Held) (vs : List ℕ) → Sound v → Here v j q a n
     → Going v j (with_stores (debts a n) q) s a n cs b vs → a.fail ≡ 0
-    → Sound (with_slot (effects_on cs j v) j same (Some (gone_on s (revalued a vs) (length vs) b)))
+    → Sound (with_slot (effects_on cs j v) j same (Some (after_going_on s (with_new_values a vs) (length vs) b)))
 goes_sound v j q s a n cs b vs sound h d fine =
     let w = effects_on cs j v in
-    let k = revalued a vs in
+    let k = with_new_values a vs in
     let m : ℕ = length vs in
     let olds = debts a n in
     let marks = marking_all cs j v 0 d.quiet (marking_begins j v.mark v.frames sound.mark h.parts) in
@@ -284,9 +284,9 @@ goes_sound v j q s a n cs b vs sound h d fine =
     let x = spared cs j v q d.spare h.job_is in
     let core : x.whole.core ≡ q.core = ap (λ (p : Core × Job). p.0) x.same in
     let job : x.whole.job ≡ q.job = ap (λ (p : Core × Job). p.1) x.same in
-    with_slot_sound w j same (Some (gone_on s k m b))
+    with_slot_sound w j same (Some (after_going_on s k m b))
     (others_sound cs j v d.quiet (λ i ne. sound.each i))
-    (slot_sound (Some x.whole) _ (Some (gone_on s k m b)) _ (w.reserved j) _ (ap (option_map same) x.is) refl refl
+    (slot_sound (Some x.whole) _ (Some (after_going_on s k m b)) _ (w.reserved j) _ (ap (option_map same) x.is) refl refl
     (record {
       by = on_frame x.whole s k m olds b (w.reserved j)
           (ap (λ (i : Job). i.stopped) job ∙ h.runs)
@@ -302,7 +302,7 @@ goes_sound v j q s a n cs b vs sound h d fine =
           (revalued_reserves_none a vs d.debts.few (h.page ∙ ap is_some d.page))
           (revalued_fine a vs fine);
     }))
-    (mark_gone_on j w.frames (Some (gone_on s k m b)) w.mark (marking_within j w.mark w.frames (parts_in cs + 0) 0 (omega arith) marks))
+    (mark_gone_on j w.frames (Some (after_going_on s k m b)) w.mark (marking_within j w.mark w.frames (parts_in cs + 0) 0 (omega arith) marks))
   where
     stands_at : (b : Option Held) (p q : Whole) (s : Site) (a : Ask) (n : ℕ) (olds : List Store) → p.core ≡ q.core → p.job ≡ q.job
         → Stands (with_stores (debts a n) (with_held a b (with_stores olds q))).core (with_stores olds q).job s a
@@ -313,8 +313,8 @@ goes_sound v j q s a n cs b vs sound h d fine =
 
 -- every decision that is carried out
 pub committed_sound : (v : State) (j : ℕ) (q : Whole) (s : Site) (a : Ask) (n : ℕ) (d : Decision) → Sound v → Here v j q a n
-    → Duty v j (with_stores (debts a n) q) s a n d → Acts d → (GoesBy d → a.fail ≡ 0) → Sound (committed v j s a n d)
-unfolding committed
+    → Duty v j (with_stores (debts a n) q) s a n d → Acts d → (GoesBy d → a.fail ≡ 0) → Sound (after_commit v j s a n d)
+unfolding after_commit
 committed_sound v j q s a n (Waits r) sound h d t fine = absurd t
 committed_sound v j q s a n (Goes cs b vs) sound h d t fine = goes_sound v j q s a n cs.items b vs.items sound h d (fine tt)
 committed_sound v j q s a n (Ends cs ss e) sound h d t fine = ends_sound v j q s a n cs.items ss.items e sound h d

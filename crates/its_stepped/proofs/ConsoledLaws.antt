@@ -24,17 +24,17 @@ use Rattle.its_frame.specs.declared.frame.Frame.{Frame}
 use Rattle.its_frame.specs.declared.frame.Frame.TheVariants.{Ending}
 use Rattle.its_frame.specs.declared.variable.Variable.{Variable}
 use Rattle.its_frame.specs.declared.variable.Variable.TheVariants.{Uname, Jname, Uind, Suppro, Cnsl, Pages, Upc, Ustp, Pirqc, Ifpir, Mask, Msk2, Df1, Df2}
-use Rattle.its_plain.specs.Arguments.{revalued}
+use Rattle.its_plain.specs.Arguments.{with_new_values}
 use Rattle.its_plain.specs.CallStep.{with_held, acted, decision, informs, step}
-use Rattle.its_plain.specs.Change.{in_job, is_gone, left_job, removed, superiors, console_in, inferior, poke, effect, effects}
+use Rattle.its_plain.specs.Change.{in_job, is_gone, job_after_removal, after_removal, superiors, console_in, inferior, poke, effect, effects}
 use Rattle.its_plain.specs.Interrupt.{Entry, entries_of, first_entry, pushed, at_handler, by_stores, by_pointer, by_entry, by_length, by_table, through_table, unguarded, delivered}
 use Rattle.its_plain.specs.Machine.{Shut, Linked, Whole, Machine, with_job, no_machine, limit, with_new}
-use Rattle.its_plain.specs.OperatorJobs.{new_job, with_holder, loaded_in, loaded}
-use Rattle.its_plain.specs.Own.{with_stores, leave, on_channel, with_variable}
+use Rattle.its_plain.specs.OperatorJobs.{new_job, with_holder, after_load_in, after_load}
+use Rattle.its_plain.specs.Own.{with_stores, after_leave, on_channel, with_variable}
 use Rattle.its_plain.specs.Unit.{Changed, unit}
 use Rattle.its_plain.proofs.UnitLaws.{unit_keeps}
 use Rattle.its_stepped.specs.Consoled.{Consoled}
-use Rattle.its_stepped.specs.State.{State, owed_made, seen, plain}
+use Rattle.its_stepped.specs.State.{State, after_owed, seen, plain}
 use Rattle.its_plain.proofs.StepLaws.{AllOf, step_has}
 use Rattle.its_plain.specs.Decide.{reach}
 
@@ -87,22 +87,22 @@ abbrev LoadConsoled : Result (Machine × ℕ) Reason → Type 0
 LoadConsoled (Ok (n, s)) = Consoled n
 LoadConsoled (Err r) = Unit {0}
 
-load_consoled : (m : Machine) (u j : ℕ) (console o : Option ℕ) → Housed console → Consoled m → LoadConsoled (loaded_in m u j console o)
+load_consoled : (m : Machine) (u j : ℕ) (console o : Option ℕ) → Housed console → Consoled m → LoadConsoled (after_load_in m u j console o)
 load_consoled m u j console (Some s) h a = held_consoled (with_new m s (new_job u j console)) s console (jobs_consoled (with_job m s (new_job u j console)) _ refl (put_consoled m s (new_job u j console) (fresh_housed u j console h) a))
 load_consoled m u j console None h a = tt
 
-pub loaded_consoled : (m n : Machine) (u j s : ℕ) (console : Option ℕ) → IfSome console (λ c. c < 8) → Consoled m → loaded m u j console ≡ Ok (n, s) → Consoled n
-unfolding loaded
+pub loaded_consoled : (m n : Machine) (u j s : ℕ) (console : Option ℕ) → IfSome console (λ c. c < 8) → Consoled m → after_load m u j console ≡ Ok (n, s) → Consoled n
+unfolding after_load
 loaded_consoled m n u j s console h a e = subst LoadConsoled e (load_consoled m u j console (least_free (limit m) m.jobs) h a)
 
 -- a removal
-removed_job : (gone : ℕ → Bool) (b : Bool) (o : Option Whole) → HousedBy o → HousedBy (left_job gone b o)
+removed_job : (gone : ℕ → Bool) (b : Bool) (o : Option Whole) → HousedBy o → HousedBy (job_after_removal gone b o)
 removed_job gone true o a = tt
 removed_job gone false None a = tt
 removed_job gone false (Some q) a = a
 
-removed_consoled : (sup : ℕ → Option ℕ) (r : ℕ) (m : Machine) → Consoled m → Consoled (removed sup r m)
-unfolding removed
+removed_consoled : (sup : ℕ → Option ℕ) (r : ℕ) (m : Machine) → Consoled m → Consoled (after_removal sup r m)
+unfolding after_removal
 removed_consoled sup r m a = record { each = λ k. removed_job (is_gone sup r) (is_gone sup r k) (m.jobs k) (a.each k) }
 
 -- a job that is made has its maker's console
@@ -171,7 +171,7 @@ held_console a (Some b) q = refl
 acted_consoled : (m : Machine) (j : ℕ) (a : Ask) (ks : List ℕ) (d : Decision) → Consoled m → AllOf (λ t. Consoled t.machine) (acted m j a ks d)
 unfolding acted
 acted_consoled m j a ks (Waits r) h = tt
-acted_consoled m j a ks (Goes cs b vs) h = job_consoled (effects cs.items j m) j _ (λ q. held_console (revalued a vs.items) b q) (effects_consoled cs.items j m h)
+acted_consoled m j a ks (Goes cs b vs) h = job_consoled (effects cs.items j m) j _ (λ q. held_console (with_new_values a vs.items) b q) (effects_consoled cs.items j m h)
 acted_consoled m j a ks (Ends cs ss e) h = job_consoled (effects cs.items j m) j _ (λ q. refl) (effects_consoled cs.items j m h)
 acted_consoled m j a ks (Gone cs) h = effects_consoled (changes.Remove j ∷ cs.items) j m h
 
@@ -220,10 +220,10 @@ step_consoled m n j h e = step_has Consoled m n j (λ q is.
     }) e
 
 -- a raw job has the console of its plain job
-owed_console : (os : List Owed) (q : Whole) → (owed_made os q).job.console ≡ q.job.console
+owed_console : (os : List Owed) (q : Whole) → (after_owed os q).job.console ≡ q.job.console
 owed_console [] q = refl
 owed_console (owed.Store a w ∷ os) q = owed_console os (with_stores (poke a w ∷ []) q)
-owed_console (Leave e ∷ os) q = owed_console os (leave e q)
+owed_console (Leave e ∷ os) q = owed_console os (after_leave e q)
 owed_console (GiveBack ∷ os) q = owed_console os q
 owed_console (Unlink ∷ os) q = owed_console os q
 owed_console (Link ∷ os) q = owed_console os q

@@ -25,9 +25,9 @@ use Rattle.its_plain.specs.Own.{with_stores}
 use Rattle.its_plain.specs.Licence.{Dots, most_dots, dots_after}
 use Rattle.its_plain.specs.Unit.{Outcome, Changed, Faulted, Called, unit}
 use Rattle.its_stepped.specs.State.{Part, Mark, mine, State, plain, seen, with_slot, same, reserving, entered, parsed, asked, holding, ending}
-use Rattle.its_stepped.specs.Unwind.{with_part, due, settled, unwind_by, unwind_one, all_unwound}
-use Rattle.its_stepped.specs.Commit.{effects_on, committed}
-use Rattle.its_stepped.specs.Tick.{Ticked, off, works, helps, user_on, unit_on, parsed_on, fetched_on, prepared_on, reserves, prepared_for, tried, tried_by, quarters, held_on, tick_in, tick_unless, tick_of, tick}
+use Rattle.its_stepped.specs.Unwind.{with_part, due, after_settling, unwind_by, unwind_one, all_unwound}
+use Rattle.its_stepped.specs.Commit.{effects_on, after_commit}
+use Rattle.its_stepped.specs.Tick.{Ticked, off, works, helps, user_on, unit_on, parsed_on, fetched_on, after_preparation, reserves, with_preparation, tried, tried_by, quarters, held_on, tick_in, tick_unless, tick_of, tick}
 use Rattle.its_stepped.specs.Sound.{Owes, Paged, SoundFrame, SoundBy, Sound}
 use Rattle.its_stepped.specs.Duty.{Duty, Meets, GivenBy, Given, IsTried}
 use Rattle.its_stepped.proofs.FrameLaws.{changed_only}
@@ -128,13 +128,13 @@ fetched_dots : (w : State) (j : ℕ) (s : Site) (f : Option Frame) (r : Result A
 fetched_dots w j s f (Ok a) is e = slot_works w _ j f (Some (asked s a)) refl is (omega arith)
 fetched_dots w j s f (Err x) is e = slot_steps w _ j None (λ i ne t. (changed_only w.frames j None).others i ne)
 
-prepared_dots : (w : State) (j : ℕ) (s : Site) (a : Ask) (f : Option Frame) (b : Bool) → w.frames j ≡ f → bound f ≡ 7 → RowDots w j (works (prepared_on w j s a b))
+prepared_dots : (w : State) (j : ℕ) (s : Site) (a : Ask) (f : Option Frame) (b : Bool) → w.frames j ≡ f → bound f ≡ 7 → RowDots w j (works (after_preparation w j s a b))
 prepared_dots w j s a f true is e = slot_works w _ j f (Some (holding s a (Some 0) 0)) refl is (omega arith)
 prepared_dots w j s a f false is e = slot_works w _ j f (Some (holding s a None 0)) refl is (omega arith)
 
 -- a call that is tried
-found_others : (w : State) (j k : ℕ) (own : Whole) (a : Ask) → among k (reach (plain w) j own a) ≡ false → (prepared_for w j own a).frames k ≡ w.frames k
-unfolding prepared_for
+found_others : (w : State) (j k : ℕ) (own : Whole) (a : Ask) → among k (reach (plain w) j own a) ≡ false → (with_preparation w j own a).frames k ≡ w.frames k
+unfolding with_preparation
 found_others w j k own a h =
     let u = all_unwound (reach (plain w) j own a) w in
     (helped_if_others (helps own a) u k).frame ∙ (all_unwound_others (reach (plain w) j own a) w k h).frame
@@ -147,7 +147,7 @@ trying_reach w j k q s a n d t e acts =
 
 decided_dots : (w v : State) (j : ℕ) (own : Whole) (s : Site) (a : Ask) (n : ℕ) (d : Decision) → Duty v j own s a n d
     → (Acts d → (k : ℕ) → k ≢ j → disturbed (plain w) j k ≡ false → v.frames k ≡ w.frames k) → bound (w.frames j) ≤ 12 → RowDots w j (tried w v j s a n d)
-unfolding committed
+unfolding after_commit
 decided_dots w v j own s a n (Waits r) duty h few = record {
   own = subst (λ (f : Option Frame). bound (w.frames j) ≤ bound f) (sym (changed_only w.frames j _).here) few;
   others = λ k ne t. (changed_only w.frames j _).others k ne;
@@ -164,7 +164,7 @@ tried_dots : (w : State) (j : ℕ) (q : Whole) (s : Site) (a : Ask) (n : ℕ) �
 tried_dots w j q s a n t m few =
     let own : Whole = with_stores (debts a n) q in
     let d : Decision = decision (plain w) j own a in
-    decided_dots w (prepared_for w j own a) j own s a n d m.duty
+    decided_dots w (with_preparation w j own a) j own s a n d m.duty
     (λ acts k ne x. found_others w j k own a (sym (trying_reach w j k q s a n d t refl acts) ∙ x)) few
 
 held_dots : (w : State) (j : ℕ) (q : Whole) (s : Site) (a : Ask) (page : Option ℕ) (n : ℕ) → Trying w j q s a n → (IsTried page → Meets w j (with_stores (debts a n) q) s a n)
@@ -203,7 +203,7 @@ pub record Shorter (w v : State) (j : ℕ) (most : ℕ) : Type 0 where
   pub is : v.frames ≡ changed w.frames j frame
   pub more : 4 - most + 1 ≤ bound frame
 
-settled_frames : (w : State) (j : ℕ) (s : Site) (a : Ask) (os : List Owed) (most : ℕ) → length os ≤ most → 1 ≤ most → most ≤ 4 → Shorter w (settled w j s a os) j most
+settled_frames : (w : State) (j : ℕ) (s : Site) (a : Ask) (os : List Owed) (most : ℕ) → length os ≤ most → 1 ≤ most → most ≤ 4 → Shorter w (after_settling w j s a os) j most
 settled_frames w j s a [] most h some few = record { frame = None; is = refl; more = omega arith }
 settled_frames w j s a (owed.Store p v ∷ os) most h some few = record { frame = Some (ending s a os); is = refl; more = omega arith }
 settled_frames w j s a (owed.GiveBack ∷ os) most h some few = record { frame = Some (ending s a os); is = refl; more = omega arith }

@@ -9,7 +9,7 @@ use Rattle.its_frame.specs.declared.frame.Frame.{Frame}
 use Rattle.its_plain.specs.Alarm.{is_due}
 use Rattle.its_plain.specs.CallStep.{among}
 use Rattle.its_plain.specs.Machine.{Whole, Machine}
-use Rattle.its_plain.specs.OperatorClock.{alarm_in, due, due_slots, rung, rung_if, at_clock}
+use Rattle.its_plain.specs.OperatorClock.{alarm_in, due, due_slots, after_alarm, after_alarm_if, at_clock}
 use Rattle.its_plain.proofs.MachineLaws.{jobs_are}
 use Rattle.its_stepped.specs.State.{State, seen, plain}
 use Rattle.its_stepped.specs.Unwind.{all_unwound}
@@ -71,15 +71,15 @@ pub undue_frame : (w : State) (c k : ℕ) → due c w.raw.jobs k ≡ false → (
 undue_frame w c k h = (all_unwound_others (due_slots c w.raw.jobs) w k (undue_unlisted c w.raw.jobs k h)).frame
 
 -- they go alike
-user_rung : (f : Option Frame) (c : ℕ) (b : Bool) (o : Option Whole) → (b ≡ true → f ≡ None) → option_map (seen f) (rung_if c b o) ≡ rung_if c b (option_map (seen f) o)
+user_rung : (f : Option Frame) (c : ℕ) (b : Bool) (o : Option Whole) → (b ≡ true → f ≡ None) → option_map (seen f) (after_alarm_if c b o) ≡ after_alarm_if c b (option_map (seen f) o)
 unfolding seen
 user_rung f c false o h = refl
 user_rung f c true None h = refl
-user_rung f c true (Some q) h = ap (λ (g : Option Frame). Some (seen g (rung c q))) (h refl) ∙ sym (ap (λ (g : Option Frame). Some (rung c (seen g q))) (h refl))
+user_rung f c true (Some q) h = ap (λ (g : Option Frame). Some (seen g (after_alarm c q))) (h refl) ∙ sym (ap (λ (g : Option Frame). Some (after_alarm c (seen g q))) (h refl))
 
-jobs_alike : (v : State) (c k : ℕ) → rung_if c (due c v.raw.jobs k) (option_map (seen (v.frames k)) (v.raw.jobs k)) ≡ rung_if c (due c (plain v).jobs k) ((plain v).jobs k)
+jobs_alike : (v : State) (c k : ℕ) → after_alarm_if c (due c v.raw.jobs k) (option_map (seen (v.frames k)) (v.raw.jobs k)) ≡ after_alarm_if c (due c (plain v).jobs k) ((plain v).jobs k)
 unfolding plain
-jobs_alike v c k = ap (λ (b : Bool). rung_if c b (option_map (seen (v.frames k)) (v.raw.jobs k))) (ap (λ (f : ℕ → Bool). f k) (sym (due_plain v c)))
+jobs_alike v c k = ap (λ (b : Bool). after_alarm_if c b (option_map (seen (v.frames k)) (v.raw.jobs k))) (ap (λ (f : ℕ → Bool). f k) (sym (due_plain v c)))
 
 pub rung_plain : (v : State) (c : ℕ) → Hushed c v → plain (with_raw v (at_clock c v.raw)) ≡ at_clock c (plain v)
 unfolding plain

@@ -14,13 +14,13 @@ use Rattle.its_frame.specs.declared.change.Change.TheVariants as changes
 use Rattle.its_frame.specs.declared.frame.Frame.{Frame}
 use Rattle.its_frame.specs.declared.frame.Frame.TheVariants.{Holding, Waiting, Moving, Ending}
 use Rattle.its_plain.specs.Machine.{Names, File, Pipe, Chan, Shut, Writes, Linked, Whole, Machine, whole, changed}
-use Rattle.its_plain.specs.Own.{with_stores, leave, with_registers, names_of, opened_on, at_position, with_word, on_channel, with_variable}
-use Rattle.its_plain.specs.Change.{on_slot, in_job, same_names, without_file, filed, renamed, channel_in, files_closed, superior_in, superiors, is_gone, shut_on, left_job, removed, console_in, inferior, with_page_at, protected, poke, with_inf, with_alarm, end_closed, with_sent, with_received, on_link, effect, effects}
+use Rattle.its_plain.specs.Own.{with_stores, after_leave, with_registers, names_of, opened_on, at_position, with_word, on_channel, with_variable}
+use Rattle.its_plain.specs.Change.{on_slot, in_job, same_names, without_file, with_file, with_new_names, channel_in, files_after_close, superior_in, superiors, is_gone, after_shut, job_after_removal, after_removal, console_in, inferior, with_page_at, with_protection, poke, with_inf, with_alarm, after_end_close, with_sent, with_received, on_link, effect, effects}
 use Rattle.its_plain.specs.Arguments.{input, debts}
 use Rattle.its_plain.specs.CallStep.{deposited}
 use Rattle.its_plain.proofs.MachineLaws.{machine_is, jobs_are}
 use Rattle.its_plain.specs.CallFile.{file_named, has_file}
-use Rattle.its_stepped.specs.State.{State, helped, parts_of, parts_made, mark_of_close, held_at, owed_made, seen, seen_jobs, plain}
+use Rattle.its_stepped.specs.State.{State, after_help, parts_of, after_parts, mark_of_close, held_at, after_owed, seen, seen_jobs, plain}
 use Rattle.its_stepped.specs.Commit.{effect_on, effects_on}
 use Rattle.its_stepped.specs.Sound.{Stuck, StuckBy, Pays, Standing, SoundFrame, SoundSlot}
 use Rattle.its_stepped.specs.Quiet.{IsStill, Reached, MakesPage, Quiet, AllQuiet}
@@ -32,11 +32,11 @@ use Rattle.its_stepped.proofs.JoinedLaws.{opened_link}
 -- a change of a job that looks at no core and no registers, and leaves them, is the same before and after the pending
 -- steps of a frame
 module _ (h : Whole → Whole) (core : (q : Whole) → (h q).core ≡ q.core) (stores : (ss : List Store) (q : Whole) → with_stores ss (h q) ≡ h (with_stores ss q))
-    (leaves : (e : Exit) (q : Whole) → leave e (h q) ≡ h (leave e q)) where
-  owed_moves : (os : List Owed) (q : Whole) → owed_made os (h q) ≡ h (owed_made os q)
+    (leaves : (e : Exit) (q : Whole) → after_leave e (h q) ≡ h (after_leave e q)) where
+  owed_moves : (os : List Owed) (q : Whole) → after_owed os (h q) ≡ h (after_owed os q)
   owed_moves [] q = refl
-  owed_moves (owed.Store a w ∷ os) q = ap (owed_made os) (stores (poke a w ∷ []) q) ∙ owed_moves os (with_stores (poke a w ∷ []) q)
-  owed_moves (owed.Leave e ∷ os) q = ap (owed_made os) (leaves e q) ∙ owed_moves os (leave e q)
+  owed_moves (owed.Store a w ∷ os) q = ap (after_owed os) (stores (poke a w ∷ []) q) ∙ owed_moves os (with_stores (poke a w ∷ []) q)
+  owed_moves (owed.Leave e ∷ os) q = ap (after_owed os) (leaves e q) ∙ owed_moves os (after_leave e q)
   owed_moves (owed.GiveBack ∷ os) q = owed_moves os q
   owed_moves (owed.Unlink ∷ os) q = owed_moves os q
   owed_moves (owed.Link ∷ os) q = owed_moves os q
@@ -56,8 +56,8 @@ module _ (h : Whole → Whole) (core : (q : Whole) → (h q).core ≡ q.core) (s
 pub seen_channel : (n : ℕ) (g : Chan → Chan) (f : Option Frame) (q : Whole) → seen f (on_channel n g q) ≡ on_channel n g (seen f q)
 seen_channel n g f q = frame_moves (on_channel n g) (λ p. refl) (λ ss p. refl) (λ e p. refl) f q
 
-pub seen_shut_on : (gone : ℕ → Bool) (f : Option Frame) (q : Whole) → seen f (shut_on gone q) ≡ shut_on gone (seen f q)
-seen_shut_on gone f q = frame_moves (shut_on gone) (λ p. refl) (λ ss p. refl) (λ e p. refl) f q
+pub seen_shut_on : (gone : ℕ → Bool) (f : Option Frame) (q : Whole) → seen f (after_shut gone q) ≡ after_shut gone (seen f q)
+seen_shut_on gone f q = frame_moves (after_shut gone) (λ p. refl) (λ ss p. refl) (λ e p. refl) f q
 
 pub seen_armed : (alarm : Option (ℕ × ℕ)) (f : Option Frame) (q : Whole) → seen f (with_alarm alarm q) ≡ with_alarm alarm (seen f q)
 seen_armed alarm f q = frame_moves (with_alarm alarm) (λ p. refl) (λ ss p. refl) (λ e p. refl) f q
@@ -103,16 +103,16 @@ changed_none n h (g ∷ fs) none =
     let first = none_first n g fs (same_names n g.names) refl none in
     ap (λ b. changed_if b g (h g) ∷ with_changed n h fs) first.0 ∙ ap (λ gs. g ∷ gs) (changed_none n h fs first.1)
 
-pub renamed_none : (n : Names) (u v : ℕ) (fs : List File) → has_file n fs ≡ false → renamed n u v fs ≡ fs
-unfolding renamed
+pub renamed_none : (n : Names) (u v : ℕ) (fs : List File) → has_file n fs ≡ false → with_new_names n u v fs ≡ fs
+unfolding with_new_names
 renamed_none n u v fs none = changed_none n _ fs none
 
-closed_parts : (f : File) (b : Bool) (fs : List File) → has_file f.names fs ≡ b → parts_made f (parts_of b) fs ≡ filed f fs
+closed_parts : (f : File) (b : Bool) (fs : List File) → has_file f.names fs ≡ b → after_parts f (parts_of b) fs ≡ with_file f fs
 closed_parts f true fs e = refl
 closed_parts f false fs e = ap (λ gs. gs ++ f ∷ []) (sym (without_none f.names fs e))
 
-pub closed_helps : (j : ℕ) (c : Chan) (fs : List File) → helped (mark_of_close j c fs) fs ≡ files_closed c fs
-unfolding helped
+pub closed_helps : (j : ℕ) (c : Chan) (fs : List File) → after_help (mark_of_close j c fs) fs ≡ files_after_close c fs
+unfolding after_help
 closed_helps j (Writes f) fs = closed_parts f (has_file f.names fs) fs refl
 closed_helps j _ fs = refl
 
@@ -134,8 +134,8 @@ unfolding plain
 superiors_plain w = λ t k. superior_seen (w.frames k) (w.raw.jobs k) t
 
 pub unmarked_files : (w : State) → w.mark ≡ None → (plain w).files ≡ w.raw.files
-unfolding plain helped
-unmarked_files w e = ap (λ o. helped o w.raw.files) e
+unfolding plain after_help
+unmarked_files w e = ap (λ o. after_help o w.raw.files) e
 
 -- each change
 close_plain : (n j : ℕ) (w : State) → w.mark ≡ None → plain (effect_on (changes.Close n) j w) ≡ effect (changes.Close n) j (plain w)
@@ -145,8 +145,8 @@ close_plain n j w e =
     (jobs_is w.frames w.frames w.raw.jobs j (on_channel n (λ c. Shut)) (on_channel n (λ c. Shut)) (λ k ne. refl) (λ q is. seen_channel n (λ c. Shut) (w.frames j) q))
     (λ k. refl) (λ k. refl)
     (closed_helps j (channel_in (w.raw.jobs j) n) w.raw.files
-    ∙ ap (λ c. files_closed c w.raw.files) (sym (channel_seen (w.frames j) (w.raw.jobs j) n))
-    ∙ ap (files_closed (channel_in (option_map (seen (w.frames j)) (w.raw.jobs j)) n)) (sym (unmarked_files w e)))
+    ∙ ap (λ c. files_after_close c w.raw.files) (sym (channel_seen (w.frames j) (w.raw.jobs j) n))
+    ∙ ap (files_after_close (channel_in (option_map (seen (w.frames j)) (w.raw.jobs j)) n)) (sym (unmarked_files w e)))
     refl refl (λ k. refl) (λ k. refl)
 
 made_job : (f : Option Frame) (o : Option Whole) (g : Option Frame) (j u n : ℕ) → g ≡ None
@@ -169,29 +169,29 @@ make_plain s u n j w e =
     ])
     (λ k. refl) (λ k. refl) refl refl refl (λ k. refl) (λ k. refl)
 
-shut_seen : (gone : ℕ → Bool) (f : Option Frame) (o : Option Whole) → option_map (seen f) (option_map (shut_on gone) o) ≡ option_map (shut_on gone) (option_map (seen f) o)
+shut_seen : (gone : ℕ → Bool) (f : Option Frame) (o : Option Whole) → option_map (seen f) (option_map (after_shut gone) o) ≡ option_map (after_shut gone) (option_map (seen f) o)
 shut_seen gone f None = refl
 shut_seen gone f (Some q) = ap Some (seen_shut_on gone f q)
 
 left_seen : (gone : ℕ → Bool) (b : Bool) (f : Option Frame) (o : Option Whole)
-    → option_map (seen (if b then None else f)) (left_job gone b o) ≡ left_job gone b (option_map (seen f) o)
+    → option_map (seen (if b then None else f)) (job_after_removal gone b o) ≡ job_after_removal gone b (option_map (seen f) o)
 left_seen gone true f o = refl
 left_seen gone false f o = shut_seen gone f o
 
 remove_plain : (s j : ℕ) (w : State) → plain (effect_on (changes.Remove s) j w) ≡ effect (changes.Remove s) j (plain w)
-unfolding effect_on effect plain removed
+unfolding effect_on effect plain after_removal
 remove_plain s j w =
     let sup = superiors w.raw in
-    let p : plain (effect_on (changes.Remove s) j w) ≡ removed sup s (plain w) =
+    let p : plain (effect_on (changes.Remove s) j w) ≡ after_removal sup s (plain w) =
     machine_is _ _ (λ k. left_seen (is_gone sup s) (is_gone sup s k) (w.frames k) (w.raw.jobs k)) (λ k. refl) (λ k. refl) refl refl refl (λ k. refl)
     (λ k. refl) in
-    p ∙ ap (λ f. removed f s (plain w)) (sym (superiors_plain w))
+    p ∙ ap (λ f. after_removal f s (plain w)) (sym (superiors_plain w))
 
 pub files_plain : (w : State) (g : List File → List File) → w.mark ≡ None
     → plain (record w { raw = record w.raw { files = g w.raw.files } }) ≡ record (plain w) { files = g (plain w).files }
-unfolding plain helped
+unfolding plain after_help
 files_plain w g e =
-    machine_is _ _ (λ k. refl) (λ k. refl) (λ k. refl) (ap (λ o. helped o (g w.raw.files)) e ∙ ap (λ o. g (helped o w.raw.files)) (sym e)) refl refl
+    machine_is _ _ (λ k. refl) (λ k. refl) (λ k. refl) (ap (λ o. after_help o (g w.raw.files)) e ∙ ap (λ o. g (after_help o w.raw.files)) (sym e)) refl refl
     (λ k. refl) (λ k. refl)
 
 -- consoles and holders, which no frame touches; a page, whose reservation the plain machine has not
@@ -241,18 +241,18 @@ effect_plain (changes.Poke s a word) j w h = reached_plain w j s (with_stores (p
 effect_plain (changes.Set s v word) j w h = reached_plain w j s (with_registers (with_variable v word)) h
 effect_plain (changes.Map s k) j w h = map_plain s k j w h
 effect_plain (changes.Unmap s k) j w h = reached_plain w j s (with_page_at k None) h
-effect_plain (changes.Protect s k b) j w h = reached_plain w j s (protected k b) h
+effect_plain (changes.Protect s k b) j w h = reached_plain w j s (with_protection k b) h
 effect_plain (changes.Make s u n) j w h = make_plain s u n j w h
 effect_plain (changes.Remove s) j w h = remove_plain s j w
 effect_plain (changes.Inform s) j w h = reached_plain w j s with_inf h
 effect_plain (changes.Arm alarm) j w h = in_job_plain w j (with_alarm alarm) (seen_armed alarm (w.frames j))
 effect_plain (changes.Join n l write x y) j w h =
     ends_plain w j l (on_channel n (λ c. Linked l write)) (opened_link write j n x y) (seen_channel n (λ c. Linked l write) (w.frames j))
-effect_plain (changes.Part n l write) j w h = ends_plain w j l (on_channel n (λ c. Shut)) (end_closed write) (seen_channel n (λ c. Shut) (w.frames j))
+effect_plain (changes.Part n l write) j w h = ends_plain w j l (on_channel n (λ c. Shut)) (after_end_close write) (seen_channel n (λ c. Shut) (w.frames j))
 effect_plain (changes.Send l x) j w h = linked_plain w l (option_map (with_sent x))
 effect_plain (changes.Receive l) j w h = linked_plain w l (option_map with_received)
 effect_plain (changes.Delete d x y) j w h = files_plain w (without_file (names_of d x y)) h
-effect_plain (changes.Rename d x y u v) j w h = files_plain w (renamed (names_of d x y) u v) h
+effect_plain (changes.Rename d x y u v) j w h = files_plain w (with_new_names (names_of d x y) u v) h
 
 pub effects_plain : (cs : List Change) (j : ℕ) (w : State) → AllQuiet cs j w → plain (effects_on cs j w) ≡ effects cs j (plain w)
 effects_plain [] j w h = refl
@@ -288,12 +288,12 @@ slot_own : (w : State) (j k : ℕ) (h : Whole → Whole) → k ≢ j → SoundSl
 slot_own w j k h ne sound = slot_still _ _ _ _ (on_slot_other w.raw.jobs j k h ne) sound
 
 -- a removal closes channels on jobs, for which no call waits
-shut_stuck : (gone : ℕ → Bool) (f : Frame) (q : Whole) (r : Option ℕ) → Pays f q.core r → StuckBy f (seen (Some f) q) → StuckBy f (seen (Some f) (shut_on gone q))
+shut_stuck : (gone : ℕ → Bool) (f : Frame) (q : Whole) (r : Option ℕ) → Pays f q.core r → StuckBy f (seen (Some f) q) → StuckBy f (seen (Some f) (after_shut gone q))
 shut_stuck gone (Waiting f) q r p s = subst (λ (x : Whole). Stuck x f.ask) (sym (seen_shut_on gone (Some (Waiting f)) q)) (stuck_shut gone (seen (Some (Waiting f)) q) f.ask p.waitable s)
 shut_stuck gone _ q r p s = tt
 
 -- a removal closes channels, of which soundness speaks no more
-shut_sound : (gone : ℕ → Bool) (q : Whole) (f : Frame) (r : Option ℕ) → SoundFrame q f r → SoundFrame (shut_on gone q) f r
+shut_sound : (gone : ℕ → Bool) (q : Whole) (f : Frame) (r : Option ℕ) → SoundFrame q f r → SoundFrame (after_shut gone q) f r
 shut_sound gone q f r s = record {
   runs = s.runs;
   quiet = s.quiet;
@@ -302,7 +302,7 @@ shut_sound gone q f r s = record {
   stuck = shut_stuck gone f q r s.pays s.stuck;
 }
 
-slot_shut : (gone : ℕ → Bool) (o : Option Whole) (f : Option Frame) (r : Option ℕ) → SoundSlot o f r → SoundSlot (option_map (shut_on gone) o) f r
+slot_shut : (gone : ℕ → Bool) (o : Option Whole) (f : Option Frame) (r : Option ℕ) → SoundSlot o f r → SoundSlot (option_map (after_shut gone) o) f r
 slot_shut gone None f r s = s
 slot_shut gone (Some q) None r s = record { by = s.by }
 slot_shut gone (Some q) (Some f) r s = record { by = shut_sound gone q f r s.by }
@@ -313,7 +313,7 @@ slot_empty (Some q) None r e s = record { by = (refl, s.by) }
 slot_empty o (Some f) r e s = cc
 
 slot_left : (gone : ℕ → Bool) (b : Bool) (o : Option Whole) (f : Option Frame) (r : Option ℕ) → (b ≡ true → f ≡ None) → SoundSlot o f r
-    → SoundSlot (left_job gone b o) (if b then None else f) r
+    → SoundSlot (job_after_removal gone b o) (if b then None else f) r
 slot_left gone true o f r e s = slot_empty o f r (e refl) s
 slot_left gone false o f r e s = slot_shut gone o f r s
 
@@ -329,7 +329,7 @@ slot_unreserved o f r t e s = rw e s
 
 pub effect_sound : (c : Change) (j : ℕ) (w : State) (k : ℕ) → Quiet c j w → k ≢ j → SoundSlot (w.raw.jobs k) (w.frames k) (w.reserved k)
     → SoundSlot ((effect_on c j w).raw.jobs k) ((effect_on c j w).frames k) ((effect_on c j w).reserved k)
-unfolding effect_on effect removed
+unfolding effect_on effect after_removal
 effect_sound (changes.Open n on) j w k h ne s = slot_own w j k (on_channel n (λ c. opened_on on)) ne s
 effect_sound (changes.Shut n) j w k h ne s = slot_own w j k (on_channel n (λ c. Shut)) ne s
 effect_sound (changes.Move n at) j w k h ne s = slot_own w j k (on_channel n (at_position at)) ne s
@@ -340,7 +340,7 @@ effect_sound (changes.Set i v word) j w k h ne s = slot_reached w j i k (with_re
 effect_sound (changes.Map i p) j w k h ne s =
     slot_unreserved _ _ _ _ ((changed_only w.reserved j None).others k ne) (slot_reached w j i k (with_page_at p (Some zero_page)) h.reached ne s)
 effect_sound (changes.Unmap i p) j w k h ne s = slot_reached w j i k (with_page_at p None) h ne s
-effect_sound (changes.Protect i p b) j w k h ne s = slot_reached w j i k (protected p b) h ne s
+effect_sound (changes.Protect i p b) j w k h ne s = slot_reached w j i k (with_protection p b) h ne s
 effect_sound (changes.Make i u n) j w k h ne s = slot_new w i k (inferior j (w.raw.jobs j) u n) h s
 effect_sound (changes.Remove i) j w k h ne s =
     slot_left (is_gone (superiors w.raw) i) (is_gone (superiors w.raw) i k) (w.raw.jobs k) (w.frames k) (w.reserved k) (λ gone. h k gone ne) s

@@ -13,11 +13,11 @@ use Rattle.its_frame.specs.Left.{is_made_by, kept}
 use Rattle.its_frame.specs.declared.frame.Frame.{Frame}
 use Rattle.its_plain.specs.Interrupt.{deliverable}
 use Rattle.its_plain.specs.Machine.{File, Whole, changed}
-use Rattle.its_plain.specs.Own.{with_stores, leave}
+use Rattle.its_plain.specs.Own.{with_stores, after_leave}
 use Rattle.its_plain.specs.Change.{poke}
 use Rattle.its_word.specs.Stores.{place}
-use Rattle.its_stepped.specs.State.{Part, UnlinkOld, LinkNew, FreeOld, Mark, State, part_made, helped, mine, owed_made, seen, with_slot, same, ending}
-use Rattle.its_stepped.specs.Unwind.{rest_marked, with_part, due, settled}
+use Rattle.its_stepped.specs.State.{Part, UnlinkOld, LinkNew, FreeOld, Mark, State, after_part, after_help, mine, after_owed, seen, with_slot, same, ending}
+use Rattle.its_stepped.specs.Unwind.{rest_marked, with_part, due, after_settling}
 use Rattle.its_stepped.specs.Sound.{Owes, backs, SoundFrame, MarkBy, file_parts, FilesFirst, parts_in_frame}
 use Rattle.its_stepped.specs.OneChange.{OneWord, OnePart, Registers}
 use Rattle.its_stepped.proofs.FrameLaws.{stored_one, changed_only}
@@ -49,7 +49,7 @@ pub record Due (c : Core) (b : Bool) (os xs : List Owed) : Type 0 where
   pub owes : Owes c xs
   pub few : length xs ≤ length os
   pub backs : backs xs ≡ backs os
-  pub made : (q : Whole) → owed_made xs q ≡ owed_made os q
+  pub made : (q : Whole) → after_owed xs q ≡ after_owed os q
   pub count : count_by (is_made_by b) xs ≡ count_by (is_made_by b) os
   pub parts : b ≡ true → file_parts xs ≡ file_parts os
   pub first : FilesFirst xs
@@ -66,7 +66,7 @@ head_true Free = refl
 head_true (Leave e) = refl
 
 -- a file step that another call has made is passed over
-passed : (c : Core) (o : Owed) (os xs : List Owed) → is_made_by false o ≡ false → backs (o ∷ os) ≡ backs os → ((q : Whole) → owed_made (o ∷ os) q ≡ owed_made os q)
+passed : (c : Core) (o : Owed) (os xs : List Owed) → is_made_by false o ≡ false → backs (o ∷ os) ≡ backs os → ((q : Whole) → after_owed (o ∷ os) q ≡ after_owed os q)
     → Due c false os xs → Due c false (o ∷ os) xs
 passed c o os xs skip same made d = record {
   head = d.head;
@@ -110,8 +110,8 @@ kept_few (Some k) n e = omega arith
 
 -- a part of the marked close
 helped_rest : (owner : ℕ) (draft : File) (p : Part) (ps : List Part) (fs : List File)
-    → helped (rest_marked (record { owner = owner; draft = draft; parts = p ∷ ps }) ps) (part_made draft p fs) ≡ helped (Some (record { owner = owner; draft = draft; parts = p ∷ ps })) fs
-unfolding helped
+    → after_help (rest_marked (record { owner = owner; draft = draft; parts = p ∷ ps }) ps) (after_part draft p fs) ≡ after_help (Some (record { owner = owner; draft = draft; parts = p ∷ ps })) fs
+unfolding after_help
 helped_rest owner draft p [] fs = refl
 helped_rest owner draft p (x ∷ xs) fs = refl
 
@@ -134,7 +134,7 @@ left_rest owner j draft p (x ∷ xs) os own e = ap (λ b. count_by (is_made_by b
 
 part_row : (w : State) (j : ℕ) (q : Whole) (s : Site) (a : Ask) (os ys : List Owed) (owner : ℕ) (draft : File) (p : Part) (ps : List Part)
     → w.mark ≡ Some (record { owner = owner; draft = draft; parts = p ∷ ps }) → (owner == j) ≡ true → file_parts ys ≡ ps → At w j q (ending s a os)
-    → owed_made os q ≡ owed_made ys q → SoundFrame q (ending s a ys) (w.reserved j) → 1 + count_by (is_made_by true) ys ≡ count_by (is_made_by true) os
+    → after_owed os q ≡ after_owed ys q → SoundFrame q (ending s a ys) (w.reserved j) → 1 + count_by (is_made_by true) ys ≡ count_by (is_made_by true) os
     → Rowed w (with_part w.mark (with_slot w j same (Some (ending s a ys)))) j
 unfolding seen
 part_row w j q s a os ys owner draft p ps mark own files at made fits count =
@@ -161,13 +161,13 @@ part_row w j q s a os ys owner draft p ps mark own files at made fits count =
       fits = fits;
       mark = mark_rest owner draft p ps (changed w.frames j f) (ap (λ k. parts_in_frame (changed w.frames j f k)) (eqb-true owner j own) ∙ ap parts_in_frame o.here ∙ files);
       fewer = rw (mark, own, at.frame) (let l = left_rest owner j draft p ps ys own files in omega arith);
-      one = OnePart m p ps mark refl (λ t. record (with_part (Some m) (with_slot w j same f)) { raw = record (same_job w.raw j t) { files = part_made draft p w.raw.files } });
+      one = OnePart m p ps mark refl (λ t. record (with_part (Some m) (with_slot w j same f)) { raw = record (same_job w.raw j t) { files = after_part draft p w.raw.files } });
     } in
     subst (λ o. Rowed w (with_part o (with_slot w j same f)) j) (sym mark) r
 
 marked_row : (w : State) (j : ℕ) (q : Whole) (s : Site) (a : Ask) (os ys : List Owed) (p : Part) (o : Option Mark)
     → w.mark ≡ o → mine o j ≡ true → IfSome o (λ m. MarkBy m w.frames) → p ∷ file_parts ys ≡ file_parts os → At w j q (ending s a os)
-    → owed_made os q ≡ owed_made ys q → SoundFrame q (ending s a ys) (w.reserved j) → 1 + count_by (is_made_by true) ys ≡ count_by (is_made_by true) os
+    → after_owed os q ≡ after_owed ys q → SoundFrame q (ending s a ys) (w.reserved j) → 1 + count_by (is_made_by true) ys ≡ count_by (is_made_by true) os
     → Rowed w (with_part w.mark (with_slot w j same (Some (ending s a ys)))) j
 marked_row w j q s a os ys p None mark own h files at made fits count = cc
 marked_row w j q s a os ys p (Some m) mark own h files at made fits count =
@@ -176,7 +176,7 @@ marked_row w j q s a os ys p (Some m) mark own h files at made fits count =
     part_row w j q s a os ys m.owner m.draft p (file_parts ys) (mark ∙ (λ t. Some (record m { parts = parts t }))) own refl at made fits count
 
 file_row : (w : State) (j : ℕ) (q : Whole) (s : Site) (a : Ask) (os ys : List Owed) (o : Owed) (p : Part) → mine w.mark j ≡ true → At w j q (ending s a os)
-    → p ∷ file_parts ys ≡ file_parts os → Owes q.core ys → suc (length ys) ≤ length os → backs ys ≡ backs os → owed_made ys q ≡ owed_made os q
+    → p ∷ file_parts ys ≡ file_parts os → Owes q.core ys → suc (length ys) ≤ length os → backs ys ≡ backs os → after_owed ys q ≡ after_owed os q
     → count_by (is_made_by (mine w.mark j)) (o ∷ ys) ≡ count_by (is_made_by (mine w.mark j)) os → FilesFirst ys
     → Rowed w (with_part w.mark (with_slot w j same (Some (ending s a ys)))) j
 file_row w j q s a os ys o p own at files owes few back made count first =
@@ -185,7 +185,7 @@ file_row w j q s a os ys o p own at files owes few back made count first =
     (ending_sound q q s a os ys (w.reserved j) (w.reserved j) at.sound refl owes (omega arith) (back ∙ at.sound.pays.page_is) first)
     (sym (left_more true o ys ∙ ap (λ b. cond b 1 0 + count_by (is_made_by true) ys) (head_true o)) ∙ same_count)
 
-settled_row : (w : State) (j : ℕ) (q : Whole) (s : Site) (a : Ask) (os xs : List Owed) → At w j q (ending s a os) → Due q.core (mine w.mark j) os xs → Rowed w (settled w j s a xs) j
+settled_row : (w : State) (j : ℕ) (q : Whole) (s : Site) (a : Ask) (os xs : List Owed) → At w j q (ending s a os) → Due q.core (mine w.mark j) os xs → Rowed w (after_settling w j s a xs) j
 unfolding seen
 settled_row w j q s a os [] at d = absurd d.owes
 settled_row w j q s a os (Store p v ∷ ys) at d =
@@ -200,12 +200,12 @@ settled_row w j q s a os (GiveBack ∷ ys) at d =
     (none_first ys d.first))
     at.mark (λ own. rw at.frame (d.parts own)) (rw at.frame (let l = left_more (mine w.mark j) GiveBack ys in let c = d.count in omega arith))
 settled_row w j q s a os (Leave e ∷ []) at d =
-    slot_row w j q (leave e) None at.job (rw at.frame (sym (d.made q))) (kept_none (w.reserved j) (d.backs ∙ at.sound.pays.page_is)) at.mark
+    slot_row w j q (after_leave e) None at.job (rw at.frame (sym (d.made q))) (kept_none (w.reserved j) (d.backs ∙ at.sound.pays.page_is)) at.mark
     (λ own. rw at.frame (d.parts own)) (rw at.frame (let l = left_more (mine w.mark j) (Leave e) [] in let c = d.count in omega arith)) (Registers e refl)
 settled_row w j q s a os (Leave e ∷ o ∷ ys) at d = absurd d.owes
 settled_row w j q s a os (Unlink ∷ ys) at d = file_row w j q s a os ys Unlink UnlinkOld d.head at (d.parts d.head) d.owes d.few d.backs (d.made q) d.count d.first
 settled_row w j q s a os (Link ∷ ys) at d = file_row w j q s a os ys Link LinkNew d.head at (d.parts d.head) d.owes d.few d.backs (d.made q) d.count d.first
 settled_row w j q s a os (Free ∷ ys) at d = file_row w j q s a os ys Free FreeOld d.head at (d.parts d.head) d.owes d.few d.backs (d.made q) d.count d.first
 
-pub ending_row : (w : State) (j : ℕ) (q : Whole) (s : Site) (a : Ask) (os : List Owed) → At w j q (ending s a os) → Rowed w (settled w j s a (due (mine w.mark j) os)) j
+pub ending_row : (w : State) (j : ℕ) (q : Whole) (s : Site) (a : Ask) (os : List Owed) → At w j q (ending s a os) → Rowed w (after_settling w j s a (due (mine w.mark j) os)) j
 ending_row w j q s a os at = settled_row w j q s a os (due (mine w.mark j) os) at (due_is q.core (mine w.mark j) os at.sound.pays.owes at.sound.pays.files_first)

@@ -27,7 +27,7 @@ use Rattle.its_plain.specs.CallUsr.{has_names, inferior_named, any_named, makes_
 use Rattle.its_plain.specs.Change.{channel_in, superior_in, superiors, console_in, inferior, effect}
 use Rattle.its_plain.specs.CallStep.{step, decision}
 use Rattle.its_plain.specs.Decide.{call_named, decided_by, decided, target}
-use Rattle.its_plain.specs.Interrupt.{dismissed}
+use Rattle.its_plain.specs.Interrupt.{after_dismissal}
 use Rattle.its_plain.specs.Machine.{Chan, Shut, Writes, On, Pipe, Whole, Machine, limit}
 use Rattle.its_plain.specs.Tests.{◌⇒◌, finishes, fails, out}
 use Rattle.its_plain.specs.View.{View, Outline, outline, view}
@@ -49,7 +49,7 @@ unfolding dismiss
 dismiss_fits x a j m = go (place_of_input a 0)
   where
     go : (o : Option ℕ) → FitsAll (dismiss_at x a o) j m
-    go (Some p) = dismissed_fits x p (input a 0) j m (dismissed x.own.core x.own.job p)
+    go (Some p) = dismissed_fits x p (input a 0) j m (after_dismissal x.own.core x.own.job p)
     go None = tt
 
 own_fits : (x : View) (a : Ask) (y : Variable) (j : ℕ) (m : Machine) (b : Bool) → FitsAll (set_own x a y b) j m

@@ -17,10 +17,10 @@ use Rattle.its_frame.specs.declared.decision.Decision.{Decision}
 use Rattle.its_frame.specs.declared.decision.Decision.TheVariants.{Waits, Goes, Ends, Gone}
 use Rattle.its_frame.specs.declared.decision.Held.{Held}
 use Rattle.its_frame.specs.declared.frame.Frame.{Frame}
-use Rattle.its_plain.specs.Arguments.{revalued}
+use Rattle.its_plain.specs.Arguments.{with_new_values}
 use Rattle.its_plain.specs.CallBasic.{told_superior, channel_at}
 use Rattle.its_plain.specs.CallStep.{with_held, acted, decision, informs, step}
-use Rattle.its_plain.specs.Change.{on_slot, in_job, is_gone, chan_left, shut_on, left_job, passed_on, removed, channel_in, superior_in, superiors, inferior, effect, effects, console_in, with_inf, with_sent, with_received}
+use Rattle.its_plain.specs.Change.{on_slot, in_job, is_gone, chan_after_removal, after_shut, job_after_removal, holder_after_removal, after_removal, channel_in, superior_in, superiors, inferior, effect, effects, console_in, with_inf, with_sent, with_received}
 use Rattle.its_plain.specs.Interrupt.{delivered}
 use Rattle.its_plain.specs.Machine.{Chan, Shut, TtyIn, TtyOut, Reads, Writes, On, Linked, Pipe, Whole, Machine, changed, no_machine, limit, with_new}
 use Rattle.its_plain.specs.Own.{opened_on, at_position, with_word, on_channel}
@@ -536,16 +536,16 @@ unfolding effect
 made_inferior m s j u n = (makes m s j u n).tree
 
 -- a removal: what is above a job that stays stays too, and so does the superior of the job that is removed
-left_few : (gone : ℕ → Bool) (b : Bool) (o : Option Whole) → o ≡ None → left_job gone b o ≡ None
+left_few : (gone : ℕ → Bool) (b : Bool) (o : Option Whole) → o ≡ None → job_after_removal gone b o ≡ None
 left_few gone true o h = refl
-left_few gone false o h = ap (option_map (shut_on gone)) h
+left_few gone false o h = ap (option_map (after_shut gone)) h
 
-left_superior : (gone : ℕ → Bool) (b : Bool) (o : Option Whole) → superior_in (left_job gone b o) ≡ (if b then None else superior_in o)
+left_superior : (gone : ℕ → Bool) (b : Bool) (o : Option Whole) → superior_in (job_after_removal gone b o) ≡ (if b then None else superior_in o)
 left_superior gone true o = refl
 left_superior gone false None = refl
 left_superior gone false (Some q) = refl
 
-pub left_some : (gone : ℕ → Bool) (b : Bool) (o : Option Whole) → b ≡ false → is_some o ≡ true → is_some (left_job gone b o) ≡ true
+pub left_some : (gone : ℕ → Bool) (b : Bool) (o : Option Whole) → b ≡ false → is_some o ≡ true → is_some (job_after_removal gone b o) ≡ true
 left_some gone true o e h = cc
 left_some gone false None e h = h
 left_some gone false (Some q) e h = refl
@@ -561,40 +561,40 @@ stays_above m r k i d stays e =
     ]
 
 module _ (m : Machine) (r : ℕ) (d : Forest m) where
-  left_tree : (k : ℕ) → superiors (removed (superiors m) r m) k ≡ (if is_gone (superiors m) r k then None else superiors m k)
-  unfolding removed
+  left_tree : (k : ℕ) → superiors (after_removal (superiors m) r m) k ≡ (if is_gone (superiors m) r k then None else superiors m k)
+  unfolding after_removal
   left_tree k = left_superior (is_gone (superiors m) r) (is_gone (superiors m) r k) (m.jobs k)
 
-  left_job_some : (k : ℕ) → is_gone (superiors m) r k ≡ false → is_some (m.jobs k) ≡ true → is_some ((removed (superiors m) r m).jobs k) ≡ true
-  unfolding removed
+  left_job_some : (k : ℕ) → is_gone (superiors m) r k ≡ false → is_some (m.jobs k) ≡ true → is_some ((after_removal (superiors m) r m).jobs k) ≡ true
+  unfolding after_removal
   left_job_some k e h = left_some (is_gone (superiors m) r) (is_gone (superiors m) r k) (m.jobs k) e h
 
-  left_standing : (k : ℕ) → IfSome (superiors (removed (superiors m) r m) k) (λ i. is_some ((removed (superiors m) r m).jobs i) ≡ true)
+  left_standing : (k : ℕ) → IfSome (superiors (after_removal (superiors m) r m) k) (λ i. is_some ((after_removal (superiors m) r m).jobs i) ≡ true)
   left_standing k =
-      subst (λ (o : Option ℕ). IfSome o (λ i. is_some ((removed (superiors m) r m).jobs i) ≡ true)) (sym (left_tree k))
+      subst (λ (o : Option ℕ). IfSome o (λ i. is_some ((after_removal (superiors m) r m).jobs i) ≡ true)) (sym (left_tree k))
       (go (is_gone (superiors m) r k) (superiors m k) refl refl (d.standing k))
     where
       go : (b : Bool) (o : Option ℕ) → is_gone (superiors m) r k ≡ b → superiors m k ≡ o → IfSome o (λ i. is_some (m.jobs i) ≡ true)
-          → IfSome (if b then None else o) (λ i. is_some ((removed (superiors m) r m).jobs i) ≡ true)
+          → IfSome (if b then None else o) (λ i. is_some ((after_removal (superiors m) r m).jobs i) ≡ true)
       go true o e is h = tt
       go false None e is h = tt
       go false (Some i) e is h = left_job_some i (stays_above m r k i d e is) h
 
-  left_on : (k : ℕ) (c : Chan) → OnInferior m k c → OnInferior (removed (superiors m) r m) k (chan_left (is_gone (superiors m) r) c)
+  left_on : (k : ℕ) (c : Chan) → OnInferior m k c → OnInferior (after_removal (superiors m) r m) k (chan_after_removal (is_gone (superiors m) r) c)
   left_on k (On s write at) h = go (is_gone (superiors m) r s) refl
     where
-      go : (b : Bool) → is_gone (superiors m) r s ≡ b → OnInferior (removed (superiors m) r m) k (if b then Shut else On s write at)
+      go : (b : Bool) → is_gone (superiors m) r s ≡ b → OnInferior (after_removal (superiors m) r m) k (if b then Shut else On s write at)
       go true e = tt
       go false e = left_tree s ∙ ap (λ (b : Bool). if b then None else superiors m s) e ∙ h
   left_on k _ h = tt
 
   left_channel : (k i : ℕ) (b : Bool) (o : Option Whole) → OnInferior m k (channel_in o i)
-      → OnInferior (removed (superiors m) r m) k (channel_in (left_job (is_gone (superiors m) r) b o) i)
+      → OnInferior (after_removal (superiors m) r m) k (channel_in (job_after_removal (is_gone (superiors m) r) b o) i)
   left_channel k i true o h = tt
   left_channel k i false None h = tt
   left_channel k i false (Some q) h = left_on k (q.channels i) h
 
-  left_open : (o : Option ℕ) (c : Chan) → OnConsole o c → OnConsole o (chan_left (is_gone (superiors m) r) c)
+  left_open : (o : Option ℕ) (c : Chan) → OnConsole o c → OnConsole o (chan_after_removal (is_gone (superiors m) r) c)
   left_open o (On s write at) h = go (is_gone (superiors m) r s)
     where
       go : (b : Bool) → OnConsole o (if b then Shut else On s write at)
@@ -605,30 +605,30 @@ module _ (m : Machine) (r : ℕ) (d : Forest m) where
   left_open o _ h = tt
 
   left_console : (i : ℕ) (b : Bool) (o : Option Whole) → OnConsole (console_in o) (channel_in o i)
-      → OnConsole (console_in (left_job (is_gone (superiors m) r) b o)) (channel_in (left_job (is_gone (superiors m) r) b o) i)
+      → OnConsole (console_in (job_after_removal (is_gone (superiors m) r) b o)) (channel_in (job_after_removal (is_gone (superiors m) r) b o) i)
   left_console i true o h = tt
   left_console i false None h = tt
   left_console i false (Some q) h = left_open q.job.console (q.channels i) h
 
-  heir_stays : (o : Option ℕ) → superiors m r ≡ o → IfSome o (λ i. is_some (m.jobs i) ≡ true) → IfSome o (λ i. is_some ((removed (superiors m) r m).jobs i) ≡ true)
+  heir_stays : (o : Option ℕ) → superiors m r ≡ o → IfSome o (λ i. is_some (m.jobs i) ≡ true) → IfSome o (λ i. is_some ((after_removal (superiors m) r m).jobs i) ≡ true)
   heir_stays (Some i) e h = left_job_some i (forest_below m r i d e) h
   heir_stays None e h = tt
 
   left_holder : (o : Option ℕ) → IfSome o (λ i. is_some (m.jobs i) ≡ true)
-      → IfSome (passed_on (is_gone (superiors m) r) (superiors m r) o) (λ i. is_some ((removed (superiors m) r m).jobs i) ≡ true)
+      → IfSome (holder_after_removal (is_gone (superiors m) r) (superiors m r) o) (λ i. is_some ((after_removal (superiors m) r m).jobs i) ≡ true)
   left_holder (Some s) h = go (is_gone (superiors m) r s) refl
     where
-      go : (b : Bool) → is_gone (superiors m) r s ≡ b → IfSome (if b then superiors m r else Some s) (λ i. is_some ((removed (superiors m) r m).jobs i) ≡ true)
+      go : (b : Bool) → is_gone (superiors m) r s ≡ b → IfSome (if b then superiors m r else Some s) (λ i. is_some ((after_removal (superiors m) r m).jobs i) ≡ true)
       go true e = heir_stays (superiors m r) refl (d.standing r)
       go false e = left_job_some s e h
   left_holder None h = tt
 
-  removed_forest : Forest (removed (superiors m) r m)
-  unfolding removed
+  removed_forest : Forest (after_removal (superiors m) r m)
+  unfolding after_removal
   removed_forest = record {
     few = λ k l. left_few (is_gone (superiors m) r) (is_gone (superiors m) r k) (m.jobs k) (d.few k l);
     standing = left_standing;
-    circle = circle_cut (superiors m) (superiors (removed (superiors m) r m)) (is_gone (superiors m) r) left_tree d.circle;
+    circle = circle_cut (superiors m) (superiors (after_removal (superiors m) r m)) (is_gone (superiors m) r) left_tree d.circle;
     channels = λ k i. left_channel k i (is_gone (superiors m) r k) (m.jobs k) (d.channels k i);
     consoles = λ k i. left_console i (is_gone (superiors m) r k) (m.jobs k) (d.consoles k i);
     holders = λ c. left_holder (m.holders c) (d.holders c);
@@ -693,7 +693,7 @@ unfolding acted
 acted_forest m j a ks (Waits r) f d = tt
 acted_forest m j a ks (Goes cs h vs) f d =
     let n = effects cs.items j m in
-    job_forest n j _ (calm n j _ (λ q. held_superior (revalued a vs.items) h q) (λ q. held_channels (revalued a vs.items) h q) (λ q is. held_console (revalued a vs.items) h q)) (effects_forest cs.items j m f d)
+    job_forest n j _ (calm n j _ (λ q. held_superior (with_new_values a vs.items) h q) (λ q. held_channels (with_new_values a vs.items) h q) (λ q is. held_console (with_new_values a vs.items) h q)) (effects_forest cs.items j m f d)
 acted_forest m j a ks (Ends cs ss e) f d =
     let n = effects cs.items j m in
     job_forest n j _ (calm n j _ (λ q. refl) (λ q. refl) (λ q is. refl)) (effects_forest cs.items j m f d)

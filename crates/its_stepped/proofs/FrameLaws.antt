@@ -15,13 +15,13 @@ use Rattle.its_word.proofs.PageLaws.{pages_present-store}
 use Rattle.its_frame.specs.declared.frame.Frame.{Frame}
 use Rattle.its_frame.specs.declared.frame.Frame.TheVariants.{Entered, Parsed, Asked, Holding, Waiting, Moving, Ending}
 use Rattle.its_plain.specs.Machine.{Whole, changed, core_of, mapped}
-use Rattle.its_plain.specs.Own.{with_stores, leave}
+use Rattle.its_plain.specs.Own.{with_stores, after_leave}
 use Rattle.its_plain.specs.Change.{on_slot, in_job, poke}
 use Rattle.its_plain.specs.Arguments.{input, debts}
 use Rattle.its_plain.specs.CallStep.{deposited}
 use Rattle.its_word.specs.Stores.{place, stored}
 use Rattle.its_plain.proofs.MachineLaws.{jobs_are}
-use Rattle.its_stepped.specs.State.{State, held_at, owed_made, seen, seen_jobs, plain, with_slot}
+use Rattle.its_stepped.specs.State.{State, held_at, after_owed, seen, seen_jobs, plain, with_slot}
 use Rattle.its_word.proofs.StoreLaws.{stored_none}
 
 pub stored_one : (c : Core) (s : Store) → stored c (s ∷ []) ≡ store c (place s) s.word
@@ -36,15 +36,15 @@ unfolding stored
 stores_cons s ss q = refl
 
 -- what no single store and no leaving of a call touches is the same in the raw job and in its plain job
-module _ {X : Type 0} (g : Whole → X) (stores : (s : Store) (q : Whole) → g (with_stores (s ∷ []) q) ≡ g q) (leaves : (e : Exit) (q : Whole) → g (leave e q) ≡ g q) where
+module _ {X : Type 0} (g : Whole → X) (stores : (s : Store) (q : Whole) → g (with_stores (s ∷ []) q) ≡ g q) (leaves : (e : Exit) (q : Whole) → g (after_leave e q) ≡ g q) where
   stores_alike : (ss : List Store) (q : Whole) → g (with_stores ss q) ≡ g q
   stores_alike [] q = ap g (stores_none q)
   stores_alike (s ∷ ss) q = ap g (stores_cons s ss q) ∙ stores_alike ss (with_stores (s ∷ []) q) ∙ stores s q
 
-  owed_alike : (os : List Owed) (q : Whole) → g (owed_made os q) ≡ g q
+  owed_alike : (os : List Owed) (q : Whole) → g (after_owed os q) ≡ g q
   owed_alike [] q = refl
   owed_alike (owed.Store a w ∷ os) q = owed_alike os (with_stores (poke a w ∷ []) q) ∙ stores (poke a w) q
-  owed_alike (owed.Leave e ∷ os) q = owed_alike os (leave e q) ∙ leaves e q
+  owed_alike (owed.Leave e ∷ os) q = owed_alike os (after_leave e q) ∙ leaves e q
   owed_alike (owed.GiveBack ∷ os) q = owed_alike os q
   owed_alike (owed.Unlink ∷ os) q = owed_alike os q
   owed_alike (owed.Link ∷ os) q = owed_alike os q
@@ -60,7 +60,7 @@ module _ {X : Type 0} (g : Whole → X) (stores : (s : Store) (q : Whole) → g 
   frame_alike (Some (Ending f)) q = owed_alike f.owed.items q
   frame_alike _ q = refl
 
-pub seen_alike : {X : Type 0} (g : Whole → X) → ((s : Store) (q : Whole) → g (with_stores (s ∷ []) q) ≡ g q) → ((e : Exit) (q : Whole) → g (leave e q) ≡ g q)
+pub seen_alike : {X : Type 0} (g : Whole → X) → ((s : Store) (q : Whole) → g (with_stores (s ∷ []) q) ≡ g q) → ((e : Exit) (q : Whole) → g (after_leave e q) ≡ g q)
     → (f : Option Frame) (q : Whole) → g (seen f q) ≡ g q
 seen_alike g stores leaves f q = frame_alike g stores leaves f q
 

@@ -22,7 +22,7 @@ use Rattle.its_word.specs.Stores.{stored}
 use Rattle.its_plain.specs.View.{View, view}
 use Rattle.its_stepped.specs.State.{State, plain, seen}
 use Rattle.its_stepped.specs.Unwind.{all_unwound}
-use Rattle.its_stepped.specs.Tick.{reserves, helped_if, helps, prepared_for, quarters}
+use Rattle.its_stepped.specs.Tick.{reserves, after_help_if, helps, with_preparation, quarters}
 use Rattle.its_stepped.specs.Sound.{Paged, SoundFrame, SoundBy, Sound, Holds}
 use Rattle.its_stepped.specs.Quiet.{IsStill}
 use Rattle.its_stepped.specs.Forest.{Forest}
@@ -157,12 +157,12 @@ reach_apart m j q a f is = go (a.fail == 0)
     go false = refl
 
 -- what a call that is tried may rely on
-still_found : (w : State) (j : ℕ) (own : Whole) (a : Ask) → Sound w → helps own a ≡ true → (prepared_for w j own a).mark ≡ None
-unfolding prepared_for
-still_found w j own a sound e = let u = all_unwound (reach (plain w) j own a) w in ap (λ (b : Bool). (helped_if b u).mark) e ∙ help_unmarked u
+still_found : (w : State) (j : ℕ) (own : Whole) (a : Ask) → Sound w → helps own a ≡ true → (with_preparation w j own a).mark ≡ None
+unfolding with_preparation
+still_found w j own a sound e = let u = all_unwound (reach (plain w) j own a) w in ap (λ (b : Bool). (after_help_if b u).mark) e ∙ help_unmarked u
 
-free_found : (w : State) (j : ℕ) (own : Whole) (a : Ask) (k : ℕ) → Sound w → among k (reach (plain w) j own a) ≡ true → (prepared_for w j own a).frames k ≡ None
-unfolding prepared_for
+free_found : (w : State) (j : ℕ) (own : Whole) (a : Ask) (k : ℕ) → Sound w → among k (reach (plain w) j own a) ≡ true → (with_preparation w j own a).frames k ≡ None
+unfolding with_preparation
 free_found w j own a k sound h =
     let ks = reach (plain w) j own a in
     (helped_if_others (helps own a) (all_unwound ks w) k).frame ∙ all_unwound_none ks w k sound h
@@ -173,7 +173,7 @@ empty_found v k sound e = free_frame v k sound (unmapped (seen (v.frames k)) (v.
 
 calling : (d : Decoding) (w : State) (j : ℕ) (q : Whole) (s : Site) (a : Ask) (n : ℕ) → Forest (plain w) → Sound w → Trying w j q s a n → IfSome (w.reserved j) (Paged a n)
     → (reserves a ≡ true → w.reserved j ≡ Some quarters) → (n ≡ 0 → IsStill (w.frames j)) → (plain w).jobs j ≡ Some (with_stores (debts a n) q) → among j (reach (plain w) j (with_stores (debts a n) q) a) ≡ false
-    → Calling (plain w) (prepared_for w j (with_stores (debts a n) q) a) j (with_stores (debts a n) q) s a n
+    → Calling (plain w) (with_preparation w j (with_stores (debts a n) q) a) j (with_stores (debts a n) q) s a n
 calling d w j q s a n forest sound t page full still here apart =
     let own : Whole = with_stores (debts a n) q in
     let f = found w j own a sound apart in
@@ -187,9 +187,9 @@ calling d w j q s a n forest sound t page full still here apart =
       reached = λ k h. free_found w j own a k sound h;
       apart = apart;
       here = here;
-      tree = λ k. ap (λ (sup : ℕ → Option ℕ). sup k) (sym (superiors_plain (prepared_for w j own a))) ∙ ap (λ (m : Machine). superiors m k) f.plain;
+      tree = λ k. ap (λ (sup : ℕ → Option ℕ). sup k) (sym (superiors_plain (with_preparation w j own a))) ∙ ap (λ (m : Machine). superiors m k) f.plain;
       forest = forest;
-      empty = λ k e. empty_found (prepared_for w j own a) k f.sound (ap (λ (m : Machine). m.jobs k) f.plain ∙ e);
+      empty = λ k e. empty_found (with_preparation w j own a) k f.sound (ap (λ (m : Machine). m.jobs k) f.plain ∙ e);
       unmarked = λ e. still_found w j own a sound e;
     }
 
@@ -202,7 +202,7 @@ meets d w j q s a n forest sound t page full still =
     record {
       apart = apart;
       page = full;
-      duty = decision_duty d (plain w) (prepared_for w j own a) j own s a n (calling d w j q s a n forest sound t page full still here apart);
+      duty = decision_duty d (plain w) (with_preparation w j own a) j own s a n (calling d w j q s a n forest sound t page full still here apart);
     }
 
 superior_given : (w : State) (j : ℕ) (q : Whole) → Forest (plain w) → w.raw.jobs j ≡ Some q → q.superior ≢ Some j

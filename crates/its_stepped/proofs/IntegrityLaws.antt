@@ -27,10 +27,10 @@ use Rattle.its_plain.specs.CallStep.{acted, decision, Transition, informs, step}
 use Rattle.its_plain.specs.CallTty.{view_console, has_console, can_take, is_holder, lands, ttylnd_of, ttylnd}
 use Rattle.its_plain.specs.Transfer.{iot_ends}
 use Rattle.its_plain.specs.CallUsr.{any_named, inferior_named, makes_job, opens_job, usr_tests, opens_usr, uclose_on, uclose}
-use Rattle.its_plain.specs.Change.{on_slot, in_job, channel_in, superior_in, superiors, console_in, taken_from, put_to, on_console, is_gone, chan_left, shut_on, left_job, removed, with_inf, end_closed, with_sent, with_received, on_link, effect, effects}
+use Rattle.its_plain.specs.Change.{on_slot, in_job, channel_in, superior_in, superiors, console_in, after_take, after_put, on_console, is_gone, chan_after_removal, after_shut, job_after_removal, after_removal, with_inf, after_end_close, with_sent, with_received, on_link, effect, effects}
 use Rattle.its_plain.specs.Decide.{call_named, decided_by, decided, target, reach}
 use Rattle.its_plain.specs.Integrity.{MayWrite, Written, word_stored, variable_set, page_set, page_marked, RemovesTree, by_logout, by_uclose, JobMay, job_same, job_written, job_removed, superior_informed, superior_left, job_made, Uses, ConsoleMay, bytes_same, byte_taken, byte_put, CanTake, from_nobody, from_itself, from_inferior, HolderMay, holder_same, console_taken, console_given, console_passed, FilesMay, files_same, draft_closed, file_deleted, file_renamed, SymbolsMay, symbols_same, symbols_gone, symbols_none, MayStep, LinkMay, link_same, end_opened, word_sent, word_received, end_shut, ends_gone}
-use Rattle.its_plain.specs.Interrupt.{dismissed, delivered}
+use Rattle.its_plain.specs.Interrupt.{after_dismissal, delivered}
 use Rattle.its_plain.specs.Machine.{Chan, Shut, TtyIn, TtyOut, Reads, Writes, On, Linked, Pipe, Whole, Machine, changed}
 use Rattle.its_plain.specs.OperatorFiles.{channels_of}
 use Rattle.its_plain.specs.Own.{on_channel}
@@ -287,8 +287,8 @@ module _ (m : Machine) (j : ℕ) (q : Whole) (t : Option ℕ) (d : Forest m) (is
   parts_may : (n l : ℕ) (write : Bool) → Mild (view m j q t) (changes.Part n l write) → MayStep m j (effect (changes.Part n l write) j m)
   unfolding effect view
   parts_may n l write h =
-      link_alone m j l (on_channel n (λ c. Shut)) (end_closed write)
-      (end_shut n write (own_link n (Linked l write) h) (link_here m l (end_closed write)))
+      link_alone m j l (on_channel n (λ c. Shut)) (after_end_close write)
+      (end_shut n write (own_link n (Linked l write) h) (link_here m l (after_end_close write)))
 
   sends_may : (l w : ℕ) → AtLink (view m j q t) l true → MayStep m j (effect (changes.Send l w) j m)
   unfolding effect view
@@ -309,8 +309,8 @@ module _ (m : Machine) (j : ℕ) (q : Whole) (t : Option ℕ) (d : Forest m) (is
   mild_may (changes.Move n at) h = own m j _
   mild_may (changes.Append n w) h = own m j _
   mild_may (changes.Close n) h = closes_may n h
-  mild_may (changes.Take c) h = bytes_alone m j c taken_from (byte_taken (uses m j q t c d is h) (console_here m c taken_from))
-  mild_may (changes.Put c b) h = bytes_alone m j c (put_to b) (byte_put b (uses m j q t c d is h) (console_here m c (put_to b)))
+  mild_may (changes.Take c) h = bytes_alone m j c after_take (byte_taken (uses m j q t c d is h) (console_here m c after_take))
+  mild_may (changes.Put c b) h = bytes_alone m j c (after_put b) (byte_put b (uses m j q t c d is h) (console_here m c (after_put b)))
   mild_may (changes.Poke s p w) h = writes m j s _ (may_write m j q t s is h) (λ r. word_stored p w)
   mild_may (changes.Map s k) h = writes_or_own m j s _ (own_or s h) (λ r. page_set k _)
   mild_may (changes.Unmap s k) h = writes_or_own m j s _ (own_or s h) (λ r. page_set k _)
@@ -418,7 +418,7 @@ stays_below sup r s k up stays root = elim (cases_Bool (is_gone sup r s)) [
       ])
 ]
 
-channel_stays : (m : Machine) (r k : ℕ) (c : Chan) → OnInferior m k c → is_gone (superiors m) r k ≡ false → superiors m r ≢ Some k → chan_left (is_gone (superiors m) r) c ≡ c
+channel_stays : (m : Machine) (r k : ℕ) (c : Chan) → OnInferior m k c → is_gone (superiors m) r k ≡ false → superiors m r ≢ Some k → chan_after_removal (is_gone (superiors m) r) c ≡ c
 channel_stays m r k (On s write at) h stays root = rw (stays_below (superiors m) r s k h stays root) refl
 channel_stays m r k Shut h stays root = refl
 channel_stays m r k TtyIn h stays root = refl
@@ -427,11 +427,11 @@ channel_stays m r k (Reads f at) h stays root = refl
 channel_stays m r k (Writes f) h stays root = refl
 channel_stays m r k (Linked l write) h stays root = refl
 
-shut_same : (gone : ℕ → Bool) (q : Whole) → ((n : ℕ) → chan_left gone (q.channels n) ≡ q.channels n) → shut_on gone q ≡ q
+shut_same : (gone : ℕ → Bool) (q : Whole) → ((n : ℕ) → chan_after_removal gone (q.channels n) ≡ q.channels n) → after_shut gone q ≡ q
 shut_same gone q h = λ i. record q { channels = λ n. h n i }
 
 left_same : (m : Machine) (r k : ℕ) (o : Option Whole) → m.jobs k ≡ o → Forest m → is_gone (superiors m) r k ≡ false → superiors m r ≢ Some k
-    → left_job (is_gone (superiors m) r) false o ≡ o
+    → job_after_removal (is_gone (superiors m) r) false o ≡ o
 left_same m r k None is d stays root = refl
 left_same m r k (Some q) is d stays root =
     ap Some (shut_same (is_gone (superiors m) r) q (λ n. channel_stays m r k (q.channels n) (subst (λ (o : Option Whole). OnInferior m k (channel_in o n)) is (d.channels k n)) stays root))
@@ -440,34 +440,34 @@ module _ (m : Machine) (j r : ℕ) (tree : RemovesTree m j r) (d : Forest m) whe
   gone : ℕ → Bool
   gone k = is_gone (superiors m) r k
 
-  job_of_removed : (k : ℕ) → superiors m r ≢ Some k → JobMay m (removed (superiors m) r m) j k
-  unfolding removed
+  job_of_removed : (k : ℕ) → superiors m r ≢ Some k → JobMay m (after_removal (superiors m) r m) j k
+  unfolding after_removal
   job_of_removed k root = elim (cases_Bool (is_gone (superiors m) r k)) [
     | inl t ↦ job_removed (record { root = r; tree = tree; below = t }) (rw t refl)
-    | inr f ↦ job_same (ap (λ b. left_job (is_gone (superiors m) r) b (m.jobs k)) f ∙ left_same m r k (m.jobs k) refl d f root)
+    | inr f ↦ job_same (ap (λ b. job_after_removal (is_gone (superiors m) r) b (m.jobs k)) f ∙ left_same m r k (m.jobs k) refl d f root)
   ]
 
-  holder_of_removed : (c : ℕ) (o : Option ℕ) → m.holders c ≡ o → HolderMay m (removed (superiors m) r m) j c
-  unfolding removed
+  holder_of_removed : (c : ℕ) (o : Option ℕ) → m.holders c ≡ o → HolderMay m (after_removal (superiors m) r m) j c
+  unfolding after_removal
   holder_of_removed c None is = holder_same (rw is refl)
   holder_of_removed c (Some h) is = elim (cases_Bool (is_gone (superiors m) r h)) [
     | inl t ↦ console_passed r h tree is t (rw (is, t) refl)
     | inr f ↦ holder_same (rw (is, f) refl)
   ]
 
-  symbols_of_removed : (k : ℕ) → SymbolsMay m (removed (superiors m) r m) j k
-  unfolding removed
+  symbols_of_removed : (k : ℕ) → SymbolsMay m (after_removal (superiors m) r m) j k
+  unfolding after_removal
   symbols_of_removed k = elim (cases_Bool (is_gone (superiors m) r k)) [
     | inl t ↦ symbols_gone (record { root = r; tree = tree; below = t }) (rw t refl)
     | inr f ↦ symbols_same (rw f refl)
   ]
 
-  links_of_removed : (l : ℕ) → LinkMay m (removed (superiors m) r m) j l
-  unfolding removed
+  links_of_removed : (l : ℕ) → LinkMay m (after_removal (superiors m) r m) j l
+  unfolding after_removal
   links_of_removed l = ends_gone r tree refl
 
-  removed_may : ((k : ℕ) → k ≢ j → superiors m r ≢ Some k) → MayStep m j (removed (superiors m) r m)
-  unfolding removed
+  removed_may : ((k : ℕ) → k ≢ j → superiors m r ≢ Some k) → MayStep m j (after_removal (superiors m) r m)
+  unfolding after_removal
   removed_may apart = record {
     jobs = λ k ne. job_of_removed k (apart k ne);
     consoles = λ c. bytes_same refl;
@@ -483,8 +483,8 @@ module _ (m : Machine) (j r : ℕ) (tree : RemovesTree m j r) (d : Forest m) whe
 itself_gone : (sup : ℕ → Option ℕ) (j : ℕ) → is_gone sup j j ≡ true
 itself_gone sup j = rw (eq-eqb j j refl) refl
 
-own_gone : (m : Machine) (j : ℕ) → (removed (superiors m) j m).jobs j ≡ None
-unfolding removed
+own_gone : (m : Machine) (j : ℕ) → (after_removal (superiors m) j m).jobs j ≡ None
+unfolding after_removal
 own_gone m j = rw (itself_gone (superiors m) j) refl
 
 stands : (o : Option Whole) → is_some o ≡ true → (q : Whole) × (o ≡ Some q)
@@ -495,15 +495,15 @@ superior_job : (m : Machine) (j s : ℕ) → Forest m → superiors m j ≡ Some
 superior_job m j s d up = stands (m.jobs s) (subst (λ (o : Option ℕ). IfSome o (λ i. is_some (m.jobs i) ≡ true)) up (d.standing j))
 
 superior_of_gone : (m : Machine) (j s : ℕ) (q : Whole) → Forest m → superiors m j ≡ Some s → m.jobs s ≡ Some q
-    → (removed (superiors m) j m).jobs s ≡ Some (shut_on (is_gone (superiors m) j) q)
-unfolding removed
+    → (after_removal (superiors m) j m).jobs s ≡ Some (after_shut (is_gone (superiors m) j) q)
+unfolding after_removal
 superior_of_gone m j s q d up is = rw (forest_below m j s d up, is) refl
 
-told_may : (m : Machine) (j : ℕ) (o : Option ℕ) → Forest m → superiors m j ≡ o → MayStep m j (effects (told_superior o) j (removed (superiors m) j m))
-unfolding effect removed
+told_may : (m : Machine) (j : ℕ) (o : Option ℕ) → Forest m → superiors m j ≡ o → MayStep m j (effects (told_superior o) j (after_removal (superiors m) j m))
+unfolding effect after_removal
 told_may m j None d up = removed_may m j j by_logout d (λ k ne e. (let no : None ≡ Some k = sym up ∙ e in cc))
 told_may m j (Some s) d up =
-    let n = removed (superiors m) j m in
+    let n = after_removal (superiors m) j m in
     let q = superior_job m j s d up in
     record {
       jobs = λ k ne. elim (cases_eq k s) [
@@ -533,7 +533,7 @@ unfolding dismiss
 dismiss_may m j x a = go (place_of_input a 0)
   where
     go : (o : Option ℕ) → Permitted m j (dismiss_at x a o)
-    go (Some p) = dismissed_may m j x p (input a 0) (dismissed x.own.core x.own.job p)
+    go (Some p) = dismissed_may m j x p (input a 0) (after_dismissal x.own.core x.own.job p)
     go None = ends_may m j x a 0o17
 
 -- USRVAR

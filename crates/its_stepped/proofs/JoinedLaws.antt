@@ -8,7 +8,7 @@ use Rattle.its_word.specs.declared.link.End.{End}
 use Rattle.its_word.specs.declared.link.End.TheVariants.{Unopened, Opened, Closed}
 use Rattle.its_word.specs.declared.link.Link.{Link}
 use Rattle.its_plain.specs.CallBasic.{channel_at}
-use Rattle.its_plain.specs.Change.{channel_in, superiors, is_gone, chan_left, left_job, removed, on_slot, in_job, link_or_new, with_end_opened, standing_if, end_closed, on_link, ends_left}
+use Rattle.its_plain.specs.Change.{channel_in, superiors, is_gone, chan_after_removal, job_after_removal, after_removal, on_slot, in_job, link_or_new, with_end_opened, standing_if, after_end_close, on_link, ends_after_removal}
 use Rattle.its_plain.specs.Machine.{Chan, Shut, TtyIn, TtyOut, Reads, Writes, On, Linked, Pipe, Whole, Machine, changed, no_machine}
 use Rattle.its_plain.specs.Own.{on_channel}
 use Rattle.its_stepped.specs.Forest.{end_at, OnLink, Joined}
@@ -253,13 +253,13 @@ alive_end : (w b : Bool) (p : Pipe) → is_alive p.link ≡ b → SameEnd (link_
 alive_end w true p h = same_end _ _ refl
 alive_end w false p h = neither _ _ (open_end w p.link h) (unopened_none w)
 
-closed_here : (write : Bool) (o : Option Pipe) (k i : ℕ) → end_at write (end_closed write o) ≢ Opened k i
+closed_here : (write : Bool) (o : Option Pipe) (k i : ℕ) → end_at write (after_end_close write o) ≢ Opened k i
 closed_here true (Some p) k i is = not_opened Closed k i refl ((alive_end true _ (record p { link = with_end true Closed p.link }) refl).from k i is)
 closed_here false (Some p) k i is =
     not_opened Closed k i refl ((alive_end false _ (record p { link = with_end false Closed p.link }) refl).from k i is)
 closed_here write None k i is = not_opened (end_at write None) k i (unopened_none write) is
 
-closed_other : (write w : Bool) (o : Option Pipe) → (w ≡ write) ⊎ SameEnd (end_at w o) (end_at w (end_closed write o))
+closed_other : (write w : Bool) (o : Option Pipe) → (w ≡ write) ⊎ SameEnd (end_at w o) (end_at w (after_end_close write o))
 closed_other true true o = inl refl
 closed_other false false o = inl refl
 closed_other true false (Some p) = inr (alive_end false _ (record p { link = with_end true Closed p.link }) refl)
@@ -313,14 +313,14 @@ module _ (m n : Machine) (l i j : ℕ) (write : Bool) (d : Joined m) (was : chan
   closed_joined = record { channels = closed_channel; ends = closed_ends }
 
 pub part_joined : (m : Machine) (l i j : ℕ) (write : Bool) → channel_in (m.jobs j) i ≡ Linked l write → Joined m
-    → Joined (on_link (in_job m j (on_channel i (λ c. Shut))) l (end_closed write))
+    → Joined (on_link (in_job m j (on_channel i (λ c. Shut))) l (after_end_close write))
 unfolding EndsBut
 part_joined m l i j write was d =
     closed_joined m _ l i j write d was
-    (λ k e is. closed_here write (m.links l) k e (sym (ap (end_at write) (changed_only m.links l (end_closed write (m.links l))).here) ∙ is))
+    (λ k e is. closed_here write (m.links l) k e (sym (ap (end_at write) (changed_only m.links l (after_end_close write (m.links l))).here) ∙ is))
     (ap (λ (o : Option Whole). channel_in o i) (on_slot_here m.jobs j (on_channel i (λ c. Shut))) ∙ shut_here (m.jobs j) i)
     (λ k e. put_elsewhere m.jobs j i k e Shut)
-    (λ r w. other_link m l r (end_closed write) write w (closed_other write w (m.links l)))
+    (λ r w. other_link m l r (after_end_close write) write w (closed_other write w (m.links l)))
 
 -- a removal: a channel that stays keeps its end, and an end at a job that goes is closed
 end_kept : (gone : ℕ → Bool) (e : End) (k i : ℕ) → e ≡ Opened k i → gone k ≡ false → end_left gone e ≡ Opened k i
@@ -340,18 +340,18 @@ left_end gone true k = refl
 left_end gone false k = refl
 
 left_stays : (gone : ℕ → Bool) (w : Bool) (o : Option Pipe) (k i : ℕ) → end_at w o ≡ Opened k i → gone k ≡ false
-    → end_at w (ends_left gone o) ≡ Opened k i
+    → end_at w (ends_after_removal gone o) ≡ Opened k i
 left_stays gone w (Some p) k i is stays =
     (alive_end w _ (record p { link = link_left gone p.link }) refl).to k i (left_end gone w p.link ∙ end_kept gone (link_end w p.link) k i is stays)
 left_stays gone w None k i is stays = absurd (not_opened (end_at w None) k i (unopened_none w) is)
 
-left_was : (gone : ℕ → Bool) (w : Bool) (o : Option Pipe) (k i : ℕ) → end_at w (ends_left gone o) ≡ Opened k i
+left_was : (gone : ℕ → Bool) (w : Bool) (o : Option Pipe) (k i : ℕ) → end_at w (ends_after_removal gone o) ≡ Opened k i
     → (end_at w o ≡ Opened k i) × (gone k ≡ false)
 left_was gone w (Some p) k i is =
     end_was gone (link_end w p.link) k i (sym (left_end gone w p.link) ∙ (alive_end w _ (record p { link = link_left gone p.link }) refl).from k i is)
 left_was gone w None k i is = absurd (not_opened (end_at w None) k i (unopened_none w) is)
 
-chan_was : (gone : ℕ → Bool) (c : Chan) (l : ℕ) (w : Bool) → chan_left gone c ≡ Linked l w → c ≡ Linked l w
+chan_was : (gone : ℕ → Bool) (c : Chan) (l : ℕ) (w : Bool) → chan_after_removal gone c ≡ Linked l w → c ≡ Linked l w
 chan_was gone (On s write at) l w is = go (gone s) is
   where
     go : (b : Bool) → (if b then Shut else On s write at) ≡ Linked l w → On s write at ≡ Linked l w
@@ -364,24 +364,24 @@ chan_was gone (Reads f at) l w is = is
 chan_was gone (Writes f) l w is = is
 chan_was gone (Linked r v) l w is = is
 
-job_was : (gone : ℕ → Bool) (b : Bool) (o : Option Whole) (i l : ℕ) (w : Bool) → channel_in (left_job gone b o) i ≡ Linked l w
+job_was : (gone : ℕ → Bool) (b : Bool) (o : Option Whole) (i l : ℕ) (w : Bool) → channel_in (job_after_removal gone b o) i ≡ Linked l w
     → (b ≡ false) × (channel_in o i ≡ Linked l w)
 job_was gone true o i l w is = cc
 job_was gone false None i l w is = (refl, is)
 job_was gone false (Some q) i l w is = (refl, chan_was gone (q.channels i) l w is)
 
 job_left : (gone : ℕ → Bool) (b : Bool) (o : Option Whole) (i l : ℕ) (w : Bool) → b ≡ false → channel_in o i ≡ Linked l w
-    → channel_in (left_job gone b o) i ≡ Linked l w
+    → channel_in (job_after_removal gone b o) i ≡ Linked l w
 job_left gone true o i l w h is = cc
 job_left gone false None i l w h is = is
-job_left gone false (Some q) i l w h is = ap (chan_left gone) is
+job_left gone false (Some q) i l w h is = ap (chan_after_removal gone) is
 
-pub removed_joined : (m : Machine) (r : ℕ) → Joined m → Joined (removed (superiors m) r m)
-unfolding removed
+pub removed_joined : (m : Machine) (r : ℕ) → Joined m → Joined (after_removal (superiors m) r m)
+unfolding after_removal
 removed_joined m r d =
     let gone = is_gone (superiors m) r in
     record {
-      channels = λ k i. on_link_by (removed (superiors m) r m) k i (channel_in (left_job gone (gone k) (m.jobs k)) i) (λ l w is.
+      channels = λ k i. on_link_by (after_removal (superiors m) r m) k i (channel_in (job_after_removal gone (gone k) (m.jobs k)) i) (λ l w is.
           let was = job_was gone (gone k) (m.jobs k) i l w is in
           let on = linked_at m k i l w d was.1 in
           (on.0, left_stays gone w (m.links l) k i on.1 was.0));

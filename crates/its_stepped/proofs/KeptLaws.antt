@@ -16,20 +16,20 @@ use Rattle.its_frame.specs.declared.frame.Frame.{Frame}
 use Rattle.its_print.specs.Printing.{Line, listed}
 use Rattle.its_plain.specs.Machine.{File, Symbol, Whole, Machine, with_job, mapped, limit, with_new}
 use Rattle.its_plain.specs.Operator.{Block, Refuses, Does, Ticks, Quits, nobody, only, and_then, disturbs, quietly}
-use Rattle.its_plain.specs.OperatorJobs.{new_job, with_holder, loaded_in, loaded, stored, with_core, word_loaded_of, word_loaded, words_stored, words_barred, words_loaded_if, words_loaded, page_protected_in, page_protected, on_job, with_registers, on_registers, started, interrupted, stopped, continued, examined, state_shown, deposited_in, deposited}
+use Rattle.its_plain.specs.OperatorJobs.{new_job, with_holder, after_load_in, after_load, with_stored, with_core, with_word_loaded_of, with_word_loaded, with_words_stored, words_barred, with_words_loaded_if, with_words_loaded, with_page_protected_in, with_page_protected, on_job, with_registers, on_registers, after_go, after_int, after_stop, after_cont, examined, state_shown, after_deposit_in, after_deposit}
 use Rattle.its_plain.specs.OperatorLines.{by_load, by_exam, in_a_line, by_state, by_clock, operate, shows, Lined, Done, Peeks, peeked_at, lined}
-use Rattle.its_plain.specs.Change.{protected}
-use Rattle.its_plain.specs.OperatorSymbols.{symbol_kept_if, symbol_kept_of, symbol_kept}
-use Rattle.its_plain.specs.OperatorVersion.{versioned}
-use Rattle.its_plain.specs.OperatorClock.{due, due_slots, rung_if, at_clock, clock_end, clocked_if, clocked}
-use Rattle.its_plain.specs.OperatorConsoles.{typed, drained}
+use Rattle.its_plain.specs.Change.{with_protection}
+use Rattle.its_plain.specs.OperatorSymbols.{with_symbol_kept_if, with_symbol_kept_of, with_symbol_kept}
+use Rattle.its_plain.specs.OperatorVersion.{with_version}
+use Rattle.its_plain.specs.OperatorClock.{due, due_slots, after_alarm_if, at_clock, clock_end, after_clock_if, after_clock}
+use Rattle.its_plain.specs.OperatorConsoles.{with_typed, after_drain}
 use Rattle.its_plain.specs.Own.{names_of}
-use Rattle.its_plain.specs.OperatorFiles.{with_files, file_made, words_added, file_shown}
+use Rattle.its_plain.specs.OperatorFiles.{with_files, with_file_made, with_words_added, file_shown}
 use Rattle.its_plain.proofs.CallLineLaws.{FilesAlone, made_files, added_files}
 use Rattle.its_stepped.specs.State.{State, plain}
 use Rattle.its_stepped.specs.Unwind.{unwound, all_unwound, help}
 use Rattle.its_stepped.specs.Sound.{SoundBy, SoundSlot, Sound}
-use Rattle.its_stepped.specs.Lines.{calmed, with_raw}
+use Rattle.its_stepped.specs.Lines.{after_calm, with_raw}
 use Rattle.its_stepped.proofs.FrameLaws.{changed_only}
 use Rattle.its_stepped.proofs.HelpLaws.{help_sound, help_others}
 use Rattle.its_stepped.proofs.DueLaws.{due_same, clock_same, Hushed, undue_frame}
@@ -76,51 +76,51 @@ registers_off m s f = go (m.jobs s)
     go (Some q) = put_off m s (record q { job = f q.job })
     go None = tt
 
-deposited_off : (m : Machine) (s a w : ℕ) → OffBy m s (deposited m s a w)
-unfolding deposited
+deposited_off : (m : Machine) (s a w : ℕ) → OffBy m s (after_deposit m s a w)
+unfolding after_deposit
 deposited_off m s a w = go (m.jobs s)
   where
-    go : (o : Option Whole) → OffBy m s (on_job m s (λ q. with_core m s q (deposited_in q.core a w (can_store q.core a) (is_some (word_at q.core a)))) o)
-    go (Some q) = core_off m s q (deposited_in q.core a w (can_store q.core a) (is_some (word_at q.core a)))
+    go : (o : Option Whole) → OffBy m s (on_job m s (λ q. with_core m s q (after_deposit_in q.core a w (can_store q.core a) (is_some (word_at q.core a)))) o)
+    go (Some q) = core_off m s q (after_deposit_in q.core a w (can_store q.core a) (is_some (word_at q.core a)))
     go None = tt
 
-word_off_of : (m : Machine) (s a w : ℕ) (o : Option Whole) → OffBy m s (word_loaded_of m s a w o)
-word_off_of m s a w (Some q) = core_off m s q (stored (mapped m) q.core a w)
+word_off_of : (m : Machine) (s a w : ℕ) (o : Option Whole) → OffBy m s (with_word_loaded_of m s a w o)
+word_off_of m s a w (Some q) = core_off m s q (with_stored (mapped m) q.core a w)
 word_off_of m s a w None = tt
 
-word_off : (m : Machine) (s a w : ℕ) → OffBy m s (word_loaded m s a w)
-unfolding word_loaded
+word_off : (m : Machine) (s a w : ℕ) → OffBy m s (with_word_loaded m s a w)
+unfolding with_word_loaded
 word_off m s a w = word_off_of m s a w (m.jobs s)
 
 off_then : (m n : Machine) (s : ℕ) (r : Result Machine Reason) → Off m n s → OffBy n s r → OffBy m s r
 off_then m n s (Ok l) a b = record { others = λ k ne. b.others k ne ∙ a.others k ne }
 off_then m n s (Err r) a b = tt
 
-words_stored_off : (m : Machine) (s a : ℕ) (ws : List ℕ) → OffBy m s (words_stored m s a ws)
+words_stored_off : (m : Machine) (s a : ℕ) (ws : List ℕ) → OffBy m s (with_words_stored m s a ws)
 words_stored_off m s a [] = record { others = λ k ne. refl }
-words_stored_off m s a (w ∷ ws) = go (word_loaded m s a w) (word_off m s a w) (λ n. words_stored_off n s (a + 1) ws)
+words_stored_off m s a (w ∷ ws) = go (with_word_loaded m s a w) (word_off m s a w) (λ n. words_stored_off n s (a + 1) ws)
   where
-    go : (r : Result Machine Reason) → OffBy m s r → ((n : Machine) → OffBy n s (words_stored n s (a + 1) ws)) → OffBy m s (and_then r (λ n. words_stored n s (a + 1) ws))
-    go (Ok n) off h = off_then m n s (words_stored n s (a + 1) ws) off (h n)
+    go : (r : Result Machine Reason) → OffBy m s r → ((n : Machine) → OffBy n s (with_words_stored n s (a + 1) ws)) → OffBy m s (and_then r (λ n. with_words_stored n s (a + 1) ws))
+    go (Ok n) off h = off_then m n s (with_words_stored n s (a + 1) ws) off (h n)
     go (Err r) off h = tt
 
-words_off_if : (m : Machine) (s a : ℕ) (ws : List ℕ) (barred : Bool) → OffBy m s (words_loaded_if m s a ws barred)
+words_off_if : (m : Machine) (s a : ℕ) (ws : List ℕ) (barred : Bool) → OffBy m s (with_words_loaded_if m s a ws barred)
 words_off_if m s a ws true = tt
 words_off_if m s a ws false = words_stored_off m s a ws
 
-words_off : (m : Machine) (s a : ℕ) (ws : List ℕ) → OffBy m s (words_loaded m s a ws)
-unfolding words_loaded
+words_off : (m : Machine) (s a : ℕ) (ws : List ℕ) → OffBy m s (with_words_loaded m s a ws)
+unfolding with_words_loaded
 words_off m s a ws = words_off_if m s a ws (words_barred m s a (length ws))
 
-page_off : (m : Machine) (s k : ℕ) → OffBy m s (page_protected m s k)
-unfolding page_protected
+page_off : (m : Machine) (s k : ℕ) → OffBy m s (with_page_protected m s k)
+unfolding with_page_protected
 page_off m s k = go (m.jobs s)
   where
-    put : (q : Whole) (p : Option Page) → OffBy m s (page_protected_in m s k q p)
-    put q (Some p) = put_off m s (protected k false q)
+    put : (q : Whole) (p : Option Page) → OffBy m s (with_page_protected_in m s k q p)
+    put q (Some p) = put_off m s (with_protection k false q)
     put q None = tt
 
-    go : (o : Option Whole) → OffBy m s (on_job m s (λ q. page_protected_in m s k q (page_of q.core k)) o)
+    go : (o : Option Whole) → OffBy m s (on_job m s (λ q. with_page_protected_in m s k q (page_of q.core k)) o)
     go (Some q) = put q (page_of q.core k)
     go None = tt
 
@@ -166,7 +166,7 @@ held_off : (m : Machine) (s : ℕ) (q : Whole) (console : Option ℕ) → Off m 
 held_off m s q (Some c) = record { others = (put_off m s q).others }
 held_off m s q None = record { others = (put_off m s q).others }
 
-load_kept : (w : State) (b : Block) (u j : ℕ) (console o : Option ℕ) → Sound w → least_free (limit w.raw) w.raw.jobs ≡ o → KeptBy w w (Done (by_load b (loaded_in w.raw u j console o)))
+load_kept : (w : State) (b : Block) (u j : ℕ) (console o : Option ℕ) → Sound w → least_free (limit w.raw) w.raw.jobs ≡ o → KeptBy w w (Done (by_load b (after_load_in w.raw u j console o)))
 load_kept w b u j console (Some s) sound is = record {
   sound = off_sound w (with_holder (with_new w.raw s (new_job u j console)) s console) s sound (free_frame w s sound (least_empty (limit w.raw) w.raw.jobs s is))
       (held_off w.raw s (new_job u j console) console);
@@ -174,28 +174,28 @@ load_kept w b u j console (Some s) sound is = record {
 }
 load_kept w b u j console None sound is = tt
 
-symbol_kept_by : (w : State) (b : Block) (s : ℕ) (x : Symbol) (room : Bool) → Sound w → KeptBy w w (Done (quietly b (symbol_kept_if w.raw s x room)))
+symbol_kept_by : (w : State) (b : Block) (s : ℕ) (x : Symbol) (room : Bool) → Sound w → KeptBy w w (Done (quietly b (with_symbol_kept_if w.raw s x room)))
 symbol_kept_by w b s x true sound = record { sound = record { each = sound.each; mark = sound.mark }; spares = λ k h. refl }
 symbol_kept_by w b s x false sound = tt
 
-symbol_line_kept : (w : State) (b : Block) (s name a : ℕ) → Sound w → KeptBy w w (Done (quietly b (symbol_kept w.raw s name a)))
-unfolding symbol_kept
+symbol_line_kept : (w : State) (b : Block) (s name a : ℕ) → Sound w → KeptBy w w (Done (quietly b (with_symbol_kept w.raw s name a)))
+unfolding with_symbol_kept
 symbol_line_kept w b s name a sound = go (w.raw.jobs s)
   where
-    go : (o : Option Whole) → KeptBy w w (Done (quietly b (symbol_kept_of w.raw s (name, a) o)))
+    go : (o : Option Whole) → KeptBy w w (Done (quietly b (with_symbol_kept_of w.raw s (name, a) o)))
     go (Some q) = symbol_kept_by w b s (name, a) (nat_lt (length (w.raw.symbols s)) most_symbols) sound
     go None = tt
 
-version_kept : (w : State) (v : ℕ) → Sound w → Kept w w (versioned w.raw v) nobody
-unfolding versioned
+version_kept : (w : State) (v : ℕ) → Sound w → Kept w w (with_version w.raw v) nobody
+unfolding with_version
 version_kept w v sound = elim (cases_Bool (no_job w.raw.jobs)) [
   | inl is ↦ rw is (record { sound = record { each = sound.each; mark = sound.mark }; spares = λ k h. refl })
   | inr is ↦ rw is (record { sound = sound; spares = λ k h. refl })
 ]
 
 -- CLOCK: the jobs whose alarm goes are in user mode, and no other job changes
-rung_sound : (c : ℕ) (b : Bool) (o : Option Whole) (f : Option Frame) (r : Option ℕ) → (b ≡ true → f ≡ None) → SoundSlot o f r → SoundSlot (rung_if c b o) f r
-rung_sound c true o f r h s = user_sound (rung_if c true o) f r (h refl) (user_page o f r (h refl) s.by)
+rung_sound : (c : ℕ) (b : Bool) (o : Option Whole) (f : Option Frame) (r : Option ℕ) → (b ≡ true → f ≡ None) → SoundSlot o f r → SoundSlot (after_alarm_if c b o) f r
+rung_sound c true o f r h s = user_sound (after_alarm_if c true o) f r (h refl) (user_page o f r (h refl) s.by)
 rung_sound c false o f r h s = s
 
 at_sound : (v : State) (c : ℕ) → Hushed c v → Sound v → Sound (with_raw v (at_clock c v.raw))
@@ -205,7 +205,7 @@ at_sound v c hushed sound = record {
 }
 
 clock_kept : (w v : State) (b : Block) (n : ℕ) (fits : Bool) → Hushed (v.raw.clock + n) v → Sound v → ((k : ℕ) → due (v.raw.clock + n) v.raw.jobs k ≡ false → v.frames k ≡ w.frames k)
-    → KeptBy w v (Done (by_clock v.raw b n (clocked_if v.raw n fits)))
+    → KeptBy w v (Done (by_clock v.raw b n (after_clock_if v.raw n fits)))
 clock_kept w v b n true hushed sound spares = record { sound = at_sound v (v.raw.clock + n) hushed sound; spares = spares }
 clock_kept w v b n false hushed sound spares = tt
 
@@ -237,10 +237,10 @@ shows_kept : (w : State) (b : Block) (r : Result (List Line) Reason) → Sound w
 shows_kept w b (Ok out) sound = helped_kept w (help w).raw sound refl
 shows_kept w b (Err r) sound = tt
 
-typed_kept : (w : State) (c : ℕ) (bytes : List ℕ) → Sound w → Kept w w (typed c bytes w.raw) nobody
+typed_kept : (w : State) (c : ℕ) (bytes : List ℕ) → Sound w → Kept w w (with_typed c bytes w.raw) nobody
 typed_kept w c bytes sound = record { sound = record { each = sound.each; mark = sound.mark }; spares = λ k h. refl }
 
-drained_kept : (w : State) (c n : ℕ) → Sound w → Kept w w (drained c n w.raw) nobody
+drained_kept : (w : State) (c n : ℕ) → Sound w → Kept w w (after_drain c n w.raw) nobody
 drained_kept w c n sound = record { sound = record { each = sound.each; mark = sound.mark }; spares = λ k h. refl }
 
 peek_kept : (w : State) (s : ℕ) (o : Option Whole) → KeptBy w w (peeked_at s o)
@@ -250,24 +250,24 @@ peek_kept w s None = tt
 hushed_for : (w : State) (b : Block) (n : ℕ) → Sound w
     → let v = all_unwound (due_slots (w.raw.clock + n) w.raw.jobs) w in
     Hushed (v.raw.clock + n) v
-unfolding calmed
+unfolding after_calm
 hushed_for w b n sound = calmed_hushed w b (events.Clock n) sound
 
-pub line_kept : (w : State) (b : Block) (e : Event) → Sound w → KeptBy w (calmed w b e) (lined (calmed w b e).raw b e)
-unfolding lined operate calmed loaded clocked
+pub line_kept : (w : State) (b : Block) (e : Event) → Sound w → KeptBy w (after_calm w b e) (lined (after_calm w b e).raw b e)
+unfolding lined operate after_calm after_load after_clock
 line_kept w b (events.Load u j console) sound = load_kept w b u j console (least_free (limit w.raw) w.raw.jobs) sound refl
 line_kept w b (events.Words a words) sound =
-    disturbs_kept w b.slot b (words_loaded (unwound w b.slot).raw b.slot a words.items) sound (words_off (unwound w b.slot).raw b.slot a words.items)
+    disturbs_kept w b.slot b (with_words_loaded (unwound w b.slot).raw b.slot a words.items) sound (words_off (unwound w b.slot).raw b.slot a words.items)
 line_kept w b (events.Version v) sound = version_kept w v sound
 line_kept w b (events.ReadOnly page) sound =
-    disturbs_kept w b.slot b (page_protected (unwound w b.slot).raw b.slot page) sound (page_off (unwound w b.slot).raw b.slot page)
+    disturbs_kept w b.slot b (with_page_protected (unwound w b.slot).raw b.slot page) sound (page_off (unwound w b.slot).raw b.slot page)
 line_kept w b (events.Symbol name a) sound = symbol_line_kept w b b.slot name a sound
 line_kept w b (events.Go a) sound =
-    disturbs_kept w b.slot b (on_registers (unwound w b.slot).raw b.slot (started a)) sound (registers_off (unwound w b.slot).raw b.slot (started a))
-line_kept w b (events.Int s x y) sound = disturbs_kept w s b (on_registers (unwound w s).raw s (interrupted x y)) sound (registers_off (unwound w s).raw s (interrupted x y))
-line_kept w b (events.Stop s) sound = disturbs_kept w s b (on_registers (unwound w s).raw s stopped) sound (registers_off (unwound w s).raw s stopped)
-line_kept w b (events.Cont s) sound = disturbs_kept w s b (on_registers (unwound w s).raw s continued) sound (registers_off (unwound w s).raw s continued)
-line_kept w b (events.Deposit s a x) sound = disturbs_kept w s b (deposited (unwound w s).raw s a x) sound (deposited_off (unwound w s).raw s a x)
+    disturbs_kept w b.slot b (on_registers (unwound w b.slot).raw b.slot (after_go a)) sound (registers_off (unwound w b.slot).raw b.slot (after_go a))
+line_kept w b (events.Int s x y) sound = disturbs_kept w s b (on_registers (unwound w s).raw s (after_int x y)) sound (registers_off (unwound w s).raw s (after_int x y))
+line_kept w b (events.Stop s) sound = disturbs_kept w s b (on_registers (unwound w s).raw s after_stop) sound (registers_off (unwound w s).raw s after_stop)
+line_kept w b (events.Cont s) sound = disturbs_kept w s b (on_registers (unwound w s).raw s after_cont) sound (registers_off (unwound w s).raw s after_cont)
+line_kept w b (events.Deposit s a x) sound = disturbs_kept w s b (after_deposit (unwound w s).raw s a x) sound (deposited_off (unwound w s).raw s a x)
 line_kept w b (events.Exam s a n) sound = exam_kept w s (in_a_line s a) b (examined (unwound w s).raw s a n) sound
 line_kept w b (events.List s a n) sound = exam_kept w s (listed s a) b (examined (unwound w s).raw s a n) sound
 line_kept w b (events.State s) sound = show_kept w s b (state_shown (unwound w s).raw s) sound
@@ -279,8 +279,8 @@ line_kept w b (events.Peek s) sound = peek_kept w s (w.raw.jobs s)
 line_kept w b (events.Tick s n) sound = tt
 line_kept w b events.End sound = tt
 line_kept w b (events.File d x y) sound =
-    file_kept w (record b { file = names_of d x y }) (file_made (help w).raw (names_of d x y)) sound (made_files (help w).raw (names_of d x y))
-line_kept w b (events.Append words) sound = file_kept w b (words_added (help w).raw b.file words.items) sound (added_files (help w).raw b.file words.items)
+    file_kept w (record b { file = names_of d x y }) (with_file_made (help w).raw (names_of d x y)) sound (made_files (help w).raw (names_of d x y))
+line_kept w b (events.Append words) sound = file_kept w b (with_words_added (help w).raw b.file words.items) sound (added_files (help w).raw b.file words.items)
 line_kept w b (events.TypeIn c bytes) sound = typed_kept w c bytes.items sound
 line_kept w b (events.Drain c n) sound = drained_kept w c n sound
 line_kept w b (events.Dir d) sound = helped_kept w (help w).raw sound refl

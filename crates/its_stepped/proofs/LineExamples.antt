@@ -17,19 +17,19 @@ use Rattle.its_word.specs.declared.show.PeekState.TheVariants as states
 use Rattle.its_frame.specs.declared.frame.Frame.{Frame}
 use Rattle.its_print.specs.Printing as printed
 use Rattle.its_plain.specs.Operator.{no_block, Does}
-use Rattle.its_plain.specs.OperatorJobs.{loaded, on_registers}
-use Rattle.its_plain.specs.OperatorClock.{due_slots, clocked}
+use Rattle.its_plain.specs.OperatorJobs.{after_load, on_registers}
+use Rattle.its_plain.specs.OperatorClock.{due_slots, after_clock}
 use Rattle.its_plain.specs.OperatorLines.{operate, Lined, Done, lined}
 use Rattle.its_plain.specs.Machine.{no_machine, with_jobs, whole}
 use Rattle.its_frame.specs.Calls.{sixbit, call_named}
 use Rattle.its_plain.specs.Own.{names_of, exit_of}
 use Rattle.its_plain.specs.CallFile.{blocks_of_drafts}
-use Rattle.its_plain.specs.OperatorFiles.{file_made, word_added, files_in, file_shown}
+use Rattle.its_plain.specs.OperatorFiles.{with_file_made, with_word_added, files_in, file_shown}
 use Rattle.its_plain.specs.Transcript.{Ended, Open, Refused}
-use Rattle.its_stepped.specs.State.{LinkNew, FreeOld, State, helped, no_state, parsed, waiting, moving, ending}
+use Rattle.its_stepped.specs.State.{LinkNew, FreeOld, State, after_help, no_state, parsed, waiting, moving, ending}
 use Rattle.its_stepped.specs.Unwind.{help, left, unwound, all_unwound, unwind_times}
 use Rattle.its_stepped.specs.Tick.{tick}
-use Rattle.its_stepped.specs.Lines.{peeked, calmed, told, stepped}
+use Rattle.its_stepped.specs.Lines.{peeked, after_calm, told, stepped}
 
 -- a job is made, looked at, ticked while it is stopped, and stopped again
 idle : stepped (Read (events.Load 1 2 None) ∷ Read (events.Peek 0) ∷ Read (events.Clock 5) ∷ Read (events.Tick 0 2) ∷ Read (events.Stop 0) ∷ Read events.End ∷ []) ≡ record {
@@ -39,16 +39,16 @@ idle : stepped (Read (events.Load 1 2 None) ∷ Read (events.Peek 0) ∷ Read (e
       ∷ [];
   fate = Ended;
 }
-unfolding lined operate loaded least_free limit_of free_from calmed tick unwound unwind_times all_unwound left on_registers due_slots clocked peeked no_state no_machine fresh_job
+unfolding lined operate after_load least_free limit_of free_from after_calm tick unwound unwind_times all_unwound left on_registers due_slots after_clock peeked no_state no_machine fresh_job
 idle = refl
 
 -- an empty slot, and a clock that would reach its end
 empty : stepped (Read (events.Peek 3) ∷ []) ≡ record { lines = printed.Refused 1 reasons.NoJob ∷ []; fate = Refused }
-unfolding lined operate calmed no_state no_machine
+unfolding lined operate after_calm no_state no_machine
 empty = refl
 
 late : stepped (Read (events.Clock 0o177777777777) ∷ Read (events.Clock 1) ∷ []) ≡ record { lines = printed.Refused 2 reasons.Range ∷ []; fate = Refused }
-unfolding lined operate calmed due_slots all_unwound clocked no_state no_machine
+unfolding lined operate after_calm due_slots all_unwound after_clock no_state no_machine
 late = refl
 
 -- a console of a job: bytes that wait as input, as many as have room, and no output
@@ -59,7 +59,7 @@ talk : stepped (Read (events.Load 1 2 (Some 3)) ∷ Read (events.TypeIn 3 (recor
   lines = printed.Loaded 0 ∷ printed.Typed 3 0 ∷ printed.Typed 3 2 ∷ printed.Drained 3 [] ∷ [];
   fate = Ended;
 }
-unfolding lined operate loaded least_free limit_of free_from calmed no_state no_machine fresh_job
+unfolding lined operate after_load least_free limit_of free_from after_calm no_state no_machine fresh_job
 talk = refl
 
 -- the first job that LOAD makes with a console holds it, and one that it makes later does not
@@ -68,11 +68,11 @@ holder_after (Done (Does m out touched b)) c = m.holders c
 holder_after l c = None
 
 first_load : holder_after (lined no_machine no_block (events.Load 1 2 (Some 3))) 3 ≡ Some 0
-unfolding lined operate loaded least_free limit_of free_from no_machine
+unfolding lined operate after_load least_free limit_of free_from no_machine
 first_load = refl
 
 later_load : holder_after (lined (record no_machine { holders = λ c. Some 7 }) no_block (events.Load 1 2 (Some 3))) 3 ≡ Some 7
-unfolding lined operate loaded least_free limit_of free_from no_machine
+unfolding lined operate after_load least_free limit_of free_from no_machine
 later_load = refl
 
 -- what is drained is shown, and only the rest waits
@@ -139,7 +139,7 @@ filed : stepped (Read (events.File 1 2 3) ∷ Read (events.Append (record { item
       lines = printed.Dir 1 1 ∷ printed.Filed (record { x = 2; y = 3; length = 2 }) ∷ printed.Shown 1 2 3 2 ∷ printed.Row (4 ∷ 5 ∷ []) ∷ printed.Refused 6 reasons.Exists ∷ [];
       fate = Refused;
     }
-unfolding lined operate calmed help helped file_made word_added blocks_of_drafts same_names files_in file_shown no_state no_machine
+unfolding lined operate after_calm help after_help with_file_made with_word_added blocks_of_drafts same_names files_in file_shown no_state no_machine
 filed = refl
 
 -- a job that is inside a CLOSE: the old file left the directory, and the draft is still to become its last file. DIR
@@ -167,5 +167,5 @@ between : told 1 closing no_block 95 (Read (events.Peek 0) ∷ Read (events.Dir 
       ∷ [];
   fate = Open;
 }
-unfolding lined operate calmed help helped peeked left site call call_named sixbit same_names files_in fresh_job file_of closing inside
+unfolding lined operate after_calm help after_help peeked left site call call_named sixbit same_names files_in fresh_job file_of closing inside
 between = refl

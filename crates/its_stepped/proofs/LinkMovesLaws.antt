@@ -25,10 +25,10 @@ use Rattle.its_plain.specs.CallLink.{words_in}
 use Rattle.its_plain.specs.CallStep.{acted, decision, informs, step, Transition, moves_in, transition, moves}
 use Rattle.its_plain.specs.CallTty.{view_console, has_console, can_take, is_holder, lands, ttylnd_of, ttylnd}
 use Rattle.its_plain.specs.CallUsr.{any_named, inferior_named, makes_job, opens_job, usr_tests, opens_usr, uclose_on, uclose}
-use Rattle.its_plain.specs.Change.{superiors, is_gone, removed, standing_if, end_closed, with_sent, with_received, rest_of, ends_left, effect, effects}
+use Rattle.its_plain.specs.Change.{superiors, is_gone, after_removal, standing_if, after_end_close, with_sent, with_received, rest_of, ends_after_removal, effect, effects}
 use Rattle.its_plain.specs.Course.{Letter, Moment, moment_at, machine_after, run_of}
 use Rattle.its_plain.specs.Decide.{call_named, decided_by, decided, target, reach}
-use Rattle.its_plain.specs.Interrupt.{dismissed, delivered}
+use Rattle.its_plain.specs.Interrupt.{after_dismissal, delivered}
 use Rattle.its_plain.specs.LinkLedger.{word_moved, linked_at, StandsAfter, LinkLedger}
 use Rattle.its_plain.specs.Machine.{Chan, On, Pipe, Whole, Machine, changed}
 use Rattle.its_plain.specs.Moves.{Way, Inward, Outward, AtConsole, AtLink, Move, first_move, moves_of, moves_of_all}
@@ -101,11 +101,11 @@ standing_words : (b : Bool) (p : Pipe) → is_some (standing_if b p) ≡ true �
 standing_words true p h = refl
 standing_words false p h = cc
 
-closed_words : (write : Bool) (o : Option Pipe) → is_some (end_closed write o) ≡ true → words_in (end_closed write o) ≡ words_in o
+closed_words : (write : Bool) (o : Option Pipe) → is_some (after_end_close write o) ≡ true → words_in (after_end_close write o) ≡ words_in o
 closed_words write (Some p) h = standing_words _ _ h
 closed_words write None h = refl
 
-left_words : (gone : ℕ → Bool) (o : Option Pipe) → is_some (ends_left gone o) ≡ true → words_in (ends_left gone o) ≡ words_in o
+left_words : (gone : ℕ → Bool) (o : Option Pipe) → is_some (ends_after_removal gone o) ≡ true → words_in (ends_after_removal gone o) ≡ words_in o
 left_words gone (Some p) h = standing_words _ _ h
 left_words gone None h = refl
 
@@ -129,14 +129,14 @@ no_moves l way = refl
 -- a change
 change_links : (h : Change) (j : ℕ) (m : Machine) (l : ℕ) → There ((effect h j m).links l)
     → LinkPasses (m.links l) ((effect h j m).links l) (moves_of h j m) l
-unfolding effect removed
+unfolding effect after_removal
 change_links (changes.Take c) j m l stands = passes_none _ _ _ l (console_none j c l (m.consoles c).input) refl
 change_links (changes.Put c b) j m l stands = passes_none _ _ _ l (λ way. refl) refl
 change_links (changes.Join n d write x y) j m l stands =
     link_passes m.links (opened_link write j n x y) d l [] (λ ne. no_moves l)
     (λ at s. passes_none _ _ _ l (no_moves l) (opened_words write j n x y (m.links l))) stands
 change_links (changes.Part n d write) j m l stands =
-    link_passes m.links (end_closed write) d l [] (λ ne. no_moves l)
+    link_passes m.links (after_end_close write) d l [] (λ ne. no_moves l)
     (λ at s. passes_none _ _ _ l (no_moves l) (closed_words write (m.links l) s)) stands
 change_links (changes.Send d w) j m l stands =
     link_passes m.links (option_map (with_sent w)) d l _ (sent_elsewhere j d l w)
@@ -249,7 +249,7 @@ unfolding dismiss
 dismiss_first x a = go (place_of_input a 0)
   where
     go : (o : Option ℕ) → LinksFirst (dismiss_at x a o)
-    go (Some p) = dismissed_first x p (input a 0) (dismissed x.own.core x.own.job p)
+    go (Some p) = dismissed_first x p (input a 0) (after_dismissal x.own.core x.own.job p)
     go None = tt
 
 own_first : (x : View) (a : Ask) (y : Variable) (b : Bool) → LinksFirst (set_own x a y b)

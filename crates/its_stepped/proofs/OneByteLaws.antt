@@ -20,10 +20,10 @@ use Rattle.its_frame.specs.declared.decision.Held.{Held}
 use Rattle.its_frame.specs.declared.decision.Wait.TheVariants.{Input, Output, Empty, Room}
 use Rattle.its_frame.specs.declared.name.CallName.{CallName}
 use Rattle.its_frame.specs.declared.name.CallName.TheVariants.{Siot}
-use Rattle.its_plain.specs.Arguments.{value_in, valued, input, debts, revalued}
+use Rattle.its_plain.specs.Arguments.{value_in, operands_with_values, input, debts, with_new_values}
 use Rattle.its_plain.specs.CallBasic.{channel_at}
 use Rattle.its_plain.specs.CallFile.{is_full, channels_in, words_of, siot_read, siot_reads, siot_write}
-use Rattle.its_plain.specs.CallStep.{with_held, moved, acted, decision, unless_stopped, step, Transition, transition_of, transition}
+use Rattle.its_plain.specs.CallStep.{with_held, after_moves, acted, decision, unless_stopped, step, Transition, transition_of, transition}
 use Rattle.its_plain.specs.CallLink.{words_in, is_end_closed, is_dry, is_ended, is_crowded, is_unread, first_word, siot_receive, siot_send}
 use Rattle.its_plain.specs.CallTty.{view_console, is_empty, is_other, input_waits, output_waits, first_typed, shown_byte, siot_in, siot_out}
 use Rattle.its_plain.specs.Transfer.{store_tests, read_tests, next_pointer, siot_tests, siot_by}
@@ -59,16 +59,16 @@ use Rattle.its_plain.proofs.StepLaws.{transition_called, step_by}
 
 -- the rest of a transfer has the new pointer and the new count
 rest_of : (os : List Operand) (w i : ℕ) → length os ≡ 3
-    → let rest = take (length os - 2) os ++ valued (drop (length os - 2) os) (w ∷ i ∷ []) in (value_in (slice_get rest 1) ≡ w) × (value_in (slice_get rest 2) ≡ i)
+    → let rest = take (length os - 2) os ++ operands_with_values (drop (length os - 2) os) (w ∷ i ∷ []) in (value_in (slice_get rest 1) ≡ w) × (value_in (slice_get rest 2) ≡ i)
 rest_of (x ∷ y ∷ z ∷ []) w i l = (refl, refl)
 rest_of _ w i l = absurd (omega arith)
 
 pub rest_pointer : (a : Ask) → length a.inputs.items ≡ 3 → input (rest_of_transfer a) 1 ≡ next_pointer (input a 1)
-unfolding revalued
+unfolding with_new_values
 rest_pointer a l = (rest_of a.inputs.items (next_pointer (input a 1)) (input a 2 - 1) l).0
 
 pub rest_count : (a : Ask) → length a.inputs.items ≡ 3 → input (rest_of_transfer a) 2 ≡ input a 2 - 1
-unfolding revalued
+unfolding with_new_values
 rest_count a l = (rest_of a.inputs.items (next_pointer (input a 1)) (input a 2 - 1) l).1
 
 -- a byte that came in is in its word, which is apart from the words of pointer and count
@@ -80,15 +80,15 @@ pub some_or : {X : Type 0} (o : Option X) (d : X) → is_some o ≡ true → o �
 some_or (Some x) d h = refl
 some_or None d h = cc
 
-byte_there : (q : Whole) (s : Site) (a : Ask) (h : Option Held) (w i : ℕ) → input (revalued a (w ∷ i ∷ [])) 1 ≡ w → IfSome h (λ b. in_footprint b.place a ≡ false)
-    → IfSome h (λ b. HeldFits q.core (debts a 0) 2 b) → Stands (moved a h (w ∷ i ∷ []) q).core q.job s (revalued a (w ∷ i ∷ []))
-    → IfSome h (Deposited q.core (moved a h (w ∷ i ∷ []) q).core w)
+byte_there : (q : Whole) (s : Site) (a : Ask) (h : Option Held) (w i : ℕ) → input (with_new_values a (w ∷ i ∷ [])) 1 ≡ w → IfSome h (λ b. in_footprint b.place a ≡ false)
+    → IfSome h (λ b. HeldFits q.core (debts a 0) 2 b) → Stands (after_moves a h (w ∷ i ∷ []) q).core q.job s (with_new_values a (w ∷ i ∷ []))
+    → IfSome h (Deposited q.core (after_moves a h (w ∷ i ∷ []) q).core w)
 byte_there q s a None w i e out f st = tt
 byte_there q s a (Some b) w i e out f st =
-    let rest : Ask = revalued a (w ∷ i ∷ []) in
+    let rest : Ask = with_new_values a (w ∷ i ∷ []) in
     let was : ℕ = unwrap_or (word_at q.core b.place) 0 in
     let word : ℕ → ℕ = λ (p : ℕ). deposit_of p was b.byte in
-    let c : Core = (moved a (Some b) (w ∷ i ∷ []) q).core in
+    let c : Core = (after_moves a (Some b) (w ∷ i ∷ []) q).core in
     record {
       word = was;
       was = some_or (word_at q.core b.place) 0 (word_at-can_store q.core b.place f.can);
@@ -100,7 +100,7 @@ byte_there q s a (Some b) w i e out f st =
 
 -- the stores of a part are the same whatever the channels of its job are on
 moved_is : (a : Ask) (h : Option Held) (vs : List ℕ) (q : Whole) (cs : ℕ → Chan)
-    → moved a h vs (record q { channels = cs }) ≡ record q { core = (moved a h vs q).core; channels = cs }
+    → after_moves a h vs (record q { channels = cs }) ≡ record q { core = (after_moves a h vs q).core; channels = cs }
 moved_is a None vs q cs = refl
 moved_is a (Some b) vs q cs = refl
 
@@ -125,7 +125,7 @@ unfolding acted
 goes_on m n j q s a cs h to t has borne g r =
     let w : ℕ = next_pointer (input a 1) in
     let k : ℕ = input a 2 - 1 in
-    let f : Whole → Whole = moved a h (w ∷ k ∷ []) in
+    let f : Whole → Whole = after_moves a h (w ∷ k ∷ []) in
     let base : Machine = effects cs j m in
     let same : in_job base j f ≡ n = same_Some (in_job base j f) n r in
     record {

@@ -9,7 +9,7 @@ use Rattle.its_frame.specs.declared.change.Change.{Change}
 use Rattle.its_frame.specs.declared.change.Change.TheVariants as changes
 use Rattle.its_frame.specs.declared.frame.Frame.{Frame}
 use Rattle.its_plain.specs.Machine.{Whole}
-use Rattle.its_plain.specs.Change.{on_slot, shut_on, left_job, is_gone, superiors, effect, removed}
+use Rattle.its_plain.specs.Change.{on_slot, after_shut, job_after_removal, is_gone, superiors, effect, after_removal}
 use Rattle.its_stepped.specs.State.{State}
 use Rattle.its_stepped.specs.Commit.{effect_on, effects_on}
 use Rattle.its_stepped.specs.Duty.{Remains, Spares, AllRemain, AllSpare}
@@ -31,17 +31,17 @@ sees_slot g jobs s j f q same e = elim (cases_eq j s) [
   | inr ne ↦ record { whole = q; is = on_slot_other jobs s j f ne ∙ e; same = refl }
 ]
 
-sees_left : {X : Type 0} (g : Whole → X) (gone : ℕ → Bool) (b : Bool) (o : Option Whole) (q : Whole) → ((p : Whole) → g (shut_on gone p) ≡ g p) → b ≡ false → o ≡ Some q
-    → Sees g (left_job gone b o) (g q)
+sees_left : {X : Type 0} (g : Whole → X) (gone : ℕ → Bool) (b : Bool) (o : Option Whole) (q : Whole) → ((p : Whole) → g (after_shut gone p) ≡ g p) → b ≡ false → o ≡ Some q
+    → Sees g (job_after_removal gone b o) (g q)
 sees_left g gone true o q same h e = cc
-sees_left g gone false o q same h e = record { whole = shut_on gone q; is = ap (option_map (shut_on gone)) e; same = same q }
+sees_left g gone false o q same h e = record { whole = after_shut gone q; is = ap (option_map (after_shut gone)) e; same = same q }
 
 -- words and registers
 abbrev pub own_of : Whole → Core × Job
 own_of q = (q.core, q.job)
 
 spared_one : (c : Change) (j : ℕ) (w : State) (q : Whole) → Spares c j w → w.raw.jobs j ≡ Some q → Sees own_of ((effect_on c j w).raw.jobs j) (own_of q)
-unfolding effect_on effect removed
+unfolding effect_on effect after_removal
 spared_one (changes.Take c) j w q h e = sees_it own_of _ q e
 spared_one (changes.Put c b) j w q h e = sees_it own_of _ q e
 spared_one (changes.Hold c s) j w q h e = sees_it own_of _ q e
@@ -71,7 +71,7 @@ abbrev pub job_of : Whole → Job
 job_of q = q.job
 
 kept_one : (c : Change) (j : ℕ) (w : State) (q : Whole) → Remains c j w → w.raw.jobs j ≡ Some q → Sees job_of ((effect_on c j w).raw.jobs j) (job_of q)
-unfolding effect_on effect removed
+unfolding effect_on effect after_removal
 kept_one (changes.Take c) j w q h e = sees_it job_of _ q e
 kept_one (changes.Put c b) j w q h e = sees_it job_of _ q e
 kept_one (changes.Hold c s) j w q h e = sees_it job_of _ q e

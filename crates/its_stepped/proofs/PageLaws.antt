@@ -8,7 +8,7 @@ use Rattle.its_word.specs.declared.calls.Ask.{Ask}
 use Rattle.its_word.specs.declared.calls.Operand.{Operand}
 use Rattle.its_frame.specs.declared.name.CallName.{CallName}
 use Rattle.its_frame.specs.declared.name.CallName.TheVariants.{Corblk}
-use Rattle.its_plain.specs.Arguments.{input, valued, revalued}
+use Rattle.its_plain.specs.Arguments.{input, operands_with_values, with_new_values}
 use Rattle.its_plain.specs.Decide.{call_named}
 use Rattle.its_stepped.specs.Tick.{makes_page, reserves, quarters}
 use Rattle.its_stepped.specs.Sound.{Paged, IsWaitable, most_owed_by, most_owed}
@@ -37,19 +37,19 @@ unfolding most_owed
 owes_reserves_none a n some few = reserves_none a (owing_none (call_named a.name) (input a 0) n some few)
 
 -- a call after a part of it
-pub valued_none : (os : List Operand) → valued os [] ≡ os
+pub valued_none : (os : List Operand) → operands_with_values os [] ≡ os
 valued_none [] = refl
 valued_none (o ∷ os) = refl
 
-revalued_none : (a : Ask) → revalued a [] ≡ a
-unfolding revalued
+revalued_none : (a : Ask) → with_new_values a [] ≡ a
+unfolding with_new_values
 revalued_none a =
     let xs = a.inputs.items in
     ap (λ ys. record a { inputs = record { items = ys } }) (ap (λ ys. take (length xs - 0) xs ++ ys) (valued_none (drop (length xs - 0) xs)) ∙ take-append-drop (length xs - 0) xs)
 
-pub revalued_reserves_none : (a : Ask) (vs : List ℕ) → length vs ≤ most_owed (revalued a vs) → reserves a ≡ false → reserves (revalued a vs) ≡ false
+pub revalued_reserves_none : (a : Ask) (vs : List ℕ) → length vs ≤ most_owed (with_new_values a vs) → reserves a ≡ false → reserves (with_new_values a vs) ≡ false
 revalued_reserves_none a [] few h = ap reserves (revalued_none a) ∙ h
-revalued_reserves_none a (v ∷ vs) few h = owes_reserves_none (revalued a (v ∷ vs)) (length (v ∷ vs)) (omega arith) few
+revalued_reserves_none a (v ∷ vs) few h = owes_reserves_none (with_new_values a (v ∷ vs)) (length (v ∷ vs)) (omega arith) few
 
 -- the page of a call that is tried
 pub page_full : (a : Ask) (n : ℕ) (r o : Option ℕ) → r ≡ o → reserves a ≡ is_some o → IfSome o (Paged a n) → IsTried o → reserves a ≡ true → r ≡ Some quarters

@@ -10,11 +10,11 @@ use Rattle.its_word.specs.Directory.{without_names, kept_file, with_changed, cha
 use Rattle.its_word.specs.Limits.{slots}
 use Rattle.its_word.proofs.NamesLaws.{same_sym, same_both, same_self}
 use Rattle.its_plain.specs.CallFile.{Channels, most_files, is_full, file_named, has_file, reads, is_read}
-use Rattle.its_plain.specs.Change.{channel_in, filed, without_file, renamed, same_names}
+use Rattle.its_plain.specs.Change.{channel_in, with_file, without_file, with_new_names, same_names}
 use Rattle.its_plain.specs.Integrity.{FilesMay, files_same, draft_closed, file_deleted, file_renamed}
 use Rattle.its_plain.specs.Machine.{Names, File, Chan, Reads, Whole, Machine}
 use Rattle.its_plain.specs.Operator.{and_then}
-use Rattle.its_plain.specs.OperatorFiles.{channels_of, with_files, file_made_if, file_made, word_added_if, word_added_to, word_added, words_added}
+use Rattle.its_plain.specs.OperatorFiles.{channels_of, with_files, with_file_made_if, with_file_made, with_word_added_if, with_word_added_to, with_word_added, with_words_added}
 use Rattle.its_plain.specs.Own.{names_of}
 use Rattle.its_word.specs.declared.session.Reason.{Reason}
 
@@ -86,8 +86,8 @@ unfolding without_file
 without_stays n x fs apart = named_without n x fs apart
 
 renamed_stays : (n : Names) (d x y u v : ℕ) (fs : List File) → same_names n (names_of d x y) ≡ false → same_names n (names_of d u v) ≡ false
-    → file_named n (renamed (names_of d x y) u v fs) ≡ file_named n fs
-unfolding renamed
+    → file_named n (with_new_names (names_of d x y) u v fs) ≡ file_named n fs
+unfolding with_new_names
 renamed_stays n d x y u v fs apart free = named_changed n (names_of d x y) _ fs apart (λ g is. free)
 
 -- a step
@@ -98,7 +98,7 @@ file_stays m n j k i at names f slot number on (draft_closed c g is unread e) th
     ap (file_named names) e
     ∙ closed_stays names g m.files f (other_names g.names names (channels_of m) k i at slot number on unread) there
   where
-    closed_stays : (names : Names) (g : File) (fs : List File) (f : File) → same_names names g.names ≡ false → file_named names fs ≡ Some f → file_named names (filed g fs) ≡ Some f
+    closed_stays : (names : Names) (g : File) (fs : List File) (f : File) → same_names names g.names ≡ false → file_named names fs ≡ Some f → file_named names (with_file g fs) ≡ Some f
     closed_stays names g fs f apart there = named_behind names f (without_file g.names fs) (g ∷ []) (without_stays names g.names fs apart ∙ there)
 file_stays m n j k i at names f slot number on (file_deleted x unread e) there =
     ap (file_named names) e ∙ without_stays names x m.files (other_names x names (channels_of m) k i at slot number on unread) ∙ there
@@ -112,24 +112,24 @@ FileKept names f (Ok n) = file_named names n.files ≡ Some f
 FileKept names f (Err r) = Unit {0}
 
 -- a line
-made_stays : (m : Machine) (x names : Names) (f : File) (there room : Bool) → file_named names m.files ≡ Some f → FileKept names f (file_made_if m x there room)
+made_stays : (m : Machine) (x names : Names) (f : File) (there room : Bool) → file_named names m.files ≡ Some f → FileKept names f (with_file_made_if m x there room)
 made_stays m x names f true room h = tt
 made_stays m x names f false true h = named_behind names f m.files (record { names = x; words = [] } ∷ []) h
 made_stays m x names f false false h = tt
 
-pub file_made_stays : (m : Machine) (x names : Names) (f : File) → file_named names m.files ≡ Some f → FileKept names f (file_made m x)
-unfolding file_made
+pub file_made_stays : (m : Machine) (x names : Names) (f : File) → file_named names m.files ≡ Some f → FileKept names f (with_file_made m x)
+unfolding with_file_made
 file_made_stays m x names f h = made_stays m x names f (has_file x m.files) (nat_lt (length m.files) most_files) h
 
-added_stays : (m : Machine) (x names : Names) (w : ℕ) (f : File) → same_names names x ≡ false → file_named names m.files ≡ Some f → FileKept names f (word_added m x w)
-unfolding word_added
+added_stays : (m : Machine) (x names : Names) (w : ℕ) (f : File) → same_names names x ≡ false → file_named names m.files ≡ Some f → FileKept names f (with_word_added m x w)
+unfolding with_word_added
 added_stays m x names w f apart h = go (file_named x m.files)
   where
-    put : (full : Bool) → FileKept names f (word_added_if m x w full)
+    put : (full : Bool) → FileKept names f (with_word_added_if m x w full)
     put true = tt
     put false = named_changed names x (longer w) m.files apart (λ g is. both_apart names x g.names apart is) ∙ h
 
-    go : (o : Option File) → FileKept names f (word_added_to m x w o)
+    go : (o : Option File) → FileKept names f (with_word_added_to m x w o)
     go (Some g) = put (is_full m.files (channels_of m) g.words)
     go None = h
 
@@ -138,7 +138,7 @@ then_stays : (r : Result Machine Reason) (next : Machine → Result Machine Reas
 then_stays (Ok n) next names f h more = more n h
 then_stays (Err r) next names f h more = tt
 
-pub words_stay : (ws : List ℕ) (m : Machine) (x names : Names) (f : File) → same_names names x ≡ false → file_named names m.files ≡ Some f → FileKept names f (words_added m x ws)
+pub words_stay : (ws : List ℕ) (m : Machine) (x names : Names) (f : File) → same_names names x ≡ false → file_named names m.files ≡ Some f → FileKept names f (with_words_added m x ws)
 words_stay [] m x names f apart h = h
 words_stay (w ∷ ws) m x names f apart h =
-    then_stays (word_added m x w) _ names f (added_stays m x names w f apart h) (λ n k. words_stay ws n x names f apart k)
+    then_stays (with_word_added m x w) _ names f (added_stays m x names w f apart h) (λ n k. words_stay ws n x names f apart k)

@@ -14,18 +14,18 @@ use Rattle.its_frame.specs.declared.frame.Frame.{Frame}
 use Rattle.its_print.specs.Printing.{Line, listed}
 use Rattle.its_plain.specs.Machine.{Names, Whole, Machine, mapped, joined, words_at, limit}
 use Rattle.its_plain.specs.Operator.{Block, Refuses, Does, Ticks, Quits, disturbs, quietly}
-use Rattle.its_plain.specs.OperatorJobs.{loaded_in, loaded, stored_in, stored, with_core, word_loaded_of, word_loaded, is_barred, any_barred, barred_in, words_barred, page_protected_in, page_protected, on_job, with_registers, on_registers, started, interrupted, stopped, continued, seen, examined, shown, state_shown, deposited_in, deposited}
+use Rattle.its_plain.specs.OperatorJobs.{after_load_in, after_load, with_stored_in, with_stored, with_core, with_word_loaded_of, with_word_loaded, is_barred, any_barred, barred_in, words_barred, with_page_protected_in, with_page_protected, on_job, with_registers, on_registers, after_go, after_int, after_stop, after_cont, seen, examined, shown, state_shown, after_deposit_in, after_deposit}
 use Rattle.its_plain.specs.OperatorLines.{by_load, by_exam, in_a_line, by_state, by_clock, operate, shows, Lined, Done, Peeks, peeked_at, lined}
-use Rattle.its_plain.specs.OperatorSymbols.{symbol_shown, symbol_kept}
-use Rattle.its_plain.specs.OperatorClock.{clock_end, clocked_if, clocked}
+use Rattle.its_plain.specs.OperatorSymbols.{symbol_shown, with_symbol_kept}
+use Rattle.its_plain.specs.OperatorClock.{clock_end, after_clock_if, after_clock}
 use Rattle.its_plain.specs.Own.{names_of}
-use Rattle.its_plain.specs.OperatorFiles.{file_made, word_added, words_added, file_shown}
+use Rattle.its_plain.specs.OperatorFiles.{with_file_made, with_word_added, with_words_added, file_shown}
 use Rattle.its_stepped.specs.State.{State, plain}
 use Rattle.its_stepped.specs.State as state
 use Rattle.its_stepped.specs.Unwind.{unwound}
 use Rattle.its_stepped.specs.Sound.{Sound}
-use Rattle.its_stepped.specs.Tick.{helped_if}
-use Rattle.its_stepped.specs.Lines.{looks_at_files, calmed, lifted_line, refusal}
+use Rattle.its_stepped.specs.Tick.{after_help_if}
+use Rattle.its_stepped.specs.Lines.{looks_at_files, after_calm, lifted_line, refusal}
 use Rattle.its_stepped.proofs.FrameLaws.{seen_can_store, seen_present, seen_page, mapped_plain}
 use Rattle.its_stepped.proofs.UnwindLaws.{unwound_plain}
 use Rattle.its_stepped.proofs.HelpLaws.{helped_if_plain, helped_if_unmarked}
@@ -56,35 +56,35 @@ core_alike m n s p q (Ok c) (Err x) e = e
 core_alike m n s p q (Err x) (Ok d) e = e
 core_alike m n s p q (Err x) (Err y) e = e
 
-deposit_alike : (c d : Core) (a w : ℕ) (can there : Bool) → error_of (deposited_in c a w can there) ≡ error_of (deposited_in d a w can there)
+deposit_alike : (c d : Core) (a w : ℕ) (can there : Bool) → error_of (after_deposit_in c a w can there) ≡ error_of (after_deposit_in d a w can there)
 deposit_alike c d a w true there = refl
 deposit_alike c d a w false true = refl
 deposit_alike c d a w false false = refl
 
-pub deposited_alike : (w : State) (s a x : ℕ) → error_of (deposited (plain w) s a x) ≡ error_of (deposited w.raw s a x)
-unfolding deposited plain
+pub deposited_alike : (w : State) (s a x : ℕ) → error_of (after_deposit (plain w) s a x) ≡ error_of (after_deposit w.raw s a x)
+unfolding after_deposit plain
 deposited_alike w s a x =
     on_job_alike (plain w) w.raw s (λ q. with_core (plain w) s q (core q)) (λ q. with_core w.raw s q (core q)) (w.frames s) (w.raw.jobs s)
     (λ q. core_alike (plain w) w.raw s (state.seen (w.frames s) q) q (core (state.seen (w.frames s) q)) (core q) (same q))
   where
     core : Whole → Result Core Reason
-    core q = deposited_in q.core a x (can_store q.core a) (is_some (word_at q.core a))
+    core q = after_deposit_in q.core a x (can_store q.core a) (is_some (word_at q.core a))
 
     same : (q : Whole) → error_of (core (state.seen (w.frames s) q)) ≡ error_of (core q)
     same q =
-        ap (λ can. error_of (deposited_in (state.seen (w.frames s) q).core a x can (is_some (word_at (state.seen (w.frames s) q).core a)))) (seen_can_store (w.frames s) q a)
-        ∙ ap (λ there. error_of (deposited_in (state.seen (w.frames s) q).core a x (can_store q.core a) there)) (seen_present (w.frames s) q a)
+        ap (λ can. error_of (after_deposit_in (state.seen (w.frames s) q).core a x can (is_some (word_at (state.seen (w.frames s) q).core a)))) (seen_can_store (w.frames s) q a)
+        ∙ ap (λ there. error_of (after_deposit_in (state.seen (w.frames s) q).core a x (can_store q.core a) there)) (seen_present (w.frames s) q a)
         ∙ deposit_alike (state.seen (w.frames s) q).core q.core a x (can_store q.core a) (is_some (word_at q.core a))
 
 -- one word of a line of words
-stored_alike : (c d : Core) (a w : ℕ) (can there room : Bool) → error_of (stored_in c a w can there room) ≡ error_of (stored_in d a w can there room)
+stored_alike : (c d : Core) (a w : ℕ) (can there room : Bool) → error_of (with_stored_in c a w can there room) ≡ error_of (with_stored_in d a w can there room)
 stored_alike c d a w true there room = refl
 stored_alike c d a w false true room = refl
 stored_alike c d a w false false true = refl
 stored_alike c d a w false false false = refl
 
-word_of_alike : (w : State) (s a x : ℕ) (f : Option Frame) (o : Option Whole) → error_of (word_loaded_of (plain w) s a x (option_map (state.seen f) o)) ≡ error_of (word_loaded_of w.raw s a x o)
-unfolding stored
+word_of_alike : (w : State) (s a x : ℕ) (f : Option Frame) (o : Option Whole) → error_of (with_word_loaded_of (plain w) s a x (option_map (state.seen f) o)) ≡ error_of (with_word_loaded_of w.raw s a x o)
+unfolding with_stored
 word_of_alike w s a x f None = refl
 word_of_alike w s a x f (Some q) =
     core_alike (plain w) w.raw s p q (loads p.core (can_store p.core a) (is_some (word_at p.core a)) (mapped (plain w)))
@@ -98,11 +98,11 @@ word_of_alike w s a x f (Some q) =
     p = state.seen f q
 
     loads : Core → Bool → Bool → ℕ → Result Core Reason
-    loads c can there n = stored_in c a x can there (nat_lt n most_pages)
+    loads c can there n = with_stored_in c a x can there (nat_lt n most_pages)
 
-pub word_alike : (w : State) (s a x : ℕ) → error_of (word_loaded (plain w) s a x) ≡ error_of (word_loaded w.raw s a x)
-unfolding word_loaded
-word_alike w s a x = ap (λ (o : Option Whole). error_of (word_loaded_of (plain w) s a x o)) (jobs_at w s) ∙ word_of_alike w s a x (w.frames s) (w.raw.jobs s)
+pub word_alike : (w : State) (s a x : ℕ) → error_of (with_word_loaded (plain w) s a x) ≡ error_of (with_word_loaded w.raw s a x)
+unfolding with_word_loaded
+word_alike w s a x = ap (λ (o : Option Whole). error_of (with_word_loaded_of (plain w) s a x o)) (jobs_at w s) ∙ word_of_alike w s a x (w.frames s) (w.raw.jobs s)
 
 -- the words of a line of words that are on a read-only page
 barred_alike : (c d : Core) (a n : ℕ) → ((p : ℕ) → is_some (word_at c p) ≡ is_some (word_at d p)) → ((p : ℕ) → can_store c p ≡ can_store d p)
@@ -123,16 +123,16 @@ barred_plain w s a n = ap (λ (o : Option Whole). barred_in o a n) (jobs_at w s)
 
 -- a page that becomes read only, and a symbol that is kept
 page_alike_in : (m n : Machine) (s k : ℕ) (q p : Whole) (x y : Option Page) → is_some x ≡ is_some y
-    → error_of (page_protected_in m s k q x) ≡ error_of (page_protected_in n s k p y)
+    → error_of (with_page_protected_in m s k q x) ≡ error_of (with_page_protected_in n s k p y)
 page_alike_in m n s k q p (Some x) (Some y) e = refl
 page_alike_in m n s k q p None None e = refl
 page_alike_in m n s k q p (Some x) None e = cc
 page_alike_in m n s k q p None (Some y) e = cc
 
-pub page_alike : (w : State) (s k : ℕ) → error_of (page_protected (plain w) s k) ≡ error_of (page_protected w.raw s k)
-unfolding page_protected plain
+pub page_alike : (w : State) (s k : ℕ) → error_of (with_page_protected (plain w) s k) ≡ error_of (with_page_protected w.raw s k)
+unfolding with_page_protected plain
 page_alike w s k =
-    on_job_alike (plain w) w.raw s (λ q. page_protected_in (plain w) s k q (page_of q.core k)) (λ q. page_protected_in w.raw s k q (page_of q.core k)) (w.frames s) (w.raw.jobs s)
+    on_job_alike (plain w) w.raw s (λ q. with_page_protected_in (plain w) s k q (page_of q.core k)) (λ q. with_page_protected_in w.raw s k q (page_of q.core k)) (w.frames s) (w.raw.jobs s)
     (λ q. page_alike_in (plain w) w.raw s k (state.seen (w.frames s) q) q (page_of (state.seen (w.frames s) q).core k) (page_of q.core k) (seen_page (w.frames s) q k))
 
 -- the words that EXAM wants are present in both
@@ -185,11 +185,11 @@ show_alike m n b s (Err y) (Ok w) e = e
 show_alike m n b s (Err y) (Err z) e = e
 
 load_alike : (m n : Machine) (b : Block) (u j : ℕ) (console o : Option ℕ)
-    → refusal (Done (by_load b (loaded_in m u j console o))) ≡ refusal (Done (by_load b (loaded_in n u j console o)))
+    → refusal (Done (by_load b (after_load_in m u j console o))) ≡ refusal (Done (by_load b (after_load_in n u j console o)))
 load_alike m n b u j console (Some s) = refl
 load_alike m n b u j console None = refl
 
-clock_alike : (m n : Machine) (b : Block) (k : ℕ) (fits : Bool) → refusal (Done (by_clock m b k (clocked_if m k fits))) ≡ refusal (Done (by_clock n b k (clocked_if n k fits)))
+clock_alike : (m n : Machine) (b : Block) (k : ℕ) (fits : Bool) → refusal (Done (by_clock m b k (after_clock_if m k fits))) ≡ refusal (Done (by_clock n b k (after_clock_if n k fits)))
 clock_alike m n b k true = refl
 clock_alike m n b k false = refl
 
@@ -209,18 +209,18 @@ lift_alike : (v : State) (r : Result Machine Reason) → error_of (lift v r) ≡
 lift_alike v (Ok m) = refl
 lift_alike v (Err r) = refl
 
-pub symbol_alike : (w : State) (s name a : ℕ) → error_of (symbol_kept (plain w) s name a) ≡ error_of (symbol_kept w.raw s name a)
-symbol_alike w s name a = ap error_of (symbol_lifted w s name a) ∙ lift_alike w (symbol_kept w.raw s name a)
+pub symbol_alike : (w : State) (s name a : ℕ) → error_of (with_symbol_kept (plain w) s name a) ≡ error_of (with_symbol_kept w.raw s name a)
+symbol_alike w s name a = ap error_of (symbol_lifted w s name a) ∙ lift_alike w (with_symbol_kept w.raw s name a)
 
 -- lines on files, if no close is half made
-pub made_alike : (v : State) (n : Names) → v.mark ≡ None → error_of (file_made (plain v) n) ≡ error_of (file_made v.raw n)
-made_alike v n e = ap error_of (made_lifted v n e) ∙ lift_alike v (file_made v.raw n)
+pub made_alike : (v : State) (n : Names) → v.mark ≡ None → error_of (with_file_made (plain v) n) ≡ error_of (with_file_made v.raw n)
+made_alike v n e = ap error_of (made_lifted v n e) ∙ lift_alike v (with_file_made v.raw n)
 
-pub added_alike : (v : State) (n : Names) (w : ℕ) → v.mark ≡ None → error_of (word_added (plain v) n w) ≡ error_of (word_added v.raw n w)
-added_alike v n w e = ap error_of (added_lifted v n w e) ∙ lift_alike v (word_added v.raw n w)
+pub added_alike : (v : State) (n : Names) (w : ℕ) → v.mark ≡ None → error_of (with_word_added (plain v) n w) ≡ error_of (with_word_added v.raw n w)
+added_alike v n w e = ap error_of (added_lifted v n w e) ∙ lift_alike v (with_word_added v.raw n w)
 
-pub words_added_alike : (v : State) (n : Names) (ws : List ℕ) → v.mark ≡ None → error_of (words_added (plain v) n ws) ≡ error_of (words_added v.raw n ws)
-words_added_alike v n ws e = ap error_of (words_added_lifted v n ws e) ∙ lift_alike v (words_added v.raw n ws)
+pub words_added_alike : (v : State) (n : Names) (ws : List ℕ) → v.mark ≡ None → error_of (with_words_added (plain v) n ws) ≡ error_of (with_words_added v.raw n ws)
+words_added_alike v n ws e = ap error_of (words_added_lifted v n ws e) ∙ lift_alike v (with_words_added v.raw n ws)
 
 peek_alike : (s : ℕ) (f : Option Frame) (o : Option Whole) → refusal (peeked_at s (option_map (state.seen f) o)) ≡ refusal (peeked_at s o)
 peek_alike s f (Some q) = refl
@@ -232,19 +232,19 @@ IsSingle (events.Words a words) = ⊥
 IsSingle _ = Unit {0}
 
 pub line_alike : (w : State) (b : Block) (e : Event) → IsSingle e → (looks_at_files e ≡ true → w.mark ≡ None) → refusal (lined (plain w) b e) ≡ refusal (lined w.raw b e)
-unfolding lined operate plain loaded clocked
+unfolding lined operate plain after_load after_clock
 line_alike w b (events.Load u j console) h whole =
-    ap (λ o. refusal (Done (by_load b (loaded_in (plain w) u j console o)))) (least_plain w) ∙ load_alike (plain w) w.raw b u j console (least_free (limit w.raw) w.raw.jobs)
+    ap (λ o. refusal (Done (by_load b (after_load_in (plain w) u j console o)))) (least_plain w) ∙ load_alike (plain w) w.raw b u j console (least_free (limit w.raw) w.raw.jobs)
 line_alike w b (events.Words a words) h whole = absurd h
 line_alike w b (events.ReadOnly page) h whole =
-    disturbs_alike b.slot b (page_protected (plain w) b.slot page) (page_protected w.raw b.slot page) (page_alike w b.slot page)
+    disturbs_alike b.slot b (with_page_protected (plain w) b.slot page) (with_page_protected w.raw b.slot page) (page_alike w b.slot page)
 line_alike w b (events.Symbol name a) h whole =
-    quietly_alike b (symbol_kept (plain w) b.slot name a) (symbol_kept w.raw b.slot name a) (symbol_alike w b.slot name a)
-line_alike w b (events.Go a) h whole = disturbs_alike b.slot b (on_registers (plain w) b.slot (started a)) (on_registers w.raw b.slot (started a)) (registers_alike w b.slot (started a))
-line_alike w b (events.Int s x y) h whole = disturbs_alike s b (on_registers (plain w) s (interrupted x y)) (on_registers w.raw s (interrupted x y)) (registers_alike w s (interrupted x y))
-line_alike w b (events.Stop s) h whole = disturbs_alike s b (on_registers (plain w) s stopped) (on_registers w.raw s stopped) (registers_alike w s stopped)
-line_alike w b (events.Cont s) h whole = disturbs_alike s b (on_registers (plain w) s continued) (on_registers w.raw s continued) (registers_alike w s continued)
-line_alike w b (events.Deposit s a x) h whole = disturbs_alike s b (deposited (plain w) s a x) (deposited w.raw s a x) (deposited_alike w s a x)
+    quietly_alike b (with_symbol_kept (plain w) b.slot name a) (with_symbol_kept w.raw b.slot name a) (symbol_alike w b.slot name a)
+line_alike w b (events.Go a) h whole = disturbs_alike b.slot b (on_registers (plain w) b.slot (after_go a)) (on_registers w.raw b.slot (after_go a)) (registers_alike w b.slot (after_go a))
+line_alike w b (events.Int s x y) h whole = disturbs_alike s b (on_registers (plain w) s (after_int x y)) (on_registers w.raw s (after_int x y)) (registers_alike w s (after_int x y))
+line_alike w b (events.Stop s) h whole = disturbs_alike s b (on_registers (plain w) s after_stop) (on_registers w.raw s after_stop) (registers_alike w s after_stop)
+line_alike w b (events.Cont s) h whole = disturbs_alike s b (on_registers (plain w) s after_cont) (on_registers w.raw s after_cont) (registers_alike w s after_cont)
+line_alike w b (events.Deposit s a x) h whole = disturbs_alike s b (after_deposit (plain w) s a x) (after_deposit w.raw s a x) (deposited_alike w s a x)
 line_alike w b (events.Exam s a n) h whole = exam_alike (plain w) w.raw b s (in_a_line s a) (examined (plain w) s a n) (examined w.raw s a n) (examined_alike w s a n)
 line_alike w b (events.List s a n) h whole = exam_alike (plain w) w.raw b s (listed s a) (examined (plain w) s a n) (examined w.raw s a n) (examined_alike w s a n)
 line_alike w b (events.State s) h whole = show_alike (plain w) w.raw b s (state_shown (plain w) s) (state_shown w.raw s) (shown_alike w s)
@@ -252,9 +252,9 @@ line_alike w b (events.Clock n) h whole =
     clock_alike (plain w) w.raw b n (nat_lt (w.raw.clock + n) clock_end)
 line_alike w b (events.Peek s) h whole = peek_alike s (w.frames s) (w.raw.jobs s)
 line_alike w b (events.File d x y) h whole =
-    let n = names_of d x y in quietly_alike (record b { file = n }) (file_made (plain w) n) (file_made w.raw n) (made_alike w n (whole refl))
+    let n = names_of d x y in quietly_alike (record b { file = n }) (with_file_made (plain w) n) (with_file_made w.raw n) (made_alike w n (whole refl))
 line_alike w b (events.Append words) h whole =
-    quietly_alike b (words_added (plain w) b.file words.items) (words_added w.raw b.file words.items) (words_added_alike w b.file words.items (whole refl))
+    quietly_alike b (with_words_added (plain w) b.file words.items) (with_words_added w.raw b.file words.items) (words_added_alike w b.file words.items (whole refl))
 line_alike w b (events.Show d x y) h whole =
     shows_alike (plain w) w.raw b (file_shown (plain w) d x y) (file_shown w.raw d x y) (ap error_of (shown_plain w d x y (whole refl)))
 line_alike w b _ h whole = refl
@@ -268,13 +268,13 @@ refusal_lifted v (Peeks s) = refl
 
 -- a line is refused before anything is unwound exactly if it is refused afterwards, and for the same reason; one that
 -- looks at files, once the parts of a close are made
-pub refused_calmed : (w : State) (b : Block) (e : Event) → Sound w → refusal (lined (plain w) b e) ≡ refusal (lined (calmed w b e).raw b e)
-refused_calmed w b e sound = ap refusal (line_plain w b e sound) ∙ refusal_lifted (calmed w b e) (lined (calmed w b e).raw b e)
+pub refused_calmed : (w : State) (b : Block) (e : Event) → Sound w → refusal (lined (plain w) b e) ≡ refusal (lined (after_calm w b e).raw b e)
+refused_calmed w b e sound = ap refusal (line_plain w b e sound) ∙ refusal_lifted (after_calm w b e) (lined (after_calm w b e).raw b e)
 
 pub refused_first : (w : State) (b : Block) (e : Event) → Sound w → IsSingle e
-    → refusal (lined (helped_if (looks_at_files e) w).raw b e) ≡ refusal (lined (calmed w b e).raw b e)
+    → refusal (lined (after_help_if (looks_at_files e) w).raw b e) ≡ refusal (lined (after_calm w b e).raw b e)
 refused_first w b e sound h =
-    sym (line_alike (helped_if (looks_at_files e) w) b e h (helped_if_unmarked (looks_at_files e) w))
+    sym (line_alike (after_help_if (looks_at_files e) w) b e h (helped_if_unmarked (looks_at_files e) w))
     ∙ ap (λ m. refusal (lined m b e)) (helped_if_plain (looks_at_files e) w) ∙ refused_calmed w b e sound
 
 -- whether a line of words is barred is the same before and after the unwinding
@@ -283,6 +283,6 @@ barred_first w s a n sound =
     sym (barred_plain w s a n) ∙ ap (λ m. words_barred m s a n) (sym (unwound_plain w s sound)) ∙ barred_plain (unwound w s) s a n
 
 -- the same for one word
-pub word_refused_first : (w : State) (s a x : ℕ) → Sound w → error_of (word_loaded w.raw s a x) ≡ error_of (word_loaded (unwound w s).raw s a x)
+pub word_refused_first : (w : State) (s a x : ℕ) → Sound w → error_of (with_word_loaded w.raw s a x) ≡ error_of (with_word_loaded (unwound w s).raw s a x)
 word_refused_first w s a x sound =
-    sym (word_alike w s a x) ∙ ap (λ m. error_of (word_loaded m s a x)) (sym (unwound_plain w s sound)) ∙ word_alike (unwound w s) s a x
+    sym (word_alike w s a x) ∙ ap (λ m. error_of (with_word_loaded m s a x)) (sym (unwound_plain w s sound)) ∙ word_alike (unwound w s) s a x

@@ -8,7 +8,7 @@ use Rattle.its_frame.specs.declared.frame.Frame.{Frame}
 use Rattle.its_plain.specs.Machine.{Whole, Machine, changed}
 use Rattle.its_plain.specs.Change.{on_slot, in_job}
 use Rattle.its_plain.proofs.MachineLaws.{jobs_are}
-use Rattle.its_stepped.specs.State.{Mark, State, helped, mine, seen, with_slot, same, reserving}
+use Rattle.its_stepped.specs.State.{Mark, State, after_help, mine, seen, with_slot, same, reserving}
 use Rattle.its_stepped.specs.Unwind.{left_by}
 use Rattle.its_stepped.specs.Sound.{MarkBy, SoundBy, parts_in_frame}
 use Rattle.its_stepped.specs.OneChange.{OneChange, FrameAlone, OnePage}
@@ -22,7 +22,7 @@ pub record Shares (w v : State) : Type 0 where
   pub version : v.raw.version ≡ w.raw.version
   pub symbols : v.raw.symbols ≡ w.raw.symbols
   pub links : v.raw.links ≡ w.raw.links
-  pub files : helped v.mark v.raw.files ≡ helped w.mark w.raw.files
+  pub files : after_help v.mark v.raw.files ≡ after_help w.mark w.raw.files
 
 pub record Rowed (w v : State) (j : ℕ) : Type 0 where
   pub job : Whole

@@ -18,7 +18,7 @@ use Rattle.its_plain.specs.Course.{Deed, Lines, Turns, Letter, Moment, Course, m
 use Rattle.its_plain.specs.Integrity.{MayWrite, RemovesTree, by_logout, by_uclose, Removes, JobMay, job_same, job_written, job_removed, superior_informed, superior_left, job_made, MayStep, ReachesNobody, OnlyTells, tells_nothing, tells_stop, tells_end, makes_job, OnlyParts, touched}
 use Rattle.its_plain.specs.Machine.{Names, File, Chan, Reads, On, Whole, Machine}
 use Rattle.its_plain.specs.Operator.{Block, Does, Refuses, Ticks, Quits, quietly}
-use Rattle.its_plain.specs.OperatorFiles.{file_made, words_added}
+use Rattle.its_plain.specs.OperatorFiles.{with_file_made, with_words_added}
 use Rattle.its_plain.specs.OperatorLines.{Lined, Done, Peeks, lined, operate}
 use Rattle.its_plain.specs.Own.{names_of}
 use Rattle.its_plain.specs.RunIntegrity.{OwnStep, MayDo, EachMay, IsReader, ReadsOn, IsSpared, AllSpared, ReadingStretch, Integrity}

@@ -16,7 +16,7 @@ use Rattle.its_frame.specs.declared.frame.Frame.{Frame}
 use Rattle.its_word.specs.Limits.{slots}
 use Rattle.its_stepped.specs.State.{State, seen, plain, no_state}
 use Rattle.its_stepped.specs.Tick.{tick}
-use Rattle.its_stepped.specs.Lines.{peeked, calmed, with_raw, lifted_line, paces_of, ticked, told_by, Told, turned_by, turned, told, stepped}
+use Rattle.its_stepped.specs.Lines.{peeked, after_calm, with_raw, lifted_line, paces_of, after_ticks, told_by, Told, turned_by, turned, told, stepped}
 use Rattle.its_stepped.proofs.FrameLaws.{seen_stopped}
 use Rattle.its_stepped.proofs.StartLaws.{no_state_plain}
 
@@ -35,8 +35,8 @@ pub record Upkeep (Good : Dots → State → Type 0) : Type 0 where
   pub paced : (d : Dots) (w : State) (j : ℕ) → Good d w → Licensed (plain w) j (tick w j).pace (plain (tick w j).state)
   pub few : (d : Dots) (w : State) (j : ℕ) → Good d w → d j < most_dots
   pub ticks : (d : Dots) (w : State) (j : ℕ) → Good d w → Good (dots_after (plain w) d j (tick w j).pace) (tick w j).state
-  pub line : (d : Dots) (w : State) (b : Block) (e : Event) → Good d w → lined (plain w) b e ≡ lifted_line (calmed w b e) (lined (calmed w b e).raw b e)
-  pub after : (d : Dots) (w : State) (b : Block) (e : Event) → Good d w → HoldsAfter Good d (calmed w b e) (lined (calmed w b e).raw b e)
+  pub line : (d : Dots) (w : State) (b : Block) (e : Event) → Good d w → lined (plain w) b e ≡ lifted_line (after_calm w b e) (lined (after_calm w b e).raw b e)
+  pub after : (d : Dots) (w : State) (b : Block) (e : Event) → Good d w → HoldsAfter Good d (after_calm w b e) (lined (after_calm w b e).raw b e)
 
 -- a job runs in the raw state exactly if it runs on the plain machine
 seen_running : (f : Option Frame) (o : Option Whole) → is_running (option_map (seen f) o) ≡ is_running o
@@ -61,7 +61,7 @@ walk n w d b = record { machine = plain w; dots = d; block = b; line = n }
 module _ {Good : Dots → State → Type 0} (u : Upkeep Good) where
   -- whatever goes on after k ticks goes on from here
   ticks_run : (n : ℕ) (w : State) (d : Dots) (b : Block) (i k : ℕ) (next : Walk → Type 0) → Good d w
-      → ((f : Dots) → Good f (ticked w i k) → next (walk n (ticked w i k) f b)) → PacedOn (walk n w d b) i (paces_of w i k) next
+      → ((f : Dots) → Good f (after_ticks w i k) → next (walk n (after_ticks w i k) f b)) → PacedOn (walk n w d b) i (paces_of w i k) next
   ticks_run n w d b i zero next g h = h d g
   ticks_run n w d b i (suc k) next g h =
       (plain (tick w i).state, u.paced d w i g, (λ p. u.few d w i g), ticks_run n (tick w i).state (dots_after (plain w) d i (tick w i).pace) b i k next (u.ticks d w i g) h)
@@ -82,10 +82,10 @@ module _ {Good : Dots → State → Type 0} (u : Upkeep Good) where
   turn_runs n k q w d b last next S None l is g h more = h w d last g l
   turn_runs n k q w d b last next S (Some s) l is g h more = (
     paces_of w s q,
-    (turned k q (ticked w s q) s next).lines,
+    (turned k q (after_ticks w s q) s next).lines,
     refl,
     paces_length w s q,
-    ticks_run n w d b s q _ g (λ f good. more (ticked w s q) f s good (turn_within w.raw last s l is)),
+    ticks_run n w d b s q _ g (λ f good. more (after_ticks w s q) f s good (turn_within w.raw last s l is)),
   )
 
   turns_run : (n k q : ℕ) (w : State) (d : Dots) (b : Block) (last : ℕ) (next : State → ℕ → Told) (S : Walk → ℕ → List Line → Fate → Type 0) → last < slots → Good d w
@@ -104,7 +104,7 @@ module _ {Good : Dots → State → Type 0} (u : Upkeep Good) where
   line_runs n w v d b (Done (Refuses r)) next S g a h = (refl, refl)
   line_runs n w v d b (Done (Does m out touched b')) next S g a h = ((next (with_raw v m) b').lines, refl, h (with_raw v m) (dots_after_line d touched) b' a)
   line_runs n w v d b (Done (Ticks s k)) next S g a h =
-      (paces_of w s k, (next (ticked w s k) b).lines, refl, paces_length w s k, ticks_run n w d b s k _ g (λ f good. h (ticked w s k) f b good))
+      (paces_of w s k, (next (after_ticks w s k) b).lines, refl, paces_length w s k, ticks_run n w d b s k _ g (λ f good. h (after_ticks w s k) f b good))
   line_runs n w v d b (Done Quits) next S g a h = (refl, refl)
   line_runs n w v d b (Peeks s) next S g a h = (peeked w s, (next w b).lines, refl, h w d b g)
 
@@ -114,7 +114,7 @@ module _ {Good : Dots → State → Type 0} (u : Upkeep Good) where
       let t = told n w b last (Read e ∷ es) in
       let S : Walk → List Line → Fate → Type 0 = λ x rest fate. TurnsOn (turns_asked e) (ticks_asked e) x last (λ y i more. Run y i es more fate) rest in
       subst (λ o. LinedOn (walk n w d b) o (λ x rest. S x rest t.fate) t.lines t.fate) (sym (u.line d w b e g))
-      (line_runs n w (calmed w b e) d b (lined (calmed w b e).raw b e) (λ v b'. turned (turns_asked e) (ticks_asked e) v last (λ x i. told (n + 1) x b' i es)) S g
+      (line_runs n w (after_calm w b e) d b (lined (after_calm w b e).raw b e) (λ v b'. turned (turns_asked e) (ticks_asked e) v last (λ x i. told (n + 1) x b' i es)) S g
       (u.after d w b e g)
       (λ w' d' b' good.
       turns_run (n + 1) (turns_asked e) (ticks_asked e) w' d' b' last (λ x i. told (n + 1) x b' i es) (λ y i more fate. Run y i es more fate) l good

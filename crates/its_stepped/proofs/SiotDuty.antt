@@ -19,7 +19,7 @@ use Rattle.its_frame.specs.declared.decision.Held.{Held}
 use Rattle.its_frame.specs.declared.decision.Wait.TheVariants.{Input, Output}
 use Rattle.its_frame.specs.declared.name.CallName.{CallName}
 use Rattle.its_frame.specs.declared.name.CallName.TheVariants.{Siot}
-use Rattle.its_plain.specs.Arguments.{store_of, stores_of, valued, input, place_in, place_of_input, in_footprint, is_shared, debts, revalued}
+use Rattle.its_plain.specs.Arguments.{store_of, stores_of, operands_with_values, input, place_in, place_of_input, in_footprint, is_shared, debts, with_new_values}
 use Rattle.its_plain.specs.CallBasic.{shared_place, read_only}
 use Rattle.its_plain.specs.CallStep.{with_held}
 use Rattle.its_plain.specs.CallTty.{view_console, input_waits, output_waits, first_typed, shown_byte, siot_in, siot_out}
@@ -80,9 +80,9 @@ unfolding debts
 debts_one a x p v q k e = ap (λ xs. stores_of (drop (length xs - 1) xs)) e
 
 two_valued : (a : Ask) (x : Operand) (p v q k w n : ℕ) → a.inputs.items ≡ x ∷ variable v p ∷ variable k q ∷ []
-    → revalued a (w ∷ n ∷ []) ≡ with_inputs a (x ∷ variable w p ∷ variable n q ∷ [])
-unfolding revalued
-two_valued a x p v q k w n e = ap (λ xs. record a { inputs = record { items = take (length xs - 2) xs ++ valued (drop (length xs - 2) xs) (w ∷ n ∷ []) } }) e
+    → with_new_values a (w ∷ n ∷ []) ≡ with_inputs a (x ∷ variable w p ∷ variable n q ∷ [])
+unfolding with_new_values
+two_valued a x p v q k w n e = ap (λ xs. record a { inputs = record { items = take (length xs - 2) xs ++ operands_with_values (drop (length xs - 2) xs) (w ∷ n ∷ []) } }) e
 
 siot_owes : (a : Ask) → call_named a.name ≡ Some Siot → most_owed a ≡ 2
 unfolding most_owed
@@ -169,13 +169,13 @@ siot_goes : (d : Decoding) (m : Machine) (v : State) (j : ℕ) (x : View) (s : S
     → Going v j x.own s a n cs h (w ∷ i ∷ [])
 siot_goes d m v j x s a n cs h w i c e t quiet spare parts o sized =
     let g = t.args in
-    let valued : revalued a (w ∷ i ∷ []) ≡ with_inputs a (g.channel ∷ variable w t.p ∷ variable i t.q ∷ []) = two_valued a g.channel t.p g.pointer t.q g.count w i g.inputs in
-    let owed : debts (revalued a (w ∷ i ∷ [])) 2 ≡ two t.p w t.q i =
-    ap (λ (k : Ask). debts k 2) valued ∙ debts_two (with_inputs a (g.channel ∷ variable w t.p ∷ variable i t.q ∷ [])) g.channel t.p w t.q i refl in
+    let operands_with_values : with_new_values a (w ∷ i ∷ []) ≡ with_inputs a (g.channel ∷ variable w t.p ∷ variable i t.q ∷ []) = two_valued a g.channel t.p g.pointer t.q g.count w i g.inputs in
+    let owed : debts (with_new_values a (w ∷ i ∷ [])) 2 ≡ two t.p w t.q i =
+    ap (λ (k : Ask). debts k 2) operands_with_values ∙ debts_two (with_inputs a (g.channel ∷ variable w t.p ∷ variable i t.q ∷ [])) g.channel t.p w t.q i refl in
     let few : n ≤ 2 = (let f = c.debts.few in let l = siot_owes a e in omega arith) in
-    let same : most_owed (revalued a (w ∷ i ∷ [])) ≡ 2 = siot_owes (revalued a (w ∷ i ∷ [])) (ap call_named (named_same a (w ∷ i ∷ [])) ∙ e) in
-    let base : Core = (with_held (revalued a (w ∷ i ∷ [])) h x.own).core in
-    let behind : Behind x.own.core base x.own s a = behind_held d x.own s a (revalued a (w ∷ i ∷ [])) h c.stands o in
+    let same : most_owed (with_new_values a (w ∷ i ∷ [])) ≡ 2 = siot_owes (with_new_values a (w ∷ i ∷ [])) (ap call_named (named_same a (w ∷ i ∷ [])) ∙ e) in
+    let base : Core = (with_held (with_new_values a (w ∷ i ∷ [])) h x.own).core in
+    let behind : Behind x.own.core base x.own s a = behind_held d x.own s a (with_new_values a (w ∷ i ∷ [])) h c.stands o in
     record {
       quiet = quiet;
       spare = spare;
@@ -185,20 +185,20 @@ siot_goes d m v j x s a n cs h w i c e t quiet spare parts o sized =
       held = held_fits x.own.core a n h c.fetched o;
       transfers = transfers_with h;
       outside = outside_of h o;
-      size = sized_by h (ap (λ (k : Ask). has_size (input k 1)) valued ∙ sized);
+      size = sized_by h (ap (λ (k : Ask). has_size (input k 1)) operands_with_values ∙ sized);
       debts = record {
         few = omega arith;
         read = ap (λ (ss : List Store). length ss) owed;
         stored = subst (λ (ss : List Store). Stored x.own.core ss) (sym owed)
             (ap (can_store x.own.core) t.pointer_at ∙ t.pointer_can, (ap (can_store x.own.core) t.count_at ∙ t.count_can, tt));
       };
-      stands = subst (λ (k : Core). Stands k x.own.job s (revalued a (w ∷ i ∷ []))) (sym (ap (stored base) owed ∙ stored_two base t.p w t.q i t.pointer_at t.count_at))
-          (subst (λ (k : Ask). Stands (store (store base t.p w) t.q i) x.own.job s k) (sym valued)
+      stands = subst (λ (k : Core). Stands k x.own.job s (with_new_values a (w ∷ i ∷ []))) (sym (ap (stored base) owed ∙ stored_two base t.p w t.q i t.pointer_at t.count_at))
+          (subst (λ (k : Ask). Stands (store (store base t.p w) t.q i) x.own.job s k) (sym operands_with_values)
           (d.moved base x.own.job s a g.channel g.pointer t.p g.count t.q w i behind.stands g.inputs t.pointer_alone t.count_alone
           (behind.can t.p ∙ t.pointer_can) (behind.can t.q ∙ t.count_can)));
     }
   where
-    sized_by : (h : Option Held) → has_size (input (revalued a (w ∷ i ∷ [])) 1) ≡ true → IfSome h (λ b. has_size (input (revalued a (w ∷ i ∷ [])) 1) ≡ true)
+    sized_by : (h : Option Held) → has_size (input (with_new_values a (w ∷ i ∷ [])) 1) ≡ true → IfSome h (λ b. has_size (input (with_new_values a (w ∷ i ∷ [])) 1) ≡ true)
     sized_by None k = tt
     sized_by (Some b) k = k
 

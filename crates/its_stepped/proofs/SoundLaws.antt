@@ -13,7 +13,7 @@ use Rattle.its_frame.specs.declared.frame.Frame.{Frame}
 use Rattle.its_frame.specs.declared.frame.Frame.TheVariants.{Entered, Parsed, Asked, Holding, Waiting, Moving, Ending}
 use Rattle.its_stepped.specs.TwoParts.{parse, fetch}
 use Rattle.its_plain.specs.Arguments.{debts}
-use Rattle.its_plain.specs.CallStep.{becomes, faulted, informs, informed_slots, decision}
+use Rattle.its_plain.specs.CallStep.{with_core_and_job, with_fault, informs, informed_slots, decision}
 use Rattle.its_plain.specs.Interrupt.{Delivered, deliverable, delivered}
 use Rattle.its_plain.specs.Machine.{Whole, changed}
 use Rattle.its_plain.specs.Own.{with_stores}
@@ -21,8 +21,8 @@ use Rattle.its_plain.specs.Unit.{Outcome, Changed, Faulted, Called, unit}
 use Rattle.its_word.specs.Stores.{stored}
 use Rattle.its_stepped.specs.State.{State, plain, seen, with_slot, same, reserving, entered, parsed, asked, holding}
 use Rattle.its_stepped.specs.Unwind.{all_unwound}
-use Rattle.its_stepped.specs.Commit.{effects_on, committed}
-use Rattle.its_stepped.specs.Tick.{works, delivered_on, user_on, unit_on, parsed_on, fetched_on, prepared_on, reserves, prepared_for, tried, tried_by, quarters, held_on, tick_in, tick_unless, tick_of, tick}
+use Rattle.its_stepped.specs.Commit.{effects_on, after_commit}
+use Rattle.its_stepped.specs.Tick.{works, after_delivery, user_on, unit_on, parsed_on, fetched_on, after_preparation, reserves, with_preparation, tried, tried_by, quarters, held_on, tick_in, tick_unless, tick_of, tick}
 use Rattle.its_stepped.specs.Sound.{Stands, Stored, Debts, Paged, parts_in_frame, SoundFrame, SoundBy, SoundSlot, Sound}
 use Rattle.its_stepped.specs.Duty.{Duty, Meets, GivenBy, Given, parts_in, IsTried}
 use Rattle.its_stepped.proofs.WaitLaws.{no_error_goes, stuck_waits}
@@ -76,7 +76,7 @@ informs_part true (Some s) = refl
 informs_part true None = refl
 informs_part false o = refl
 
-delivered_sound : (w : State) (j : ℕ) (q : Whole) (d : Delivered) → Sound w → w.frames j ≡ None → Sound (delivered_on w j q d)
+delivered_sound : (w : State) (j : ℕ) (q : Whole) (d : Delivered) → Sound w → w.frames j ≡ None → Sound (after_delivery w j q d)
 delivered_sound w j q d sound none =
     let ks = informed_slots d.stops q.superior in
     let cs = informs d.stops q.superior in
@@ -88,9 +88,9 @@ delivered_sound w j q d sound none =
     let quiet = told_quiet w j d.stops q.superior sound in
     let marks = marking_all cs j v 0 quiet (marking_begins j v.mark v.frames sv.mark (ap parts_in_frame free)) in
     let no_part : parts_in cs ≡ 0 = informs_part d.stops q.superior in
-    with_slot_sound u j (becomes d.core d.job) None
+    with_slot_sound u j (with_core_and_job d.core d.job) None
     (others_sound cs j v quiet (λ k ne. sv.each k))
-    (user_sound (option_map (becomes d.core d.job) (u.raw.jobs j)) None (u.reserved j) refl (reserved_none cs j v j page))
+    (user_sound (option_map (with_core_and_job d.core d.job) (u.raw.jobs j)) None (u.reserved j) refl (reserved_none cs j v j page))
     (mark_gone_on j u.frames None u.mark (marking_within j u.mark u.frames (parts_in cs + 0) 0 (omega arith) marks))
 
 entered_frame : (q : Whole) (s : Site) (r : Option ℕ) → q.job.stopped ≡ false → deliverable q.job ≡ false → unit q.core q.job ≡ Called s → r ≡ None → SoundFrame q (entered s) r
@@ -114,8 +114,8 @@ unit_sound w j q o sound is runs quiet none u = go o u
     page = page_none (w.raw.jobs j) (w.frames j) (w.reserved j) (sound.each j).by none
 
     go : (o : Outcome) → unit q.core q.job ≡ o → Sound (unit_on w j o).state
-    go (Changed c k) u = drop_frame w j q (becomes c k) sound is (ap parts_in_frame none) page
-    go (Faulted f) u = drop_frame w j q (faulted f) sound is (ap parts_in_frame none) page
+    go (Changed c k) u = drop_frame w j q (with_core_and_job c k) sound is (ap parts_in_frame none) page
+    go (Faulted f) u = drop_frame w j q (with_fault f) sound is (ap parts_in_frame none) page
     go (Called s) u = with_frame w j q (entered s) sound is (ap parts_in_frame none) (entered_frame q s (w.reserved j) runs quiet u page)
 
 user_row_sound : (w : State) (j : ℕ) (q : Whole) (b : Bool) → Sound w → w.raw.jobs j ≡ Some q → q.job.stopped ≡ false → w.frames j ≡ None → deliverable q.job ≡ b → Sound (user_on w j q b).state
@@ -126,13 +126,13 @@ user_row_sound w j q false sound is runs none d = unit_sound w j q (unit q.core 
 parsed_sound : (w : State) (j : ℕ) (q : Whole) (s : Site) (r : Result (List ℕ) Fault) → Sound w → w.raw.jobs j ≡ Some q → q.job.stopped ≡ false → deliverable q.job ≡ false
     → parts_in_frame (w.frames j) ≡ [] → w.reserved j ≡ None → unit q.core q.job ≡ Called s → parse q.core s ≡ r → Sound (parsed_on w j s r).state
 parsed_sound w j q s (Ok b) sound is runs quiet parts page u p = with_frame w j q (parsed s b) sound is parts (parsed_frame q s b (w.reserved j) runs quiet u p page)
-parsed_sound w j q s (Err f) sound is runs quiet parts page u p = drop_frame w j q (faulted f) sound is parts page
+parsed_sound w j q s (Err f) sound is runs quiet parts page u p = drop_frame w j q (with_fault f) sound is parts page
 
 fetched_sound : (w : State) (j : ℕ) (q : Whole) (s : Site) (b : List ℕ) (r : Result Ask Fault) → Sound w → w.raw.jobs j ≡ Some q → q.job.stopped ≡ false → deliverable q.job ≡ false
     → parts_in_frame (w.frames j) ≡ [] → w.reserved j ≡ None → unit q.core q.job ≡ Called s → parse q.core s ≡ Ok b → fetch q.core s b ≡ r → Sound (fetched_on w j s r).state
 fetched_sound w j q s b (Ok a) sound is runs quiet parts page u p f =
     with_frame w j q (asked s a) sound is parts (asked_frame q s a (w.reserved j) runs quiet (record { unit_is = u; ask_is = asks q.core s b (Ok a) p f }) page)
-fetched_sound w j q s b (Err x) sound is runs quiet parts page u p f = drop_frame w j q (faulted x) sound is parts page
+fetched_sound w j q s b (Err x) sound is runs quiet parts page u p f = drop_frame w j q (with_fault x) sound is parts page
 
 no_debts : (c : Core) (a : Ask) → Debts c a 0
 no_debts c a = record {
@@ -151,7 +151,7 @@ unfolding stored
 stored_nothing c j s a h = subst (λ ss. Stands (stored c ss) j s a) (sym (debts_none a)) h
 
 prepared_sound : (w : State) (j : ℕ) (q : Whole) (s : Site) (a : Ask) (b : Bool) → Sound w → w.raw.jobs j ≡ Some q → q.job.stopped ≡ false → deliverable q.job ≡ false
-    → parts_in_frame (w.frames j) ≡ [] → w.reserved j ≡ None → Stands q.core q.job s a → reserves a ≡ b → Sound (prepared_on w j s a b)
+    → parts_in_frame (w.frames j) ≡ [] → w.reserved j ≡ None → Stands q.core q.job s a → reserves a ≡ b → Sound (after_preparation w j s a b)
 prepared_sound w j q s a true sound is runs quiet parts page stands e =
     with_page_frame w j q (holding s a (Some 0) 0) (Some 0) sound is parts
     (holding_frame q s a (Some 0) 0 runs quiet (stored_nothing q.core q.job s a stands) (no_debts q.core a) (record { most = omega arith; reserves = e; owes = refl }) e)
@@ -163,7 +163,7 @@ prepared_sound w j q s a false sound is runs quiet parts page stands e =
 -- a call that is tried
 decided_sound : (w v : State) (j : ℕ) (q : Whole) (s : Site) (a : Ask) (n : ℕ) (d : Decision) → Sound w → Trying w j q s a n → Found w v j
     → Duty v j (with_stores (debts a n) q) s a n d → decision (plain w) j (with_stores (debts a n) q) a ≡ d → Sound (tried w v j s a n d).state
-unfolding committed
+unfolding after_commit
 decided_sound w v j q s a n (Waits r) sound t f duty e =
     waits_sound w j q s a n sound t.here t.stands (record { page = sym f.slot.page ∙ duty.page; waitable = duty.waitable })
     (stuck_waits (plain w) j (with_stores (debts a n) q) a r duty.waitable e)
@@ -175,7 +175,7 @@ tried_sound : (w : State) (j : ℕ) (q : Whole) (s : Site) (a : Ask) (n : ℕ) �
     → Sound (tried_by w j (with_stores (debts a n) q) s a n).state
 tried_sound w j q s a n sound t m =
     let own : Whole = with_stores (debts a n) q in
-    decided_sound w (prepared_for w j own a) j q s a n (decision (plain w) j own a) sound t (found w j own a sound m.apart) m.duty refl
+    decided_sound w (with_preparation w j own a) j q s a n (decision (plain w) j own a) sound t (found w j own a sound m.apart) m.duty refl
 
 -- a page that is cleared
 quarter_sound : (w : State) (j : ℕ) (q : Whole) (s : Site) (a : Ask) (p n : ℕ) (b : Bool) → Sound w → Trying w j q s a n → (b ≡ false → Meets w j (with_stores (debts a n) q) s a n)

@@ -28,7 +28,7 @@ use Rattle.its_plain.specs.Interrupt.{deliverable}
 use Rattle.its_plain.specs.Machine.{Whole, Machine, changed}
 use Rattle.its_plain.specs.OneByte.{rest_of_transfer, ByteBy}
 use Rattle.its_plain.specs.Operator.{Block, no_block, Operated, Refuses, Does, Ticks, Quits, disturbs}
-use Rattle.its_plain.specs.OperatorJobs.{interrupted, stopped, continued, on_job, with_registers, on_registers, examined, state_shown}
+use Rattle.its_plain.specs.OperatorJobs.{after_int, after_stop, after_cont, on_job, with_registers, on_registers, examined, state_shown}
 use Rattle.its_plain.specs.Stretch.{Untouched, machine_at, is_own, StretchFits, Stretch, counted, parts_in, incremented, rest_after, ByteOf, InOrder_by, InOrder, StandsAt, Transferred, end_of, begin_of, Stretches}
 use Rattle.its_stepped.specs.Forest.{Forest}
 use Rattle.its_stepped.proofs.DecodingLaws.{input_word, siot_inputs}
@@ -234,7 +234,7 @@ unfolding operate
 line_spared m b (events.Exam s a n) j h there = exam_spared m b s j (in_a_line s a) (examined m s a n) there
 line_spared m b (events.List s a n) j h there = exam_spared m b s j (listed s a) (examined m s a n) there
 line_spared m b (events.State s) j h there = state_spared m b s j (state_shown m s) there
-line_spared m b (events.Stop s) j h there = registers_spared m b s j stopped (λ k. refl) there
-line_spared m b (events.Cont s) j h there = registers_spared m b s j continued (λ k. refl) there
-line_spared m b (events.Int s v w) j h there = registers_spared m b s j (interrupted v w) (λ k. refl) there
+line_spared m b (events.Stop s) j h there = registers_spared m b s j after_stop (λ k. refl) there
+line_spared m b (events.Cont s) j h there = registers_spared m b s j after_cont (λ k. refl) there
+line_spared m b (events.Int s v w) j h there = registers_spared m b s j (after_int v w) (λ k. refl) there
 line_spared m b _ j h there = absurd h

@@ -15,7 +15,7 @@ use Rattle.its_frame.specs.declared.frame.Frame.TheVariants.{Entered, Parsed, As
 use Rattle.its_stepped.specs.TwoParts.{parse, fetch}
 use Rattle.its_plain.specs.Decode.{ask}
 use Rattle.its_plain.specs.Arguments.{debts}
-use Rattle.its_plain.specs.CallStep.{becomes, faulted, informs, informed_slots, delivery, acted, decision, step, among, Transition, transition}
+use Rattle.its_plain.specs.CallStep.{with_core_and_job, with_fault, informs, informed_slots, delivery, acted, decision, step, among, Transition, transition}
 use Rattle.its_plain.specs.Change.{in_job, effects}
 use Rattle.its_plain.specs.Decide.{reach}
 use Rattle.its_plain.specs.Interrupt.{Delivered, deliverable, delivered}
@@ -28,8 +28,8 @@ use Rattle.its_plain.specs.UnitPlan.{given}
 use Rattle.its_stepped.proofs.TwoLaws.{in_two}
 use Rattle.its_stepped.specs.State.{State, plain, seen, with_slot, same, reserving, entered, parsed, asked, holding, waiting}
 use Rattle.its_stepped.specs.Unwind.{all_unwound, unwind_one}
-use Rattle.its_stepped.specs.Commit.{effects_on, committed}
-use Rattle.its_stepped.specs.Tick.{Ticked, helped_if, works, delivered_on, user_on, unit_on, parsed_on, fetched_on, prepared_on, reserves, helps, prepared_for, tried, tried_by, quarters, held_on, tick_in, tick_unless, tick_of, tick}
+use Rattle.its_stepped.specs.Commit.{effects_on, after_commit}
+use Rattle.its_stepped.specs.Tick.{Ticked, after_help_if, works, after_delivery, user_on, unit_on, parsed_on, fetched_on, after_preparation, reserves, helps, with_preparation, tried, tried_by, quarters, held_on, tick_in, tick_unless, tick_of, tick}
 use Rattle.its_stepped.specs.Sound.{Stands, parts_in_frame, SoundFrame, SoundBy, Sound}
 use Rattle.its_stepped.specs.Quiet.{IsStill, AllQuiet}
 use Rattle.its_stepped.specs.Duty.{Duty, Meets, GivenBy, Given, IsTried}
@@ -128,21 +128,21 @@ informs_quiet v j false o h = tt
 pub told_quiet : (w : State) (j : ℕ) (b : Bool) (o : Option ℕ) → Sound w → AllQuiet (informs b o) j (all_unwound (informed_slots b o) w)
 told_quiet w j b o sound = informs_quiet (all_unwound (informed_slots b o) w) j b o (λ s h. all_unwound_none (informed_slots b o) w s sound h)
 
-delivered_plain : (w : State) (j : ℕ) (q : Whole) (d : Delivered) → Sound w → w.frames j ≡ None → plain (delivered_on w j q d) ≡ (delivery (plain w) j q d).machine
+delivered_plain : (w : State) (j : ℕ) (q : Whole) (d : Delivered) → Sound w → w.frames j ≡ None → plain (after_delivery w j q d) ≡ (delivery (plain w) j q d).machine
 delivered_plain w j q d sound none =
     let ks = informed_slots d.stops q.superior in
     let cs = informs d.stops q.superior in
     let v = all_unwound ks w in
     let here : (effects_on cs j v).frames j ≡ None = frames_none cs j v j (all_unwound_keeps ks w j sound none) in
-    becomes_plain (effects_on cs j v) j (becomes d.core d.job) (as_is (effects_on cs j v) j None here seen_none)
-    ∙ ap (λ (m : Machine). in_job m j (becomes d.core d.job)) (effects_plain cs j v (told_quiet w j d.stops q.superior sound) ∙ ap (effects cs j) (all_unwound_plain ks w sound))
+    becomes_plain (effects_on cs j v) j (with_core_and_job d.core d.job) (as_is (effects_on cs j v) j None here seen_none)
+    ∙ ap (λ (m : Machine). in_job m j (with_core_and_job d.core d.job)) (effects_plain cs j v (told_quiet w j d.stops q.superior sound) ∙ ap (effects cs j) (all_unwound_plain ks w sound))
 
 unit_is : (w : State) (j : ℕ) (q : Whole) (o : Outcome) → w.raw.jobs j ≡ Some q → q.job.stopped ≡ false → deliverable q.job ≡ false → w.frames j ≡ None → unit q.core q.job ≡ o
     → RowIs w j (unit_on w j o)
 unit_is w j q (Changed c k) is runs quiet none u =
-    step_by (plain w) j _ (transition_unit (plain w) j q _ (seen_at w j q None is none ∙ ap Some (seen_none q)) runs quiet u) ∙ ap Some (sym (becomes_plain w j (becomes c k) (as_is w j None none seen_none)))
+    step_by (plain w) j _ (transition_unit (plain w) j q _ (seen_at w j q None is none ∙ ap Some (seen_none q)) runs quiet u) ∙ ap Some (sym (becomes_plain w j (with_core_and_job c k) (as_is w j None none seen_none)))
 unit_is w j q (Faulted f) is runs quiet none u =
-    step_by (plain w) j _ (transition_unit (plain w) j q _ (seen_at w j q None is none ∙ ap Some (seen_none q)) runs quiet u) ∙ ap Some (sym (becomes_plain w j (faulted f) (as_is w j None none seen_none)))
+    step_by (plain w) j _ (transition_unit (plain w) j q _ (seen_at w j q None is none ∙ ap Some (seen_none q)) runs quiet u) ∙ ap Some (sym (becomes_plain w j (with_fault f) (as_is w j None none seen_none)))
 unit_is w j q (Called s) is runs quiet none u =
     works_is w _ j q is runs (still w j (Some (entered s)) (λ p. seen_entered s p ∙ sym (as_is w j None none seen_none p)))
 
@@ -160,10 +160,10 @@ pub asks : (c : Core) (s : Site) (b : List ℕ) (r : Result Ask Fault) → parse
 asks c s b r e f = in_two c s ∙ ap (λ r. given r (λ b. fetch c s b)) e ∙ f
 
 fault_is : (w : State) (j : ℕ) (q : Whole) (s : Site) (f : Fault) → w.raw.jobs j ≡ Some q → q.job.stopped ≡ false → deliverable q.job ≡ false → AsIs w j
-    → unit q.core q.job ≡ Called s → ask q.core s ≡ Err f → step (plain w) j ≡ Some (plain (with_slot w j (faulted f) None))
+    → unit q.core q.job ≡ Called s → ask q.core s ≡ Err f → step (plain w) j ≡ Some (plain (with_slot w j (with_fault f) None))
 fault_is w j q s f is runs quiet e u a =
     step_by (plain w) j _ (transition_called (plain w) j q s (Err f) (seen_at w j q (w.frames j) is refl ∙ ap Some (e q)) runs quiet u a)
-    ∙ ap Some (sym (becomes_plain w j (faulted f) e))
+    ∙ ap Some (sym (becomes_plain w j (with_fault f) e))
 
 parsed_is : (w : State) (j : ℕ) (q : Whole) (s : Site) (r : Result (List ℕ) Fault) → w.raw.jobs j ≡ Some q → q.job.stopped ≡ false → deliverable q.job ≡ false → AsIs w j
     → unit q.core q.job ≡ Called s → parse q.core s ≡ r → RowIs w j (parsed_on w j s r)
@@ -175,7 +175,7 @@ fetched_is : (w : State) (j : ℕ) (q : Whole) (s : Site) (b : List ℕ) (r : Re
 fetched_is w j q s b (Ok a) is runs quiet e u p f = works_is w _ j q is runs (still w j (Some (asked s a)) (λ p. seen_asked s a p ∙ sym (e p)))
 fetched_is w j q s b (Err f) is runs quiet e u p h = fault_is w j q s f is runs quiet e u (asks q.core s b (Err f) p h)
 
-prepared_is : (w : State) (j : ℕ) (q : Whole) (s : Site) (a : Ask) (b : Bool) → w.raw.jobs j ≡ Some q → q.job.stopped ≡ false → AsIs w j → RowIs w j (works (prepared_on w j s a b))
+prepared_is : (w : State) (j : ℕ) (q : Whole) (s : Site) (a : Ask) (b : Bool) → w.raw.jobs j ≡ Some q → q.job.stopped ≡ false → AsIs w j → RowIs w j (works (after_preparation w j s a b))
 prepared_is w j q s a true is runs e =
     works_is w _ j q is runs (reserving_plain _ j (Some 0) ∙ still w j (Some (holding s a (Some 0) 0)) (λ p. seen_held s a (Some 0) p ∙ sym (e p)))
 prepared_is w j q s a false is runs e = works_is w _ j q is runs (still w j (Some (holding s a None 0)) (λ p. seen_held s a None p ∙ sym (e p)))
@@ -186,15 +186,15 @@ pub record Found (w v : State) (j : ℕ) : Type 0 where
   pub sound : Sound v
   pub slot : SlotSame w v j
 
-pub found : (w : State) (j : ℕ) (own : Whole) (a : Ask) → Sound w → among j (reach (plain w) j own a) ≡ false → Found w (prepared_for w j own a) j
-unfolding prepared_for
+pub found : (w : State) (j : ℕ) (own : Whole) (a : Ask) → Sound w → among j (reach (plain w) j own a) ≡ false → Found w (with_preparation w j own a) j
+unfolding with_preparation
 found w j own a sound apart =
     let ks = reach (plain w) j own a in
     let u = all_unwound ks w in
     record {
       plain = helped_if_plain (helps own a) u ∙ all_unwound_plain ks w sound;
       sound = helped_if_sound (helps own a) u (all_unwound_sound ks w sound);
-      slot = slot_then w u (helped_if (helps own a) u) j (all_unwound_others ks w j apart) (helped_if_others (helps own a) u j);
+      slot = slot_then w u (after_help_if (helps own a) u) j (all_unwound_others ks w j apart) (helped_if_others (helps own a) u j);
     }
 
 -- a call that can be tried: it is in the frame of its slot, and is still there
@@ -256,7 +256,7 @@ trying_acts w j q s a n d t e =
 
 acts_is : (w v : State) (j : ℕ) (q : Whole) (s : Site) (a : Ask) (n : ℕ) (d : Decision) → Trying w j q s a n → Found w v j
     → decision (plain w) j (with_stores (debts a n) q) a ≡ d → Duty v j (with_stores (debts a n) q) s a n d → Acts d
-    → step (plain w) j ≡ Some (plain (committed v j s a n d))
+    → step (plain w) j ≡ Some (plain (after_commit v j s a n d))
 acts_is w v j q s a n d t f e duty acts =
     let own : Whole = with_stores (debts a n) q in
     let ks : List ℕ = reach (plain w) j own a in
@@ -270,7 +270,7 @@ acted_waits m j a ks r = refl
 
 decided_is : (w v : State) (j : ℕ) (q : Whole) (s : Site) (a : Ask) (n : ℕ) (d : Decision) → Trying w j q s a n → Found w v j
     → decision (plain w) j (with_stores (debts a n) q) a ≡ d → Duty v j (with_stores (debts a n) q) s a n d → RowIs w j (tried w v j s a n d)
-unfolding committed
+unfolding after_commit
 decided_is w v j q s a n (Waits r) t f e duty =
     (plain_runs w j q t.here.job_is t.here.runs, waits_none, waits_plain w j s a n t.here.seen_is)
   where
@@ -284,7 +284,7 @@ tried_is : (w : State) (j : ℕ) (q : Whole) (s : Site) (a : Ask) (n : ℕ) → 
     → RowIs w j (tried_by w j (with_stores (debts a n) q) s a n)
 tried_is w j q s a n sound t m =
     let own : Whole = with_stores (debts a n) q in
-    decided_is w (prepared_for w j own a) j q s a n (decision (plain w) j own a) t (found w j own a sound m.apart) refl m.duty
+    decided_is w (with_preparation w j own a) j q s a n (decision (plain w) j own a) t (found w j own a sound m.apart) refl m.duty
 
 -- a page that is cleared: a quarter at a tick
 quarter_is : (w : State) (j : ℕ) (q : Whole) (s : Site) (a : Ask) (p n : ℕ) (b : Bool) → Sound w → Trying w j q s a n → (b ≡ false → Meets w j (with_stores (debts a n) q) s a n)

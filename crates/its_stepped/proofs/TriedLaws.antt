@@ -14,17 +14,17 @@ use Rattle.its_plain.specs.Decide.{call_named, decided_by, decided, inferior_on,
 use Rattle.its_stepped.specs.Sound.{IsWaitable}
 use Rattle.its_stepped.specs.State.{State, plain, seen}
 use Rattle.its_stepped.specs.Unwind.{all_unwound}
-use Rattle.its_stepped.specs.Tick.{is_disk, helps_by, helps, helped_if, prepared_for}
+use Rattle.its_stepped.specs.Tick.{is_disk, helps_by, helps, after_help_if, with_preparation}
 use Rattle.its_stepped.proofs.CallWays.{CanWait}
 use Rattle.its_stepped.proofs.WaitLaws.{Goes_on, iot_ready, siot_ready}
 use Rattle.its_stepped.proofs.ViewLaws.{StillAt, decision_plain, view_plain, reach_plain, helps_seen}
 use Rattle.its_stepped.proofs.UnseenLaws.{files_unseen}
 
 -- what the commit of a raw job's call finds
-pub prepared_seen : (w : State) (j : ℕ) (q : Whole) (a : Ask) → prepared_for w j (seen (w.frames j) q) a ≡ helped_if (helps q a) (all_unwound (reach w.raw j q a) w)
-unfolding prepared_for
+pub prepared_seen : (w : State) (j : ℕ) (q : Whole) (a : Ask) → with_preparation w j (seen (w.frames j) q) a ≡ after_help_if (helps q a) (all_unwound (reach w.raw j q a) w)
+unfolding with_preparation
 prepared_seen w j q a =
-    (λ i. helped_if (helps_seen (w.frames j) q a i) (all_unwound (reach_plain w j (w.frames j) q a i) w))
+    (λ i. after_help_if (helps_seen (w.frames j) q a i) (all_unwound (reach_plain w j (w.frames j) q a i) w))
 
 -- the directory is that of the plain machine, or is not looked at
 decision_unhelped : (w : State) (j : ℕ) (own : Whole) (a : Ask) → StillAt w (target own a) → helps own a ≡ false → decision (plain w) j own a ≡ decision w.raw j own a

@@ -16,15 +16,15 @@ use Rattle.its_frame.specs.declared.frame.Frame.TheVariants.{Entered, Parsed, As
 use Rattle.its_frame.specs.declared.name.CallName.{CallName}
 use Rattle.its_frame.specs.declared.name.CallName.TheVariants.{Siot}
 use Rattle.its_plain.specs.Machine.{Whole}
-use Rattle.its_plain.specs.Own.{with_stores, leave}
+use Rattle.its_plain.specs.Own.{with_stores, after_leave}
 use Rattle.its_plain.specs.Change.{poke}
 use Rattle.its_plain.specs.Arguments.{debts}
 use Rattle.its_plain.specs.CallStep.{with_held, among}
 use Rattle.its_plain.specs.Decide.{call_row, call_named}
 use Rattle.its_plain.proofs.MachineLaws.{machine_is}
 use Rattle.its_stepped.specs.SlotSame.{SlotSame}
-use Rattle.its_stepped.specs.State.{Part, Mark, State, helped, mine, held_at, seen, seen_jobs, plain, with_slot, same, reserving, holding, waiting, ending, asked}
-use Rattle.its_stepped.specs.Unwind.{first_debt, less, paid, given_back, with_part, due, settled, left_by, left, unwind_by, unwind_one, unwind_times, unwound, all_unwound}
+use Rattle.its_stepped.specs.State.{Part, Mark, State, after_help, mine, held_at, seen, seen_jobs, plain, with_slot, same, reserving, holding, waiting, ending, asked}
+use Rattle.its_stepped.specs.Unwind.{first_debt, less, paid, after_giving_back, with_part, due, after_settling, left_by, left, unwind_by, unwind_one, unwind_times, unwound, all_unwound}
 use Rattle.its_stepped.specs.Sound.{HoldingPays, SoundFrame, SoundBy, SoundSlot, Sound, most_owed, most_owed_by}
 use Rattle.its_stepped.specs.OneChange.{OneChange, FrameAlone}
 use Rattle.its_stepped.proofs.FrameLaws.{changed_only, on_slot_other}
@@ -214,7 +214,7 @@ beside_page w j f = record {
 }
 
 parted : (w v : State) (j : ℕ) (m : Mark) (ps : List Part) → w.mark ≡ Some (record m { parts = ps }) → v.mark ≡ w.mark → Beside w v j → Beside w (with_part (Some (record m { parts = ps })) v) j
-unfolding helped
+unfolding after_help
 parted w v j m [] mark still b = b
 parted w v j m (p ∷ []) mark still b = record {
   slots = λ k ne. let s = b.slots k ne in record { job = s.job; frame = s.frame; page = s.page };
@@ -225,7 +225,7 @@ parted w v j m (p ∷ []) mark still b = record {
     version = b.shares.version;
     symbols = b.shares.symbols;
     links = b.shares.links;
-    files = sym (ap (λ o. helped o v.raw.files) (still ∙ mark)) ∙ b.shares.files;
+    files = sym (ap (λ o. after_help o v.raw.files) (still ∙ mark)) ∙ b.shares.files;
   };
   unmarked = λ e. refl;
 }
@@ -238,7 +238,7 @@ parted w v j m (p ∷ x ∷ ps) mark still b = record {
     version = b.shares.version;
     symbols = b.shares.symbols;
     links = b.shares.links;
-    files = sym (ap (λ o. helped o v.raw.files) (still ∙ mark)) ∙ b.shares.files;
+    files = sym (ap (λ o. after_help o v.raw.files) (still ∙ mark)) ∙ b.shares.files;
   };
   unmarked = λ e. cc;
 }
@@ -253,18 +253,18 @@ beside_part w v j still b = go w.mark refl
 beside_paid : (w : State) (j : ℕ) (a : Ask) (n : ℕ) (f : ℕ → Frame) → Beside w (paid w j a n f) j
 beside_paid w j a n f = beside_slot w j (with_stores (first_debt (debts a n))) (less n f)
 
-beside_given : (w : State) (j : ℕ) (s : Site) (a : Ask) (page : Option ℕ) (n : ℕ) → Beside w (given_back w j s a page n) j
+beside_given : (w : State) (j : ℕ) (s : Site) (a : Ask) (page : Option ℕ) (n : ℕ) → Beside w (after_giving_back w j s a page n) j
 beside_given w j s a (Some p) n = beside_page w j (Some (asked s a))
 beside_given w j s a None n = beside_paid w j a n (holding s a None)
 
-beside_settled : (w : State) (j : ℕ) (s : Site) (a : Ask) (os : List Owed) → Beside w (settled w j s a os) j
+beside_settled : (w : State) (j : ℕ) (s : Site) (a : Ask) (os : List Owed) → Beside w (after_settling w j s a os) j
 beside_settled w j s a [] = beside_slot w j same None
 beside_settled w j s a (Store p v ∷ os) = beside_slot w j (with_stores (poke p v ∷ [])) (Some (ending s a os))
 beside_settled w j s a (GiveBack ∷ os) = beside_page w j (Some (ending s a os))
 beside_settled w j s a (Unlink ∷ os) = beside_part w (with_slot w j same (Some (ending s a os))) j refl (beside_slot w j same (Some (ending s a os)))
 beside_settled w j s a (Link ∷ os) = beside_part w (with_slot w j same (Some (ending s a os))) j refl (beside_slot w j same (Some (ending s a os)))
 beside_settled w j s a (Free ∷ os) = beside_part w (with_slot w j same (Some (ending s a os))) j refl (beside_slot w j same (Some (ending s a os)))
-beside_settled w j s a (Leave e ∷ os) = beside_slot w j (leave e) None
+beside_settled w j s a (Leave e ∷ os) = beside_slot w j (after_leave e) None
 
 beside_by : (w : State) (j : ℕ) (o : Option Frame) → Beside w (unwind_by w j o) j
 beside_by w j None = beside_same w j

@@ -14,7 +14,7 @@ use Rattle.its_plain.specs.Arguments.{input, debts}
 use Rattle.its_plain.specs.CallStep.{deposited, with_held}
 use Rattle.its_word.specs.Stores.{place, stored}
 use Rattle.its_stepped.specs.State.{State, mine, seen, with_slot, same, reserving, asked, holding, waiting, moving}
-use Rattle.its_stepped.specs.Unwind.{first_debt, paid, given_back, left_by}
+use Rattle.its_stepped.specs.Unwind.{first_debt, paid, after_giving_back, left_by}
 use Rattle.its_stepped.specs.Sound.{Stuck, Stands, Stored, Debts, SoundFrame, MarkBy, parts_in_frame}
 use Rattle.its_stepped.specs.OneChange.{OneChange, OneWord}
 use Rattle.its_stepped.proofs.FrameLaws.{stored_one, stores_none, stores_cons}
@@ -99,7 +99,7 @@ holding_some w j q s a p n at =
       stuck = tt;
     }) at.mark (λ mine. rw at.frame) (rw at.frame (omega arith))
 
-pub holding_row : (w : State) (j : ℕ) (q : Whole) (s : Site) (a : Ask) (page : Option ℕ) (n : ℕ) → At w j q (holding s a page n) → Rowed w (given_back w j s a page n) j
+pub holding_row : (w : State) (j : ℕ) (q : Whole) (s : Site) (a : Ask) (page : Option ℕ) (n : ℕ) → At w j q (holding s a page n) → Rowed w (after_giving_back w j s a page n) j
 holding_row w j q s a None n at = holding_none w j q s a n at
 holding_row w j q s a (Some p) n at = holding_some w j q s a p n at
 

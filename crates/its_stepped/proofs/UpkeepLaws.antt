@@ -16,7 +16,7 @@ use Rattle.its_stepped.specs.State.{State, plain, no_state}
 use Rattle.its_stepped.specs.Tick.{tick}
 use Rattle.its_stepped.specs.Sound.{Sound}
 use Rattle.its_stepped.specs.Duty.{Given}
-use Rattle.its_stepped.specs.Lines.{calmed, with_raw, lifted_line, stepped}
+use Rattle.its_stepped.specs.Lines.{after_calm, with_raw, lifted_line, stepped}
 use Rattle.its_stepped.proofs.TickLaws.{tick_is}
 use Rattle.its_stepped.proofs.SoundLaws.{tick_sound}
 use Rattle.its_stepped.proofs.DotsLaws.{bound, Dotted, tick_dotted, tick_few}
@@ -91,7 +91,7 @@ module _ {Placed : Machine → Type 0} (l : Lasting Placed) where
     few = λ d w j g. tick_few w d j g.sound g.dotted;
     ticks = good_ticks;
     line = λ d w b e g. line_plain w b e g.sound;
-    after = λ d w b e g. after_by d w (calmed w b e) b e (lined (calmed w b e).raw b e) g (line_plain w b e g.sound) (line_kept w b e g.sound);
+    after = λ d w b e g. after_by d w (after_calm w b e) b e (lined (after_calm w b e).raw b e) g (line_plain w b e g.sound) (line_kept w b e g.sound);
   }
 
   -- the lines of a session are a transcript of the plain machine

@@ -16,7 +16,7 @@ use Rattle.its_plain.specs.View.{outline, job_at, view}
 use Rattle.its_plain.specs.CallBasic.{is_oneself, channel_at}
 use Rattle.its_plain.specs.Decide.{call_row, call_named, decided, inferior_on, target_by, argument_of, target, listed, with_below, reach_by, reach}
 use Rattle.its_plain.specs.CallStep.{decision}
-use Rattle.its_stepped.specs.State.{State, helped, seen, plain}
+use Rattle.its_stepped.specs.State.{State, after_help, seen, plain}
 use Rattle.its_stepped.specs.Tick.{is_disk, is_on_files, helps_by, helps}
 use Rattle.its_stepped.specs.Quiet.{IsStill}
 use Rattle.its_stepped.proofs.FrameLaws.{seen_superior, seen_channels, seen_names, SameNames, mapped_plain}
@@ -54,7 +54,7 @@ view_plain w j own t h = λ i. record {
   pages = mapped_plain w i;
   consoles = w.raw.consoles;
   holders = w.raw.holders;
-  files = helped w.mark w.raw.files;
+  files = after_help w.mark w.raw.files;
   clock = w.raw.clock;
   limit = limit w.raw;
   links = w.raw.links;

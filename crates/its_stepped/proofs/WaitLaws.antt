@@ -25,7 +25,7 @@ use Rattle.its_plain.specs.CallTty.{is_empty, view_console, input_waits, output_
 use Rattle.its_plain.specs.Transfer.{store_tests, read_tests, iot_ends, siot_tests, siot_by, next_pointer, word_of}
 use Rattle.its_plain.specs.CallDevice.{iot_on, iot_call, siot_on, siot_call}
 use Rattle.its_plain.specs.CallStep.{decision}
-use Rattle.its_plain.specs.Change.{chan_left, shut_on}
+use Rattle.its_plain.specs.Change.{chan_after_removal, after_shut}
 use Rattle.its_plain.specs.Decide.{call_named, decided_by, decided, target}
 use Rattle.its_plain.specs.Machine.{Chan, Shut, TtyIn, TtyOut, Reads, Writes, On, Linked, Pipe, Whole, Machine}
 use Rattle.its_plain.specs.Reasons.{Doors, doors, held_up, of_transfer, of_finish, of_listen, reason_by, reason_in}
@@ -508,7 +508,7 @@ stuck_sleep q a name fine = record {
 }
 
 -- channels on jobs that go are closed
-shut_chan : (gone : ℕ → Bool) (i : ℕ) (c : Chan) (o : Option CallName) → reason_by i (chan_left gone c) o ≡ reason_by i c o
+shut_chan : (gone : ℕ → Bool) (i : ℕ) (c : Chan) (o : Option CallName) → reason_by i (chan_after_removal gone c) o ≡ reason_by i c o
 shut_chan gone i Shut o = refl
 shut_chan gone i TtyIn o = refl
 shut_chan gone i TtyOut o = refl
@@ -529,17 +529,17 @@ shut_chan gone i (On k w at) o = shut_on_by (gone k) o
     shut_on_by true (Some n) = named Shut (On k w at) n refl refl refl
     shut_on_by false (Some n) = refl
 
-shut_at : (gone : ℕ → Bool) (cs : ℕ → Chan) (n : ℕ) → channel_at (λ k. chan_left gone (cs k)) n ≡ chan_left gone (channel_at cs n)
+shut_at : (gone : ℕ → Bool) (cs : ℕ → Chan) (n : ℕ) → channel_at (λ k. chan_after_removal gone (cs k)) n ≡ chan_after_removal gone (channel_at cs n)
 shut_at gone cs n = elim (cases_Bool (nat_lt n 16)) [ inl t ↦ rw t refl | inr t ↦ rw t refl ]
 
-shut_reason : (gone : ℕ → Bool) (q : Whole) (a : Ask) → reason_in (shut_on gone q) a ≡ reason_in q a
+shut_reason : (gone : ℕ → Bool) (q : Whole) (a : Ask) → reason_in (after_shut gone q) a ≡ reason_in q a
 shut_reason gone q a =
     let i = unwrap_or q.job.console 0 in
     ap (λ c. reason_by i c (call_named a.name)) (shut_at gone q.channels (input a 0)) ∙ shut_chan gone i (channel_at q.channels (input a 0)) (call_named a.name)
 
-pub stuck_shut : (gone : ℕ → Bool) (q : Whole) (a : Ask) → IsWaitable (call_named a.name) → Stuck q a → Stuck (shut_on gone q) a
+pub stuck_shut : (gone : ℕ → Bool) (q : Whole) (a : Ask) → IsWaitable (call_named a.name) → Stuck q a → Stuck (after_shut gone q) a
 stuck_shut gone q a w s = record {
   again = λ m j r reason held.
       let b = blocked_so m j q a r w (s.again m j r (sym (shut_reason gone q a) ∙ reason) held) in
-      b.again m j (shut_on gone q) refl refl reason held;
+      b.again m j (after_shut gone q) refl refl reason held;
 }

@@ -20,7 +20,7 @@ use Rattle.its_frame.specs.declared.name.CallName.TheVariants.{Sleep}
 use Rattle.its_plain.specs.Machine.{Shut, changed}
 use Rattle.its_plain.specs.Own.{on_channel}
 use Rattle.its_plain.specs.Change.{in_job, channel_in, superiors, is_gone, effect}
-use Rattle.its_plain.specs.Arguments.{debts, revalued}
+use Rattle.its_plain.specs.Arguments.{debts, with_new_values}
 use Rattle.its_plain.specs.Decide.{call_named}
 use Rattle.its_stepped.specs.State.{Part, UnlinkOld, LinkNew, FreeOld, Mark, State, mark_of_close, with_slot, same, holding, waiting, moving, ending}
 
@@ -50,9 +50,9 @@ abbrev pub stays : Bool → Site → Ask → ℕ → Frame
 stays true s a n = waiting s a n
 stays false s a n = holding s a None n
 
-abbrev pub gone_on : Site → Ask → ℕ → Option Held → Frame
-gone_on s a n (Some h) = moving s a h
-gone_on s a n None = stays (sleeps (call_named a.name)) s a n
+abbrev pub after_going_on : Site → Ask → ℕ → Option Held → Frame
+after_going_on s a n (Some h) = moving s a h
+after_going_on s a n None = stays (sleeps (call_named a.name)) s a n
 
 -- what is pending of a call that ends: the parts of its close, its reserved page, the words of its arguments that are
 -- not in core, its own stores, and its registers
@@ -76,10 +76,10 @@ abbrev pub owed_by : State → ℕ → List Store → Exit → List Owed
 owed_by v j ss e = owed_parts v.mark j ++ (given_up (v.reserved j) ++ (map owed_store ss ++ Leave e ∷ []))
 
 -- a decision carried out, of a call with its last n arguments pending
-unfoldable pub committed : State → ℕ → Site → Ask → ℕ → Decision → State
-committed w j s a n (Waits r) = with_slot w j same (Some (waiting s a n))
-committed w j s a n (Goes cs h vs) =
-    with_slot (effects_on cs.items j w) j same (Some (gone_on s (revalued a vs.items) (length vs.items) h))
-committed w j s a n (Ends cs ss e) =
+unfoldable pub after_commit : State → ℕ → Site → Ask → ℕ → Decision → State
+after_commit w j s a n (Waits r) = with_slot w j same (Some (waiting s a n))
+after_commit w j s a n (Goes cs h vs) =
+    with_slot (effects_on cs.items j w) j same (Some (after_going_on s (with_new_values a vs.items) (length vs.items) h))
+after_commit w j s a n (Ends cs ss e) =
     let v = effects_on cs.items j w in with_slot v j same (Some (ending s a (owed_by v j (debts a n ++ ss.items) e)))
-committed w j s a n (Gone cs) = effects_on (changes.Remove j ∷ cs.items) j w
+after_commit w j s a n (Gone cs) = effects_on (changes.Remove j ∷ cs.items) j w

@@ -18,12 +18,12 @@ use Rattle.its_frame.specs.declared.frame.Frame.TheVariants.{Entered, Parsed, As
 use Rattle.its_word.specs.Stores.{place}
 use Rattle.its_plain.specs.Machine.{Whole}
 use Rattle.its_plain.specs.Change.{superiors, is_gone}
-use Rattle.its_plain.specs.Arguments.{input, in_footprint, debts, revalued}
+use Rattle.its_plain.specs.Arguments.{input, in_footprint, debts, with_new_values}
 use Rattle.its_plain.specs.Decide.{call_named, reach}
-use Rattle.its_plain.specs.CallStep.{moved, decision, among}
+use Rattle.its_plain.specs.CallStep.{after_moves, decision, among}
 use Rattle.its_stepped.specs.State.{State, plain, seen}
 use Rattle.its_stepped.specs.Commit.{effect_on}
-use Rattle.its_stepped.specs.Tick.{reserves, prepared_for, quarters}
+use Rattle.its_stepped.specs.Tick.{reserves, with_preparation, quarters}
 use Rattle.its_stepped.specs.Sound.{Stands, Stored, Debts, IsWaitable, Transfers}
 use Rattle.its_stepped.specs.Quiet.{AllQuiet}
 
@@ -94,13 +94,13 @@ pub record Going (v : State) (j : ℕ) (own : Whole) (s : Site) (a : Ask) (n : �
   pub spare : AllSpare cs j v
   pub closes : parts_in cs ≡ 0
   pub page : v.reserved j ≡ None
-  pub within : Within (debts a n) (debts (revalued a vs) (length vs))
+  pub within : Within (debts a n) (debts (with_new_values a vs) (length vs))
   pub held : IfSome h (λ b. HeldFits own.core (debts a n) (length vs) b)
   pub transfers : IfSome h (λ b. Transfers a)
   pub outside : IfSome h (λ b. in_footprint b.place a ≡ false)
-  pub size : IfSome h (λ b. has_size (input (revalued a vs) 1) ≡ true)
-  pub debts : Debts own.core (revalued a vs) (length vs)
-  pub stands : Stands (moved a h vs own).core own.job s (revalued a vs)
+  pub size : IfSome h (λ b. has_size (input (with_new_values a vs) 1) ≡ true)
+  pub debts : Debts own.core (with_new_values a vs) (length vs)
+  pub stands : Stands (after_moves a h vs own).core own.job s (with_new_values a vs)
 
 -- the end of a call: either it spares its own words except for stores that are possible, or it changes its own pages
 -- and stores no word; and its pending steps are at most four including the last
@@ -128,7 +128,7 @@ Duty v j own s a n (Gone cs) = Leaving v j cs.items
 pub record Meets (w : State) (j : ℕ) (own : Whole) (s : Site) (a : Ask) (n : ℕ) : Type 0 where
   pub apart : among j (reach (plain w) j own a) ≡ false
   pub page : reserves a ≡ true → w.reserved j ≡ Some quarters
-  pub duty : Duty (prepared_for w j own a) j own s a n (decision (plain w) j own a)
+  pub duty : Duty (with_preparation w j own a) j own s a n (decision (plain w) j own a)
 
 -- a call that is held is tried if it has no page, or if all quarters of its page are clear
 abbrev pub IsTried : Option ℕ → Type 0

@@ -29,7 +29,7 @@ use Rattle.its_plain.specs.OperatorLines.{Lined, Done, Peeks, lined}
 use Rattle.its_plain.specs.Turns.{turn_after, highest, turns_asked, ticks_asked}
 use Rattle.its_stepped.specs.State.{State, plain, no_state}
 use Rattle.its_stepped.specs.Unwind.{left, unwound, all_unwound}
-use Rattle.its_stepped.specs.Tick.{helped_if, tick}
+use Rattle.its_stepped.specs.Tick.{after_help_if, tick}
 
 -- how far a job is inside a call
 abbrev pub state_shown : Option Frame → PeekState
@@ -137,8 +137,8 @@ looks_at_files (events.Show d x y) = true
 looks_at_files _ = false
 
 -- the state that a line finds: what it disturbs is unwound, and what it looks at is whole
-unfoldable pub calmed : State → Block → Event → State
-calmed w b e = helped_if (looks_at_files e) (unwound_for w b e)
+unfoldable pub after_calm : State → Block → Event → State
+after_calm w b e = after_help_if (looks_at_files e) (unwound_for w b e)
 
 -- the state with another raw machine
 abbrev pub with_raw : State → Machine → State
@@ -154,7 +154,7 @@ state_after w v (Done Quits) = w
 state_after w v (Peeks s) = w
 
 unfoldable pub after_line : State → Block → Event → State
-after_line w b e = state_after (helped_if (looks_at_files e) w) (calmed w b e) (lined (calmed w b e).raw b e)
+after_line w b e = state_after (after_help_if (looks_at_files e) w) (after_calm w b e) (lined (after_calm w b e).raw b e)
 
 -- the effect of a line of a state, as a line of its plain machine
 abbrev pub lifted : State → Operated → Operated
@@ -196,9 +196,9 @@ abbrev pub paces_of : State → ℕ → ℕ → List Pace
 paces_of w i zero = []
 paces_of w i (suc n) = (tick w i).pace ∷ paces_of (tick w i).state i n
 
-abbrev pub ticked : State → ℕ → ℕ → State
-ticked w i zero = w
-ticked w i (suc n) = ticked (tick w i).state i n
+abbrev pub after_ticks : State → ℕ → ℕ → State
+after_ticks w i zero = w
+after_ticks w i (suc n) = after_ticks (tick w i).state i n
 
 -- the lines of a session and how it ends
 pub record Told : Type 0 where
@@ -212,17 +212,17 @@ telling out t = record { lines = out ++ t.lines; fate = t.fate }
 abbrev pub told_by : ℕ → State → State → Block → Lined → (State → Block → Told) → Told
 told_by n w v b (Done (Refuses r)) next = record { lines = printed.Refused n r ∷ []; fate = Refused }
 told_by n w v b (Done (Does m out touched b')) next = telling out (next (with_raw v m) b')
-told_by n w v b (Done (Ticks s k)) next = telling (printed.Ticks s (paces_of w s k) ∷ []) (next (ticked w s k) b)
+told_by n w v b (Done (Ticks s k)) next = telling (printed.Ticks s (paces_of w s k) ∷ []) (next (after_ticks w s k) b)
 told_by n w v b (Done Quits) next = record { lines = []; fate = Ended }
 told_by n w v b (Peeks s) next = telling (printed.Peeked s (peeked w s) ∷ []) (next w b)
 
 -- line n, and what follows it
 abbrev pub line_told : ℕ → State → Block → Event → (State → Block → Told) → Told
-line_told n w b e next = told_by n w (calmed w b e) b (lined (calmed w b e).raw b e) next
+line_told n w b e next = told_by n w (after_calm w b e) b (lined (after_calm w b e).raw b e) next
 
 -- up to n turns of q ticks, the first after a turn of slot `last`, and what follows them
 abbrev pub turned_by : Option ℕ → ℕ → State → (State → ℕ → Told) → Told → Told
-turned_by (Some s) q w more done = telling (printed.Ticks s (paces_of w s q) ∷ []) (more (ticked w s q) s)
+turned_by (Some s) q w more done = telling (printed.Ticks s (paces_of w s q) ∷ []) (more (after_ticks w s q) s)
 turned_by None q w more done = done
 
 abbrev pub turned : ℕ → ℕ → State → ℕ → (State → ℕ → Told) → Told

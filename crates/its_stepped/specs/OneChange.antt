@@ -5,9 +5,9 @@ use Rattle.std.specs.Prelude.{◌≡◌, ℕ, Some, None, List, [], ◌∷◌}
 use Rattle.its_word.specs.declared.calls.Exit.{Exit}
 use Rattle.its_word.specs.declared.plan.Store.{Store}
 use Rattle.its_plain.specs.Machine.{changed}
-use Rattle.its_plain.specs.Own.{with_stores, leave}
+use Rattle.its_plain.specs.Own.{with_stores, after_leave}
 use Rattle.its_plain.specs.Change.{in_job}
-use Rattle.its_stepped.specs.State.{Part, Mark, State, part_made}
+use Rattle.its_stepped.specs.State.{Part, Mark, State, after_part}
 use Rattle.its_stepped.specs.Unwind.{rest_marked}
 
 pub data OneChange (w v : State) (j : ℕ) : Type 0 where
@@ -15,5 +15,5 @@ pub data OneChange (w v : State) (j : ℕ) : Type 0 where
   OneWord : (s : Store) → v ≡ record w { raw = in_job w.raw j (with_stores (s ∷ [])); frames = v.frames } → OneChange w v j
   OnePage : v ≡ record w { frames = v.frames; reserved = changed w.reserved j None } → OneChange w v j
   OnePart : (m : Mark) (p : Part) (ps : List Part) → w.mark ≡ Some m → m.parts ≡ p ∷ ps
-      → v ≡ record w { raw = record w.raw { files = part_made m.draft p w.raw.files }; frames = v.frames; mark = rest_marked m ps } → OneChange w v j
-  Registers : (e : Exit) → v ≡ record w { raw = in_job w.raw j (leave e); frames = v.frames } → OneChange w v j
+      → v ≡ record w { raw = record w.raw { files = after_part m.draft p w.raw.files }; frames = v.frames; mark = rest_marked m ps } → OneChange w v j
+  Registers : (e : Exit) → v ≡ record w { raw = in_job w.raw j (after_leave e); frames = v.frames } → OneChange w v j

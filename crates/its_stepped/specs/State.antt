@@ -10,7 +10,7 @@ use Rattle.its_frame.specs.declared.decision.Held.{Held}
 use Rattle.its_frame.specs.declared.frame.Frame.{Frame}
 use Rattle.its_frame.specs.declared.frame.Frame.TheVariants.{Entered, Parsed, Asked, Holding, Waiting, Moving, Ending}
 use Rattle.its_plain.specs.Machine.{File, Chan, Writes, Whole, Machine, changed}
-use Rattle.its_plain.specs.Own.{with_stores, leave}
+use Rattle.its_plain.specs.Own.{with_stores, after_leave}
 use Rattle.its_plain.specs.Change.{in_job, poke, without_file}
 use Rattle.its_plain.specs.CallFile.{has_file}
 use Rattle.its_plain.specs.Arguments.{debts}
@@ -36,19 +36,19 @@ pub record State : Type 0 where
   pub mark : Option Mark
 
 -- the directory after parts of a close
-abbrev pub part_made : File → Part → List File → List File
-part_made f UnlinkOld fs = without_file f.names fs
-part_made f LinkNew fs = fs ++ f ∷ []
-part_made f FreeOld fs = fs
+abbrev pub after_part : File → Part → List File → List File
+after_part f UnlinkOld fs = without_file f.names fs
+after_part f LinkNew fs = fs ++ f ∷ []
+after_part f FreeOld fs = fs
 
-abbrev pub parts_made : File → List Part → List File → List File
-parts_made f [] fs = fs
-parts_made f (p ∷ ps) fs = parts_made f ps (part_made f p fs)
+abbrev pub after_parts : File → List Part → List File → List File
+after_parts f [] fs = fs
+after_parts f (p ∷ ps) fs = after_parts f ps (after_part f p fs)
 
 -- the directory with all pending parts performed
-unfoldable pub helped : Option Mark → List File → List File
-helped (Some m) fs = parts_made m.draft m.parts fs
-helped None fs = fs
+unfoldable pub after_help : Option Mark → List File → List File
+after_help (Some m) fs = after_parts m.draft m.parts fs
+after_help None fs = fs
 
 -- the close of a channel is begun: what is pending depends on whether a file has the draft's names
 abbrev pub parts_of : Bool → List Part
@@ -64,14 +64,14 @@ mine (Some m) j = m.owner == j
 mine None j = false
 
 -- what the pending steps of a call that has ended leave of its job
-abbrev pub owed_made : List Owed → Whole → Whole
-owed_made [] q = q
-owed_made (Store a w ∷ os) q = owed_made os (with_stores (poke a w ∷ []) q)
-owed_made (Leave e ∷ os) q = owed_made os (leave e q)
-owed_made (GiveBack ∷ os) q = owed_made os q
-owed_made (Unlink ∷ os) q = owed_made os q
-owed_made (Link ∷ os) q = owed_made os q
-owed_made (Free ∷ os) q = owed_made os q
+abbrev pub after_owed : List Owed → Whole → Whole
+after_owed [] q = q
+after_owed (Store a w ∷ os) q = after_owed os (with_stores (poke a w ∷ []) q)
+after_owed (Leave e ∷ os) q = after_owed os (after_leave e q)
+after_owed (GiveBack ∷ os) q = after_owed os q
+after_owed (Unlink ∷ os) q = after_owed os q
+after_owed (Link ∷ os) q = after_owed os q
+after_owed (Free ∷ os) q = after_owed os q
 
 -- the byte that a frame holds
 abbrev pub held_at : ℕ → ℕ → Held
@@ -86,14 +86,14 @@ seen (Some (Asked f)) q = q
 seen (Some (Holding f)) q = with_stores (debts f.ask f.owes) q
 seen (Some (Waiting f)) q = with_stores (debts f.ask f.owes) q
 seen (Some (Moving f)) q = with_stores (debts f.ask 2) (with_held f.ask (Some (held_at f.place f.byte)) q)
-seen (Some (Ending f)) q = owed_made f.owed.items q
+seen (Some (Ending f)) q = after_owed f.owed.items q
 
 abbrev pub seen_jobs : (ℕ → Option Frame) → (ℕ → Option Whole) → ℕ → Option Whole
 seen_jobs frames jobs k = option_map (seen (frames k)) (jobs k)
 
 -- the plain machine of a state
 unfoldable pub plain : State → Machine
-plain w = record w.raw { jobs = seen_jobs w.frames w.raw.jobs; files = helped w.mark w.raw.files }
+plain w = record w.raw { jobs = seen_jobs w.frames w.raw.jobs; files = after_help w.mark w.raw.files }
 
 -- the state at the start of a session
 unfoldable pub no_state : Machine → State

@@ -21,10 +21,10 @@ use Rattle.its_plain.specs.Arguments.{input}
 use Rattle.its_plain.specs.CallBasic.{channel_at}
 use Rattle.its_plain.specs.CallFile.{disk_device}
 use Rattle.its_plain.specs.Decide.{call_row, call_named, reach}
-use Rattle.its_plain.specs.CallStep.{becomes, faulted, informs, decision, informed_slots}
+use Rattle.its_plain.specs.CallStep.{with_core_and_job, with_fault, informs, decision, informed_slots}
 use Rattle.its_stepped.specs.State.{State, plain, seen, with_slot, same, reserving, entered, parsed, asked, holding}
 use Rattle.its_stepped.specs.Unwind.{unwind_one, all_unwound, help}
-use Rattle.its_stepped.specs.Commit.{effects_on, committed}
+use Rattle.its_stepped.specs.Commit.{effects_on, after_commit}
 
 pub record Ticked : Type 0 where
   pub state : State
@@ -44,20 +44,20 @@ off w = record { state = w; pace = Off }
 
 -- a fault of the unit or of the decoding sets its bit and drops the frame
 abbrev pub faults_on : State → ℕ → Fault → Ticked
-faults_on w j f = steps (with_slot w j (faulted f) None)
+faults_on w j f = steps (with_slot w j (with_fault f) None)
 
 -- user mode
-abbrev pub delivered_on : State → ℕ → Whole → Delivered → State
-delivered_on w j q d =
-    with_slot (effects_on (informs d.stops q.superior) j (all_unwound (informed_slots d.stops q.superior) w)) j (becomes d.core d.job) None
+abbrev pub after_delivery : State → ℕ → Whole → Delivered → State
+after_delivery w j q d =
+    with_slot (effects_on (informs d.stops q.superior) j (all_unwound (informed_slots d.stops q.superior) w)) j (with_core_and_job d.core d.job) None
 
 abbrev pub unit_on : State → ℕ → Outcome → Ticked
-unit_on w j (Changed c k) = steps (with_slot w j (becomes c k) None)
+unit_on w j (Changed c k) = steps (with_slot w j (with_core_and_job c k) None)
 unit_on w j (Faulted f) = faults_on w j f
 unit_on w j (Called s) = works (with_slot w j same (Some (entered s)))
 
 abbrev pub user_on : State → ℕ → Whole → Bool → Ticked
-user_on w j q true = steps (delivered_on w j q (delivered q.core q.job))
+user_on w j q true = steps (after_delivery w j q (delivered q.core q.job))
 user_on w j q false = unit_on w j (unit q.core q.job)
 
 -- the decoding in its two ticks
@@ -78,9 +78,9 @@ makes_page None operation = false
 unfoldable pub reserves : Ask → Bool
 reserves a = (a.fail == 0) && makes_page (call_named a.name) (input a 0)
 
-abbrev pub prepared_on : State → ℕ → Site → Ask → Bool → State
-prepared_on w j s a true = reserving (with_slot w j same (Some (holding s a (Some 0) 0))) j (Some 0)
-prepared_on w j s a false = with_slot w j same (Some (holding s a None 0))
+abbrev pub after_preparation : State → ℕ → Site → Ask → Bool → State
+after_preparation w j s a true = reserving (with_slot w j same (Some (holding s a (Some 0) 0))) j (Some 0)
+after_preparation w j s a false = with_slot w j same (Some (holding s a None 0))
 
 -- a call on files, before whose commit the pending parts of a marked close are performed
 abbrev pub is_disk : Chan → Bool
@@ -101,23 +101,23 @@ helps_by q a None = false
 unfoldable pub helps : Whole → Ask → Bool
 helps q a = if a.fail == 0 then helps_by q a (call_named a.name) else false
 
-abbrev pub helped_if : Bool → State → State
-helped_if true w = help w
-helped_if false w = w
+abbrev pub after_help_if : Bool → State → State
+after_help_if true w = help w
+after_help_if false w = w
 
 -- what a commit finds: the jobs that it reaches are in user mode, and a marked close is helped by a call on files
-unfoldable pub prepared_for : State → ℕ → Whole → Ask → State
-prepared_for w j own a = helped_if (helps own a) (all_unwound (reach (plain w) j own a) w)
+unfoldable pub with_preparation : State → ℕ → Whole → Ask → State
+with_preparation w j own a = after_help_if (helps own a) (all_unwound (reach (plain w) j own a) w)
 
 -- a call is tried: it waits, or is carried out
 abbrev pub tried : State → State → ℕ → Site → Ask → ℕ → Decision → Ticked
-tried w v j s a n (Waits r) = waits (committed w j s a n (Waits r))
-tried w v j s a n (Goes cs h vs) = steps (committed v j s a n (Goes cs h vs))
-tried w v j s a n (Ends cs ss e) = steps (committed v j s a n (Ends cs ss e))
-tried w v j s a n (Gone cs) = steps (committed v j s a n (Gone cs))
+tried w v j s a n (Waits r) = waits (after_commit w j s a n (Waits r))
+tried w v j s a n (Goes cs h vs) = steps (after_commit v j s a n (Goes cs h vs))
+tried w v j s a n (Ends cs ss e) = steps (after_commit v j s a n (Ends cs ss e))
+tried w v j s a n (Gone cs) = steps (after_commit v j s a n (Gone cs))
 
 abbrev pub tried_by : State → ℕ → Whole → Site → Ask → ℕ → Ticked
-tried_by w j own s a n = tried w (prepared_for w j own a) j s a n (decision (plain w) j own a)
+tried_by w j own s a n = tried w (with_preparation w j own a) j s a n (decision (plain w) j own a)
 
 -- a call that has reserved a page is tried once all four quarters are clear
 abbrev pub quarters : ℕ
@@ -133,7 +133,7 @@ abbrev pub tick_in : State → ℕ → Whole → Option Frame → Ticked
 tick_in w j q None = user_on w j q (deliverable q.job)
 tick_in w j q (Some (Entered f)) = parsed_on w j f.site (parse q.core f.site)
 tick_in w j q (Some (Parsed f)) = fetched_on w j f.site (fetch q.core f.site f.block.items)
-tick_in w j q (Some (Asked f)) = works (prepared_on w j f.site f.ask (reserves f.ask))
+tick_in w j q (Some (Asked f)) = works (after_preparation w j f.site f.ask (reserves f.ask))
 tick_in w j q (Some (Holding f)) = held_on w j (seen (Some (Holding f)) q) f.site f.ask f.page f.owes
 tick_in w j q (Some (Waiting f)) = tried_by w j (seen (Some (Waiting f)) q) f.site f.ask f.owes
 tick_in w j q (Some (Moving f)) = works (unwind_one w j)

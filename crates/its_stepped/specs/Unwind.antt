@@ -10,11 +10,11 @@ use Rattle.its_word.specs.declared.plan.Store as stores
 use Rattle.its_frame.specs.Left.{left_of}
 use Rattle.its_frame.specs.declared.frame.Frame.{Frame}
 use Rattle.its_frame.specs.declared.frame.Frame.TheVariants.{Entered, Parsed, Asked, Holding, Waiting, Moving, Ending}
-use Rattle.its_plain.specs.Own.{with_stores, leave}
+use Rattle.its_plain.specs.Own.{with_stores, after_leave}
 use Rattle.its_plain.specs.Change.{poke}
 use Rattle.its_plain.specs.Arguments.{debts}
 use Rattle.its_plain.specs.CallStep.{with_held}
-use Rattle.its_stepped.specs.State.{Part, Mark, State, part_made, mine, helped, held_at, with_slot, same, reserving, asked, holding, waiting, ending}
+use Rattle.its_stepped.specs.State.{Part, Mark, State, after_part, mine, after_help, held_at, with_slot, same, reserving, asked, holding, waiting, ending}
 
 -- a call with pending words that is still there stores the first one; a call without any drops its frame
 abbrev pub first_debt : List stores.Store → List stores.Store
@@ -37,43 +37,43 @@ abbrev pub with_part : Option Mark → State → State
 with_part (Some m) w = by_parts m.parts
   where
     by_parts : List Part → State
-    by_parts (p ∷ ps) = record w { raw = record w.raw { files = part_made m.draft p w.raw.files }; mark = rest_marked m ps }
+    by_parts (p ∷ ps) = record w { raw = record w.raw { files = after_part m.draft p w.raw.files }; mark = rest_marked m ps }
     by_parts [] = w
 with_part None w = w
 
 -- the pending steps of a call that has ended: file steps that were helped are passed over
 abbrev pub due : Bool → List Owed → List Owed
-due helped [] = []
+due after_help [] = []
 due true os = os
 due false (Unlink ∷ os) = due false os
 due false (Link ∷ os) = due false os
 due false (Free ∷ os) = due false os
 due false (o ∷ os) = o ∷ os
 
-abbrev pub settled : State → ℕ → Site → Ask → List Owed → State
-settled w j s a [] = with_slot w j same None
-settled w j s a (Store p v ∷ os) = with_slot w j (with_stores (poke p v ∷ [])) (Some (ending s a os))
-settled w j s a (GiveBack ∷ os) = reserving (with_slot w j same (Some (ending s a os))) j None
-settled w j s a (Unlink ∷ os) = with_part w.mark (with_slot w j same (Some (ending s a os)))
-settled w j s a (Link ∷ os) = with_part w.mark (with_slot w j same (Some (ending s a os)))
-settled w j s a (Free ∷ os) = with_part w.mark (with_slot w j same (Some (ending s a os)))
-settled w j s a (Leave e ∷ os) = with_slot w j (leave e) None
+abbrev pub after_settling : State → ℕ → Site → Ask → List Owed → State
+after_settling w j s a [] = with_slot w j same None
+after_settling w j s a (Store p v ∷ os) = with_slot w j (with_stores (poke p v ∷ [])) (Some (ending s a os))
+after_settling w j s a (GiveBack ∷ os) = reserving (with_slot w j same (Some (ending s a os))) j None
+after_settling w j s a (Unlink ∷ os) = with_part w.mark (with_slot w j same (Some (ending s a os)))
+after_settling w j s a (Link ∷ os) = with_part w.mark (with_slot w j same (Some (ending s a os)))
+after_settling w j s a (Free ∷ os) = with_part w.mark (with_slot w j same (Some (ending s a os)))
+after_settling w j s a (Leave e ∷ os) = with_slot w j (after_leave e) None
 
 -- a call that has reserved a page gives it back, and is as before it was prepared
-abbrev pub given_back : State → ℕ → Site → Ask → Option ℕ → ℕ → State
-given_back w j s a (Some p) n = reserving (with_slot w j same (Some (asked s a))) j None
-given_back w j s a None n = paid w j a n (holding s a None)
+abbrev pub after_giving_back : State → ℕ → Site → Ask → Option ℕ → ℕ → State
+after_giving_back w j s a (Some p) n = reserving (with_slot w j same (Some (asked s a))) j None
+after_giving_back w j s a None n = paid w j a n (holding s a None)
 
 abbrev pub unwind_by : State → ℕ → Option Frame → State
 unwind_by w j None = w
 unwind_by w j (Some (Entered f)) = with_slot w j same None
 unwind_by w j (Some (Parsed f)) = with_slot w j same None
 unwind_by w j (Some (Asked f)) = with_slot w j same None
-unwind_by w j (Some (Holding f)) = given_back w j f.site f.ask f.page f.owes
+unwind_by w j (Some (Holding f)) = after_giving_back w j f.site f.ask f.page f.owes
 unwind_by w j (Some (Waiting f)) = paid w j f.ask f.owes (waiting f.site f.ask)
 unwind_by w j (Some (Moving f)) =
     with_slot w j (with_held f.ask (Some (held_at f.place f.byte))) (Some (holding f.site f.ask None 2))
-unwind_by w j (Some (Ending f)) = settled w j f.site f.ask (due (mine w.mark j) f.owed.items)
+unwind_by w j (Some (Ending f)) = after_settling w j f.site f.ask (due (mine w.mark j) f.owed.items)
 
 -- one step of unwinding
 unfoldable pub unwind_one : State → ℕ → State
@@ -102,4 +102,4 @@ all_unwound (k ∷ ks) w = all_unwound ks (unwound w k)
 
 -- the pending parts of a marked close performed
 unfoldable pub help : State → State
-help w = record w { raw = record w.raw { files = helped w.mark w.raw.files }; mark = None }
+help w = record w { raw = record w.raw { files = after_help w.mark w.raw.files }; mark = None }

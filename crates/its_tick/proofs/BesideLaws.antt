@@ -18,7 +18,7 @@ use Rattle.its_frame.specs.declared.frame.Frame.{Frame}
 use Rattle.its_frame.specs.declared.frame.Frame.TheVariants.{Entered, Parsed, Asked, Holding, Waiting, Moving, Ending}
 use Rattle.its_plain.specs.Arguments.{debts}
 use Rattle.its_stepped.specs.TwoParts.{items_of, parse, fetch, parse_by}
-use Rattle.its_plain.specs.CallStep.{becomes, faulted, informs, informed_slots, decision, among, disturbed}
+use Rattle.its_plain.specs.CallStep.{with_core_and_job, with_fault, informs, informed_slots, decision, among, disturbed}
 use Rattle.its_plain.specs.Change.{superiors, with_inf, effect}
 use Rattle.its_plain.specs.Decide.{reach}
 use Rattle.its_plain.specs.Decode.{Shape, shaped, ask, ask_of, ask_by}
@@ -29,14 +29,14 @@ use Rattle.its_plain.specs.Own.{with_stores}
 use Rattle.its_plain.specs.Unit.{Outcome, Changed, Faulted, Called, unit}
 use Rattle.its_plain.specs.UnitPlan as plans
 use Rattle.its_stepped.specs.Calling.{Calling}
-use Rattle.its_stepped.specs.Commit.{effect_on, effects_on, committed}
+use Rattle.its_stepped.specs.Commit.{effect_on, effects_on, after_commit}
 use Rattle.its_stepped.specs.Duty.{Duty, IsTried, Meets, GivenBy, Given}
 use Rattle.its_stepped.specs.Forest.{Forest}
 use Rattle.its_stepped.specs.Quiet.{IsStill, AllQuiet}
 use Rattle.its_stepped.specs.SlotSame.{SlotSame}
 use Rattle.its_stepped.specs.Sound.{SoundFrame, SoundBy, Sound, Paged, most_owed}
 use Rattle.its_stepped.specs.State.{State, plain, seen, with_slot, same, reserving, entered, parsed, asked, holding, waiting}
-use Rattle.its_stepped.specs.Tick.{Ticked, helped_if, works, helps, user_on, unit_on, parsed_on, fetched_on, prepared_on, reserves, prepared_for, tried, tried_by, quarters, held_on, tick_in, tick_unless, tick_of, tick}
+use Rattle.its_stepped.specs.Tick.{Ticked, after_help_if, works, helps, user_on, unit_on, parsed_on, fetched_on, after_preparation, reserves, with_preparation, tried, tried_by, quarters, held_on, tick_in, tick_unless, tick_of, tick}
 use Rattle.its_stepped.specs.Unwind.{all_unwound}
 use Rattle.its_stepped.proofs.DecodingLaws.{decoding}
 use Rattle.its_stepped.proofs.DotsLaws.{trying_reach, disturbs_by}
@@ -141,10 +141,10 @@ unit_beside : (w : State) (j k : ℕ) (q : Whole) (o : Outcome) → k ≢ j → 
     → unit q.core q.job ≡ o → Row w j k (unit_on w j o)
 unit_beside w j k q (Changed c x) ne sound is runs none d u =
     steps_alone w _ j k sound (disturbs_by (plain w) j k _ (transition_unit (plain w) j q (Changed c x) (seen_at w j q None is none ∙ ap Some (seen_none q)) runs d u))
-    (slot_others w j k (becomes c x) None ne)
+    (slot_others w j k (with_core_and_job c x) None ne)
 unit_beside w j k q (Faulted f) ne sound is runs none d u =
     steps_alone w _ j k sound (disturbs_by (plain w) j k _ (transition_unit (plain w) j q (Faulted f) (seen_at w j q None is none ∙ ap Some (seen_none q)) runs d u))
-    (slot_others w j k (faulted f) None ne)
+    (slot_others w j k (with_fault f) None ne)
 unit_beside w j k q (Called s) ne sound is runs none d u = slot_others w j k same (Some (entered s)) ne
 
 informs_others : (b : Bool) (o : Option ℕ) (v : State) (j k : ℕ) → among k (informed_slots b o) ≡ false → SlotSame v (effects_on (informs b o) j v) k
@@ -170,7 +170,7 @@ user_beside w j k q true ne sound is runs none d =
           (slot_then w v (effects_on cs j v) k (all_unwound_others ks w k (sym whom ∙ t)) (informs_others n.stops q.superior v j k (sym whom ∙ t)));
       free = λ t. frames_none cs j v k (all_unwound_none ks w k sound (sym whom ∙ t));
     })
-    (slot_others (effects_on cs j v) j k (becomes n.core n.job) None ne)
+    (slot_others (effects_on cs j v) j k (with_core_and_job n.core n.job) None ne)
 
 shaped_fails : (c : Core) (s : Site) (f : Fault) → (decode.parsed c s.e).answer ≡ Err f → (shaped c s).answer ≡ Err f
 unfolding shaped
@@ -188,15 +188,15 @@ parsed_beside : (w : State) (j k : ℕ) (q : Whole) (s : Site) (r : Result (List
     → unit q.core q.job ≡ Called s → parse q.core s ≡ r → Row w j k (parsed_on w j s r)
 parsed_beside w j k q s (Ok b) ne sound is runs d u p = slot_others w j k same (Some (parsed s b)) ne
 parsed_beside w j k q s (Err f) ne sound is runs d u p =
-    steps_alone w _ j k sound (disturbs_fault (plain w) j k q s f is runs d u (asks_none q.core s f p)) (slot_others w j k (faulted f) None ne)
+    steps_alone w _ j k sound (disturbs_fault (plain w) j k q s f is runs d u (asks_none q.core s f p)) (slot_others w j k (with_fault f) None ne)
 
 fetched_beside : (w : State) (j k : ℕ) (q : Whole) (s : Site) (b : List ℕ) (r : Result Ask Fault) → k ≢ j → Sound w → (plain w).jobs j ≡ Some q → q.job.stopped ≡ false → deliverable q.job ≡ false
     → unit q.core q.job ≡ Called s → parse q.core s ≡ Ok b → fetch q.core s b ≡ r → Row w j k (fetched_on w j s r)
 fetched_beside w j k q s b (Ok a) ne sound is runs d u p e = slot_others w j k same (Some (asked s a)) ne
 fetched_beside w j k q s b (Err f) ne sound is runs d u p e =
-    steps_alone w _ j k sound (disturbs_fault (plain w) j k q s f is runs d u (asks q.core s b (Err f) p e)) (slot_others w j k (faulted f) None ne)
+    steps_alone w _ j k sound (disturbs_fault (plain w) j k q s f is runs d u (asks q.core s b (Err f) p e)) (slot_others w j k (with_fault f) None ne)
 
-prepared_beside : (w : State) (j k : ℕ) (s : Site) (a : Ask) (b : Bool) → k ≢ j → SlotSame w (prepared_on w j s a b) k
+prepared_beside : (w : State) (j k : ℕ) (s : Site) (a : Ask) (b : Bool) → k ≢ j → SlotSame w (after_preparation w j s a b) k
 prepared_beside w j k s a true ne = page_others w j k same (Some (holding s a (Some 0) 0)) (Some 0) ne
 prepared_beside w j k s a false ne = slot_others w j k same (Some (holding s a None 0)) ne
 
@@ -239,10 +239,10 @@ crowd_some m ks s i q apart at = (λ t. crowd_by s (apart t) (at t))
 
 calling_crowded : (w : State) (j : ℕ) (q : Whole) (s : Site) (a : Ask) (n : ℕ) → Sound w → Forest (plain w) → Trying w j q s a n → Meets w j (with_stores (debts a n) q) s a n
     → (plain w).jobs j ≡ Some (with_stores (debts a n) q)
-    → Calling (plain w) (crowded (prepared_for w j (with_stores (debts a n) q) a) (plain w) (reach (plain w) j (with_stores (debts a n) q) a) s a) j (with_stores (debts a n) q) s a n
+    → Calling (plain w) (crowded (with_preparation w j (with_stores (debts a n) q) a) (plain w) (reach (plain w) j (with_stores (debts a n) q) a) s a) j (with_stores (debts a n) q) s a n
 calling_crowded w j q s a n sound forest t m here =
     let own : Whole = with_stores (debts a n) q in
-    let v : State = prepared_for w j own a in
+    let v : State = with_preparation w j own a in
     let f = found w j own a sound m.apart in
     record {
       stands = t.stands;
@@ -290,7 +290,7 @@ changes_beside w v u j k s cs ne sound quiet h stays = record {
 
 decided_beside : (w v u : State) (j k : ℕ) (own : Whole) (s : Site) (a : Ask) (n : ℕ) (d : Decision) → k ≢ j → Sound w → Duty v j own s a n d → Duty u j own s a n d → FitsAll d j (plain v) → Forest (plain v)
     → u.raw ≡ v.raw → (Acts d → Finds w v u j k s) → Row w j k (tried w v j s a n d)
-unfolding committed
+unfolding after_commit
 decided_beside w v u j k own s a n (Waits r) ne sound dv du fits forest e h = slot_others w j k same (Some (waiting s a n)) ne
 decided_beside w v u j k own s a n (Goes cs b vs) ne sound dv du fits forest e h =
     steps_then w (effects_on cs.items j v) _ j k
@@ -305,14 +305,14 @@ decided_beside w v u j k own s a n (Gone cs) ne sound dv du fits forest e h =
     (λ fr. gone_same cs.items j u v k (entered s) du.quiet dv.quiet fits.0 fits.1 forest e ne fr)
 
 -- what its commit finds of another slot
-found_others : (w : State) (j k : ℕ) (own : Whole) (a : Ask) → among k (reach (plain w) j own a) ≡ false → SlotSame w (prepared_for w j own a) k
-unfolding prepared_for
+found_others : (w : State) (j k : ℕ) (own : Whole) (a : Ask) → among k (reach (plain w) j own a) ≡ false → SlotSame w (with_preparation w j own a) k
+unfolding with_preparation
 found_others w j k own a h =
     let u : State = all_unwound (reach (plain w) j own a) w in
-    slot_then w u (helped_if (helps own a) u) k (all_unwound_others (reach (plain w) j own a) w k h) (helped_if_others (helps own a) u k)
+    slot_then w u (after_help_if (helps own a) u) k (all_unwound_others (reach (plain w) j own a) w k h) (helped_if_others (helps own a) u k)
 
-found_free : (w : State) (j k : ℕ) (own : Whole) (a : Ask) → Sound w → among k (reach (plain w) j own a) ≡ true → (prepared_for w j own a).frames k ≡ None
-unfolding prepared_for
+found_free : (w : State) (j k : ℕ) (own : Whole) (a : Ask) → Sound w → among k (reach (plain w) j own a) ≡ true → (with_preparation w j own a).frames k ≡ None
+unfolding with_preparation
 found_free w j k own a sound h =
     let u : State = all_unwound (reach (plain w) j own a) w in
     (helped_if_others (helps own a) u k).frame ∙ all_unwound_none (reach (plain w) j own a) w k sound h
@@ -321,7 +321,7 @@ tried_beside : (w : State) (j k : ℕ) (q : Whole) (s : Site) (a : Ask) (n : ℕ
     → Meets w j (with_stores (debts a n) q) s a n → Row w j k (tried_by w j (with_stores (debts a n) q) s a n)
 tried_beside w j k q s a n ne sound forest t m =
     let own : Whole = with_stores (debts a n) q in
-    let v : State = prepared_for w j own a in
+    let v : State = with_preparation w j own a in
     let ks : List ℕ = reach (plain w) j own a in
     let u : State = crowded v (plain w) ks s a in
     let d : Decision = decision (plain w) j own a in

@@ -20,13 +20,13 @@ use Rattle.its_frame.specs.declared.frame.Asked as askeds
 use Rattle.its_frame.specs.declared.frame.Holding as holdings
 use Rattle.its_frame.specs.declared.frame.Frame.TheVariants.{Entered, Parsed, Asked, Holding}
 use Rattle.its_stepped.specs.TwoParts.{items_of, parse, fetch, parse_of, fetch_of}
-use Rattle.its_plain.specs.CallStep.{faulted}
+use Rattle.its_plain.specs.CallStep.{with_fault}
 use Rattle.its_plain.specs.Footprint.{SiteFits}
 use Rattle.its_plain.specs.Job.{bit_of, with_pending}
 use Rattle.its_plain.specs.Machine.{Whole}
 use Rattle.its_stepped.specs.Sound.{Standing, SoundBy}
 use Rattle.its_stepped.specs.State.{State, plain, seen, with_slot, same, parsed, asked, holding, reserving}
-use Rattle.its_stepped.specs.Tick.{Ticked, works, faults_on, parsed_on, fetched_on, reserves, tick_in, prepared_on, held_on, tried_by}
+use Rattle.its_stepped.specs.Tick.{Ticked, works, faults_on, parsed_on, fetched_on, reserves, tick_in, after_preparation, held_on, tried_by}
 use Rattle.its_world.specs.Tidy.{Tidy}
 use Rattle.its_world.specs.World.{alarm_at, state_of, raw_of, raw_at, frame_at, Becomes, JobBecomes, FrameBecomes, PageBecomes}
 use Rattle.its_world.specs.declared.world.World.{World}
@@ -209,9 +209,9 @@ row_by old mid v s (Ok u) (Ok g) p j f b h e =
     let is : with_slot (state_of old) s same (Some g) ≡ v = sym (kept_slot old mid s (Some g) j b) ∙ sym h in λ i. record { state = is i; pace = sym e i }
 row_by old mid v s (Err x) (Err y) p j f b h e =
     let one : x ≡ y = cc in
-    let is : with_slot (state_of old) s (faulted y) None ≡ v =
-    sym (h ∙ ap (λ (u : State). with_slot u s (faulted x) None) (kept_slot old mid s None j b) ∙ retaken (state_of old) s None None (faulted x)
-    ∙ ap (λ (z : Fault). with_slot (state_of old) s (faulted z) None) one) in
+    let is : with_slot (state_of old) s (with_fault y) None ≡ v =
+    sym (h ∙ ap (λ (u : State). with_slot u s (with_fault x) None) (kept_slot old mid s None j b) ∙ retaken (state_of old) s None None (with_fault x)
+    ∙ ap (λ (z : Fault). with_slot (state_of old) s (with_fault z) None) one) in
     λ i. record { state = is i; pace = sym e i }
 row_by old mid v s (Ok u) (Err y) p j f b h e = absurd cc
 row_by old mid v s (Err x) (Ok g) p j f b h e = absurd cc
@@ -271,19 +271,19 @@ asked_unreserved w s b x k = asked_bare ((state_of w).raw.jobs s) ((state_of w).
 
 -- a page is reserved, and then the frame is put back; or the frame alone
 pub page_prepared : (old mid new : World) (s : ℕ) (t : Site) (a : Ask) → is_some (job_at old.jobs s) ≡ true → reserves a ≡ true → PageBecomes old mid s (Some 0)
-    → FrameBecomes mid new s (Some (holding t a (Some 0) 0)) → state_of new ≡ prepared_on (state_of old) s t a (reserves a)
+    → FrameBecomes mid new s (Some (holding t a (Some 0) 0)) → state_of new ≡ after_preparation (state_of old) s t a (reserves a)
 page_prepared old mid new s t a j e page frame =
-    kept_state old new s (Some (holding t a (Some 0) 0)) (Some 0) j (paged_becomes old mid new s (Some 0) _ page frame) ∙ ap (prepared_on (state_of old) s t a) (sym e)
+    kept_state old new s (Some (holding t a (Some 0) 0)) (Some 0) j (paged_becomes old mid new s (Some 0) _ page frame) ∙ ap (after_preparation (state_of old) s t a) (sym e)
 
 pub none_prepared : (old new : World) (s : ℕ) (t : Site) (a : Ask) → is_some (job_at old.jobs s) ≡ true → reserves a ≡ false → FrameBecomes old new s (Some (holding t a None 0))
-    → state_of new ≡ prepared_on (state_of old) s t a (reserves a)
-none_prepared old new s t a j e frame = kept_slot old new s (Some (holding t a None 0)) j frame ∙ ap (prepared_on (state_of old) s t a) (sym e)
+    → state_of new ≡ after_preparation (state_of old) s t a (reserves a)
+none_prepared old new s t a j e frame = kept_slot old new s (Some (holding t a None 0)) j frame ∙ ap (after_preparation (state_of old) s t a) (sym e)
 
 module _ (old : World) (s : ℕ) (b : Bool) (x : Asking old s b) (k : Kept old) where
   asked_job : is_some (job_at old.jobs s) ≡ true
   asked_job = (stands_at old s (Asked x.frame) k.sound x.is).0
 
-  pub prepared_row : (new : World) → state_of new ≡ prepared_on (state_of old) s x.frame.site x.frame.ask (reserves x.frame.ask)
+  pub prepared_row : (new : World) → state_of new ≡ after_preparation (state_of old) s x.frame.site x.frame.ask (reserves x.frame.ask)
       → IfSome (raw_at old.files old.core old.jobs old.alarms.items s) (λ q. tick_in (state_of old) s q (frame_at old.frames.items s) ≡ ticked (state_of new) Work)
   prepared_row new h =
       all_some (raw_at old.files old.core old.jobs old.alarms.items s) (λ q. tick_in (state_of old) s q (frame_at old.frames.items s) ≡ ticked (state_of new) Work)
@@ -368,9 +368,9 @@ module _ (old : World) (s c n : ℕ) (x : Clearing old s c n) (k : Kept old) whe
       ∙ ap works (sym is))
 
 pub fault_set : (old new : World) (s : ℕ) (j : Job) (o : Option Job) (f : Fault) → frame_at old.frames.items s ≡ None → o ≡ job_at old.jobs s → o ≡ Some j
-    → JobBecomes old new s (with_pending j (bit_of f)) → state_of new ≡ with_slot (state_of old) s (faulted f) None
+    → JobBecomes old new s (with_pending j (bit_of f)) → state_of new ≡ with_slot (state_of old) s (with_fault f) None
 fault_set old new s j o f none e i b =
-    turned_state old new s (core_at old.core s) (with_pending j (bit_of f)) j None (faulted f)
+    turned_state old new s (core_at old.core s) (with_pending j (bit_of f)) j None (with_fault f)
     (subst (λ g. Becomes old new s (core_at old.core s) (Some (with_pending j (bit_of f))) g (clear_at old.core s)) none b)
     (sym e ∙ i) refl
 

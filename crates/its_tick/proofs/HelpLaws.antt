@@ -1,9 +1,9 @@
 -- The pending parts of a half made close are performed in the store of a world, if a call on files is tried.
 use Rattle.std.specs.Prelude.{◌≡◌, Bool, true, false, Option, Some, None, refl}
 use Rattle.std.proofs.Common.{sym, ◌∙◌, ap}
-use Rattle.its_files.specs.Files.{IsStore, helped, directory}
-use Rattle.its_stepped.specs.State.{State, Mark, helped as left_by}
-use Rattle.its_stepped.specs.Tick.{helped_if}
+use Rattle.its_files.specs.Files.{IsStore, after_help, directory}
+use Rattle.its_stepped.specs.State.{State, Mark, after_help as left_by}
+use Rattle.its_stepped.specs.Tick.{after_help_if}
 use Rattle.its_stepped.specs.Unwind.{help}
 use Rattle.its_world.specs.Filed.{Ringed}
 use Rattle.its_world.specs.Tidy.{Tidy}
@@ -14,7 +14,7 @@ use Rattle.its_world.proofs.MarkLaws.{help_step, none_marked}
 use Rattle.its_pclsr.proofs.PartLaws.{store_state, store_tidy}
 use Rattle.its_world.proofs.StorageLaws.{files_are, marks_are}
 
-module _ (old new : World) (whole : IsStore old.files) (tidy : Tidy old) (files : new.files ≡ helped old.files) (core : new.core ≡ old.core) (jobs : new.jobs ≡ old.jobs)
+module _ (old new : World) (whole : IsStore old.files) (tidy : Tidy old) (files : new.files ≡ after_help old.files) (core : new.core ≡ old.core) (jobs : new.jobs ≡ old.jobs)
     (clock : new.clock ≡ old.clock) (alarms : new.alarms ≡ old.alarms) (symbols : new.symbols ≡ old.symbols) (pipes : new.pipes ≡ old.pipes) where
   stays : Stays old.files new.files old.jobs
   stays = helped_stays old.files new.files old.jobs whole tidy.across files
@@ -38,6 +38,6 @@ not_marked : (v : State) → v.mark ≡ None → v ≡ help v
 unfolding help
 not_marked v e = λ t. record v { raw = record v.raw { files = sym (nothing_left v v.mark e) t }; mark = e t }
 
-pub help_spared : (w : World) (b : Bool) → w.files.mark ≡ None → state_of w ≡ helped_if b (state_of w)
+pub help_spared : (w : World) (b : Bool) → w.files.mark ≡ None → state_of w ≡ after_help_if b (state_of w)
 help_spared w true e = not_marked (state_of w) (marks_are w ∙ none_marked w.files e)
 help_spared w false e = refl

@@ -10,7 +10,7 @@ use Rattle.its_frame.specs.declared.change.Change.{Change}
 use Rattle.its_frame.specs.declared.change.Change.TheVariants as changes
 use Rattle.its_frame.specs.declared.frame.Frame.{Frame}
 use Rattle.its_plain.specs.CallBasic.{told_superior}
-use Rattle.its_plain.specs.Change.{on_slot, in_job, channel_in, chan_left, shut_on, left_job, is_gone, superiors, inferior, with_page_at, protected, poke, with_alarm, with_inf, removed, effect}
+use Rattle.its_plain.specs.Change.{on_slot, in_job, channel_in, chan_after_removal, after_shut, job_after_removal, is_gone, superiors, inferior, with_page_at, with_protection, poke, with_alarm, with_inf, after_removal, effect}
 use Rattle.its_plain.specs.Machine.{Chan, Shut, On, Whole, Machine, changed}
 use Rattle.its_plain.specs.Own.{with_stores, with_registers, on_channel, with_variable}
 use Rattle.its_stepped.specs.Commit.{effect_on, effects_on}
@@ -46,18 +46,18 @@ inferior_stays m r i k stays apart e = elim (cases_eq i r) [
   ]
 ]
 
-channel_stays : (m : Machine) (r k : ℕ) (c : Chan) → is_gone (superiors m) r k ≡ false → superiors m r ≢ Some k → OnInferior m k c → chan_left (is_gone (superiors m) r) c ≡ c
+channel_stays : (m : Machine) (r k : ℕ) (c : Chan) → is_gone (superiors m) r k ≡ false → superiors m r ≢ Some k → OnInferior m k c → chan_after_removal (is_gone (superiors m) r) c ≡ c
 channel_stays m r k (On i write at) stays apart on = ap (λ (b : Bool). if b then Shut else On i write at) (inferior_stays m r i k stays apart on)
 channel_stays m r k _ stays apart on = refl
 
 job_stays : (m : Machine) (r k : ℕ) → Forest m → is_gone (superiors m) r k ≡ false → superiors m r ≢ Some k
-    → left_job (is_gone (superiors m) r) (is_gone (superiors m) r k) (m.jobs k) ≡ m.jobs k
-job_stays m r k forest stays apart = ap (λ (b : Bool). left_job (is_gone (superiors m) r) b (m.jobs k)) stays ∙ go (m.jobs k) refl
+    → job_after_removal (is_gone (superiors m) r) (is_gone (superiors m) r k) (m.jobs k) ≡ m.jobs k
+job_stays m r k forest stays apart = ap (λ (b : Bool). job_after_removal (is_gone (superiors m) r) b (m.jobs k)) stays ∙ go (m.jobs k) refl
   where
-    go : (o : Option Whole) → m.jobs k ≡ o → option_map (shut_on (is_gone (superiors m) r)) o ≡ o
+    go : (o : Option Whole) → m.jobs k ≡ o → option_map (after_shut (is_gone (superiors m) r)) o ≡ o
     go None at = refl
     go (Some q) at =
-        let same : (n : ℕ) → chan_left (is_gone (superiors m) r) (q.channels n) ≡ q.channels n =
+        let same : (n : ℕ) → chan_after_removal (is_gone (superiors m) r) (q.channels n) ≡ q.channels n =
         λ n. channel_stays m r k (q.channels n) stays apart (subst (λ (o : Option Whole). OnInferior m k (channel_in o n)) at (forest.channels k n)) in
         λ t. Some (record q { channels = λ n. same n t })
 
@@ -73,7 +73,7 @@ stays_there u v j s k f h e ne fr = elim (cases_Bool (is_gone (superiors v.raw) 
 
 removed_same : (j : ℕ) (u v : State) (s k : ℕ) (f : Frame) → Quiet (changes.Remove s) j u → superiors (plain v) s ≢ Some k → Forest (plain v) → u.raw ≡ v.raw → k ≢ j → u.frames k ≡ Some f
     → (effect_on (changes.Remove s) j v).raw.jobs k ≡ v.raw.jobs k
-unfolding effect_on effect removed
+unfolding effect_on effect after_removal
 removed_same j u v s k f h apart forest e ne fr =
     job_stays v.raw s k (forest_raw v forest) (stays_there u v j s k f h e ne fr) (subst (λ (sup : ℕ → Option ℕ). sup s ≢ Some k) (superiors_plain v) apart)
 
@@ -89,7 +89,7 @@ effect_same (changes.Poke s a x) j u v k f h fits forest e ne fr = on_slot_other
 effect_same (changes.Set s y x) j u v k f h fits forest e ne fr = on_slot_other v.raw.jobs s k (with_registers (with_variable y x)) (reached_other u j s k f h ne fr)
 effect_same (changes.Map s p) j u v k f h fits forest e ne fr = on_slot_other v.raw.jobs s k _ (reached_other u j s k f h.reached ne fr)
 effect_same (changes.Unmap s p) j u v k f h fits forest e ne fr = on_slot_other v.raw.jobs s k (with_page_at p None) (reached_other u j s k f h ne fr)
-effect_same (changes.Protect s p b) j u v k f h fits forest e ne fr = on_slot_other v.raw.jobs s k (protected p b) (reached_other u j s k f h ne fr)
+effect_same (changes.Protect s p b) j u v k f h fits forest e ne fr = on_slot_other v.raw.jobs s k (with_protection p b) (reached_other u j s k f h ne fr)
 effect_same (changes.Make s x n) j u v k f h fits forest e ne fr =
     (changed_only v.raw.jobs s (Some (inferior j (v.raw.jobs j) x n))).others k (λ at. let none : u.frames k ≡ None = ap u.frames at ∙ h in cc)
 effect_same (changes.Remove s) j u v k f h fits forest e ne fr =
@@ -155,13 +155,13 @@ made_inferior jobs j s k u n x = go (k == s)
     go true = refl
     go false = x
 
-left_inferior : (j : ℕ) (gone : ℕ → Bool) (b : Bool) (o : Option Whole) → InferiorOf j o → InferiorOf j (left_job gone b o)
+left_inferior : (j : ℕ) (gone : ℕ → Bool) (b : Bool) (o : Option Whole) → InferiorOf j o → InferiorOf j (job_after_removal gone b o)
 left_inferior j gone true o x = tt
 left_inferior j gone false None x = tt
 left_inferior j gone false (Some q) x = x
 
 effect_inferior : (c : Change) (j : ℕ) (v : State) (k : ℕ) → InferiorOf j (v.raw.jobs k) → InferiorOf j ((effect_on c j v).raw.jobs k)
-unfolding effect_on effect removed
+unfolding effect_on effect after_removal
 effect_inferior (changes.Take c) j v k x = x
 effect_inferior (changes.Put c b) j v k x = x
 effect_inferior (changes.Hold c s) j v k x = x

@@ -10,13 +10,13 @@ use Rattle.its_word.proofs.FreeLaws.{none_is}
 use Rattle.its_core.specs.Cores.{Cores, core_at, clear_at}
 use Rattle.its_jobs.specs.Table.{job_at, superior_at}
 use Rattle.its_frame.specs.declared.frame.Frame.{Frame}
-use Rattle.its_plain.specs.CallStep.{becomes, faulted}
+use Rattle.its_plain.specs.CallStep.{with_core_and_job, with_fault}
 use Rattle.its_plain.specs.Interrupt.{deliverable}
 use Rattle.its_plain.specs.Job.{bit_of, with_pending}
 use Rattle.its_plain.specs.Machine.{Whole}
 use Rattle.its_plain.specs.Unit.{Outcome, Changed, Faulted, Called, unit}
 use Rattle.its_plain.proofs.MachineLaws.{machine_is}
-use Rattle.its_stepped.specs.Lines.{paces_of, ticked}
+use Rattle.its_stepped.specs.Lines.{paces_of, after_ticks}
 use Rattle.its_stepped.specs.Sound.{Sound}
 use Rattle.its_stepped.specs.State.{State, plain, with_slot}
 use Rattle.its_stepped.specs.Tick.{Ticked, steps, tick, tick_in, tick_of, tick_unless, unit_on, user_on}
@@ -91,7 +91,7 @@ slot_nothing w s q h f is e free = state_is _ _
 
 -- the job of a slot runs in user mode, with this core and these registers; p has the rest of it
 abbrev with_left : Left → Whole → Whole
-with_left l p = becomes l.core (bare l.job) p
+with_left l p = with_core_and_job l.core (bare l.job) p
 
 record Runs (w : State) (s : ℕ) (p : Whole) (l : Left) : Type 0 where
   there : w.raw.jobs s ≡ Some (with_left l p)
@@ -117,7 +117,7 @@ outcome_slot w s p l m (Changed d k) r e =
     ap (λ (x : Left). steps (with_slot w s (with_left x) None)) is
 outcome_slot w s p l m (Faulted f) r e =
     let is : left l.core (with_pending l.job (bit_of f)) ≡ m = cc in
-    ap steps (slot_alike w s (with_left l p) (faulted f) (with_left (left l.core (with_pending l.job (bit_of f)))) None r.there refl)
+    ap steps (slot_alike w s (with_left l p) (with_fault f) (with_left (left l.core (with_pending l.job (bit_of f)))) None r.there refl)
     ∙ ap (λ (x : Left). steps (with_slot w s (with_left x) None)) is
 outcome_slot w s p l m (Called x) r e = absurd cc
 
@@ -130,7 +130,7 @@ unit_slot w s p l m r e = go (deliverable l.job) refl e
 
 -- n units are n ticks
 record Ticks (w : State) (s n : ℕ) (m : Left) : Type 0 where
-  state : ticked w s n ≡ with_slot w s (with_left m) None
+  state : after_ticks w s n ≡ with_slot w s (with_left m) None
   paces : paces_of w s n ≡ replicate n Step
 
 then_ticked : (n : ℕ) (w : State) (s : ℕ) (p : Whole) (l m : Left) → Runs w s p l → ((v : State) (k : Left) → Runs v s p k → after_units n (Some k) ≡ Some m → Ticks v s n m)
@@ -145,7 +145,7 @@ then_ticked n w s p l m r more (Some k) is e =
     } in
     let rest = more v k h e in
     record {
-      state = ap (λ (x : Ticked). ticked x.state s n) t ∙ rest.state ∙ slot_then w s (with_left k) (with_left m) None None;
+      state = ap (λ (x : Ticked). after_ticks x.state s n) t ∙ rest.state ∙ slot_then w s (with_left k) (with_left m) None None;
       paces = ap (λ (x : Ticked). x.pace ∷ paces_of x.state s n) t ∙ ap (λ ps. Step ∷ ps) rest.paces;
     }
 then_ticked n w s p l m r more None is e = let z = no_units n in absurd cc
@@ -266,7 +266,7 @@ module _ (old new : World) (s n k : ℕ) (j : Job) (m : UnitsMade old new s n k)
       (subst (λ (f : Option Frame). Becomes old new s m.left.core (Some m.left.job) f (clear_at old.core s)) none m.becomes) m.had
       (becomes_raw old.files (core_at old.core s) m.left.core (superior_at old.jobs s) (alarm_at old.alarms.items s) m.job m.left.job (units_keep n start m.left m.is).channels)
 
-  pub steps_state : state_of new ≡ ticked (state_of old) s n
+  pub steps_state : state_of new ≡ after_ticks (state_of old) s n
   steps_state = turns ∙ sym ticks.state
 
   pub steps_most : n < k → unit_due (state_of new) s ≡ false
@@ -296,11 +296,11 @@ tick_holds w s h =
     let g = given decoding w s h.plain.forest h.sound in
     record { sound = tick_sound w s h.sound g; plain = lasts (plain w) (plain (tick w s).state) s (tick w s).pace h.plain (tick_is w s h.sound g) }
 
-ticks_hold : (n : ℕ) (w : State) (s : ℕ) → Holds w → Holds (ticked w s n)
+ticks_hold : (n : ℕ) (w : State) (s : ℕ) → Holds w → Holds (after_ticks w s n)
 ticks_hold zero w s h = h
 ticks_hold (suc n) w s h = ticks_hold n (tick w s).state s (tick_holds w s h)
 
-pub steps_kept : (old new : World) (s n : ℕ) → Kept old → state_of new ≡ ticked (state_of old) s n → Tidy new → Kept new
+pub steps_kept : (old new : World) (s n : ℕ) → Kept old → state_of new ≡ after_ticks (state_of old) s n → Tidy new → Kept new
 steps_kept old new s n kept e tidy =
     let start : Holds (state_of old) = record {
       sound = kept.sound;

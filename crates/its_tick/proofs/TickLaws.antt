@@ -22,7 +22,7 @@ use Rattle.its_stepped.specs.Forest.{Forest}
 use Rattle.its_plain.specs.Licence.{Licensed}
 use Rattle.its_stepped.specs.Sound.{Sound}
 use Rattle.its_stepped.specs.State.{State, plain}
-use Rattle.its_stepped.specs.Tick.{Ticked, delivered_on, unit_on, user_on, tick_in, tick_unless, tick_of, tick}
+use Rattle.its_stepped.specs.Tick.{Ticked, after_delivery, unit_on, user_on, tick_in, tick_unless, tick_of, tick}
 use Rattle.its_stepped.proofs.AddressLaws.{step_addressed}
 use Rattle.its_stepped.proofs.ClockLaws.{step_clock}
 use Rattle.its_stepped.proofs.AlarmLaws.{step_alarmed}
@@ -92,12 +92,12 @@ user_by w s j b t is runs fr d row =
     ∙ ap (user_on (state_of w) s q) (deliverable_raw w.files (core_at w.core s) j (superior_at w.jobs s) (alarm_at w.alarms.items s) ∙ d)
     ∙ subst (λ (o : Option Whole). IfSome o (λ q. user_on (state_of w) s q b ≡ t)) (raw_some w s j is) row
 
-delivered_row : (o : Option Whole) (v w : State) (s : ℕ) → IfSome o (λ q. v ≡ delivered_on w s q (delivered q.core q.job)) → IfSome o (λ q. user_on w s q true ≡ ticked v Step)
+delivered_row : (o : Option Whole) (v w : State) (s : ℕ) → IfSome o (λ q. v ≡ after_delivery w s q (delivered q.core q.job)) → IfSome o (λ q. user_on w s q true ≡ ticked v Step)
 delivered_row (Some q) v w s h = ap (λ (x : State). ticked x Step) (sym h)
 delivered_row None v w s h = tt
 
 pub tick_delivery : (old new : World) (s : ℕ) (j : Job) → job_at old.jobs s ≡ Some j → j.stopped ≡ false → is_some (frame_at old.frames.items s) ≡ false → deliverable j ≡ true
-    → IfSome (raw_at old.files old.core old.jobs old.alarms.items s) (λ q. state_of new ≡ delivered_on (state_of old) s q (delivered q.core q.job)) → tick (state_of old) s ≡ ticked (state_of new) Step
+    → IfSome (raw_at old.files old.core old.jobs old.alarms.items s) (λ q. state_of new ≡ after_delivery (state_of old) s q (delivered q.core q.job)) → tick (state_of old) s ≡ ticked (state_of new) Step
 tick_delivery old new s j is runs fr d row =
     user_by old s j true (ticked (state_of new) Step) is runs (none_is (frame_at old.frames.items s) fr) d (delivered_row (raw_at old.files old.core old.jobs old.alarms.items s) (state_of new) (state_of old) s row)
 

@@ -15,11 +15,11 @@ use Rattle.its_commit.proofs.TriesLaws.{Cleared, Tries, prepared, cleared, tries
 use Rattle.its_plain.specs.CallStep.{decision}
 use Rattle.its_plain.specs.Decide.{reach}
 use Rattle.its_plain.specs.Machine.{Whole}
-use Rattle.its_stepped.specs.Commit.{committed}
+use Rattle.its_stepped.specs.Commit.{after_commit}
 use Rattle.its_stepped.specs.Forest.{Forest}
 use Rattle.its_stepped.specs.Sound.{SoundBy, Sound}
 use Rattle.its_stepped.specs.State.{State}
-use Rattle.its_stepped.specs.Tick.{helps, helped_if, tick_in}
+use Rattle.its_stepped.specs.Tick.{helps, after_help_if, tick_in}
 use Rattle.its_stepped.specs.Unwind.{all_unwound}
 use Rattle.its_stepped.proofs.ConsoledLaws.{raw_consoled}
 use Rattle.its_stepped.proofs.ForestLaws.{forest_raw}
@@ -102,11 +102,11 @@ on_both (Some f) None P Q R h a b = tt
 on_both None p P Q R h a b = tt
 
 pub made_ready : (old mid new : World) (s : ℕ) (ks : List ℕ) (b : Bool) → OnCall old s (λ f q. ks ≡ reach (state_of old).raw s q f.ask) → OnCall old s (λ f q. b ≡ helps q f.ask)
-    → state_of mid ≡ all_unwound ks (state_of old) → state_of new ≡ helped_if b (state_of mid) → Readies old new s
+    → state_of mid ≡ all_unwound ks (state_of old) → state_of new ≡ after_help_if b (state_of mid) → Readies old new s
 made_ready old mid new s ks b reached helped row help =
     on_both (standing_of (frame_at old.frames.items s)) (raw_at old.files old.core old.jobs old.alarms.items s)
     (λ f q. ks ≡ reach (state_of old).raw s q f.ask) (λ f q. b ≡ helps q f.ask) (λ f q. state_of new ≡ prepared (state_of old) s q f.ask)
-    (λ f q r h. help ∙ (λ t. helped_if (h t) (row t)) ∙ ap (λ (ls : List ℕ). helped_if (helps q f.ask) (all_unwound ls (state_of old))) r) reached helped
+    (λ f q r h. help ∙ (λ t. after_help_if (h t) (row t)) ∙ ap (λ (ls : List ℕ). after_help_if (helps q f.ask) (all_unwound ls (state_of old))) r) reached helped
 
 -- it is decided, and can be carried out
 abbrev pub Decides : World → ℕ → Decision → Type 0
@@ -146,13 +146,13 @@ module _ (old mid : World) (s : ℕ) (kept : Kept old) (e : is_some (standing_of
   pub mid_ready : (d : Decision) → Decides mid s d → IfSome (standing_of (frame_at mid.frames.items s)) (λ f. CanCommit (state_of mid) s f d)
   mid_ready d h = let c = caller old s kept.sound e in ready_there old mid s c.job c.call d (found_tries c d h)
 
-  pub trial_made : (new : World) (d : Decision) (p : Pace) → Decides mid s d → IfSome (standing_of (frame_at mid.frames.items s)) (λ f. state_of new ≡ committed (state_of mid) s f.site f.ask f.owes d)
+  pub trial_made : (new : World) (d : Decision) (p : Pace) → Decides mid s d → IfSome (standing_of (frame_at mid.frames.items s)) (λ f. state_of new ≡ after_commit (state_of mid) s f.site f.ask f.owes d)
       → p ≡ pace_of d → IfSome (raw_at old.files old.core old.jobs old.alarms.items s) (λ q. tick_in (state_of old) s q (frame_at old.frames.items s) ≡ ticked (state_of new) p)
   trial_made new d p h carried pace =
       let c = caller old s kept.sound e in
       let t = found_tries c d h in
-      let made : state_of new ≡ committed (state_of mid) s c.call.site c.call.ask c.call.owes d =
-      subst (λ (o : Option Holding). IfSome o (λ f. state_of new ≡ committed (state_of mid) s f.site f.ask f.owes d)) (ap standing_of (sym (frame_is mid s)) ∙ (found c).stands) carried in
+      let made : state_of new ≡ after_commit (state_of mid) s c.call.site c.call.ask c.call.owes d =
+      subst (λ (o : Option Holding). IfSome o (λ f. state_of new ≡ after_commit (state_of mid) s f.site f.ask f.owes d)) (ap standing_of (sym (frame_is mid s)) ∙ (found c).stands) carried in
       subst (λ (o : Option Whole). IfSome o (λ q. tick_in (state_of old) s q (frame_at old.frames.items s) ≡ ticked (state_of new) p)) (sym c.calls.raw ∙ raw_is old s)
       (ap (tick_in (state_of old) s c.job) (sym (frame_is old s)) ∙ t.row ∙ (λ i. record { state = sym made i; pace = sym pace i }))
 

@@ -18,7 +18,7 @@ use Rattle.its_files.specs.Files.{Store, directory}
 use Rattle.its_jobs.specs.Table.{Table, job_at, superior_at}
 use Rattle.its_frame.specs.declared.change.Change.TheVariants as changes
 use Rattle.its_frame.specs.declared.frame.Frame.{Frame}
-use Rattle.its_plain.specs.CallStep.{among, becomes, faulted, informs, informed_slots}
+use Rattle.its_plain.specs.CallStep.{among, with_core_and_job, with_fault, informs, informed_slots}
 use Rattle.its_plain.specs.Change.{effect, with_inf}
 use Rattle.its_plain.specs.Interrupt.{Delivered, delivered}
 use Rattle.its_plain.specs.Job.{bit_of, with_pending}
@@ -31,7 +31,7 @@ use Rattle.its_stepped.specs.Duty.{GivenBy}
 use Rattle.its_stepped.specs.SlotSame.{SlotSame}
 use Rattle.its_stepped.specs.Sound.{Sound}
 use Rattle.its_stepped.specs.State.{State, entered, same, with_slot}
-use Rattle.its_stepped.specs.Tick.{delivered_on, steps, unit_on, works}
+use Rattle.its_stepped.specs.Tick.{after_delivery, steps, unit_on, works}
 use Rattle.its_stepped.specs.Unwind.{all_unwound, unwound}
 use Rattle.its_stepped.proofs.DecodingLaws.{decoding}
 use Rattle.its_stepped.proofs.FrameLaws.{on_slot_other}
@@ -147,7 +147,7 @@ put_same w s c i j named places size count nodes heads_are limit number had core
     ∙ (λ t. record w { core = core t; jobs = record w.jobs { jobs = put_back w.jobs s j (had ∙ ap Some (sym job)) t } })
 
 -- what a unit leaves of a job is its row
-pub becomes_raw : (s : Store) (c d : Core) (superior : Option ℕ) (a : Option (ℕ × ℕ)) (i k : Job) → k.channels ≡ i.channels → becomes d (bare k) (raw_job s c i superior a) ≡ raw_job s d k superior a
+pub becomes_raw : (s : Store) (c d : Core) (superior : Option ℕ) (a : Option (ℕ × ℕ)) (i k : Job) → k.channels ≡ i.channels → with_core_and_job d (bare k) (raw_job s c i superior a) ≡ raw_job s d k superior a
 becomes_raw s c d superior a i k h = λ t. record { core = d; job = bare k; superior = superior; channels = λ n. chan_of s (slice_index_or (sym h t) n channels.Closed); alarm = a }
 
 left_becomes : (old new : World) (s : ℕ) (l m : Left) → l ≡ m → frame_at old.frames.items s ≡ None → Becomes old new s m.core (Some m.job) (frame_at old.frames.items s) (clear_at old.core s)
@@ -161,11 +161,11 @@ left_row : (old new : World) (s : ℕ) (i : Job) (o : Outcome) (l : Left) → jo
     → unit_on (state_of old) s (bare_outcome o) ≡ ticked (state_of new) Step
 left_row old new s i (Changed d k) l had none u is b =
     let e : record { core = d; job = k } ≡ l = cc in
-    ap steps (sym (turned_state old new s d k i None (becomes d (bare k)) (left_becomes old new s (record { core = d; job = k }) l e none b) had
+    ap steps (sym (turned_state old new s d k i None (with_core_and_job d (bare k)) (left_becomes old new s (record { core = d; job = k }) l e none b) had
     (becomes_raw old.files (core_at old.core s) d (superior_at old.jobs s) (alarm_at old.alarms.items s) i k (unit_channels (core_at old.core s) d i k u))))
 left_row old new s i (Faulted f) l had none u is b =
     let e : record { core = core_at old.core s; job = with_pending i (bit_of f) } ≡ l = cc in
-    ap steps (sym (turned_state old new s (core_at old.core s) (with_pending i (bit_of f)) i None (faulted f)
+    ap steps (sym (turned_state old new s (core_at old.core s) (with_pending i (bit_of f)) i None (with_fault f)
     (left_becomes old new s (record { core = core_at old.core s; job = with_pending i (bit_of f) }) l e none b) had refl))
 left_row old new s i (Called x) l had none u is b = absurd cc
 
@@ -228,8 +228,8 @@ put_at old new s j k is h = subst (λ (r : Option Job). IfSome r (λ i. JobBecom
 
 -- a delivery that does not stop the job
 delivered_by : (w : State) (s : ℕ) (q : Whole) (b : Bool) (d : Delivered) → d.stops ≡ b
-    → with_slot (effects_on (informs b q.superior) s (all_unwound (informed_slots b q.superior) w)) s (becomes d.core d.job) None ≡ delivered_on w s q d
-delivered_by w s q b d e = ap (λ (x : Bool). with_slot (effects_on (informs x q.superior) s (all_unwound (informed_slots x q.superior) w)) s (becomes d.core d.job) None) (sym e)
+    → with_slot (effects_on (informs b q.superior) s (all_unwound (informed_slots b q.superior) w)) s (with_core_and_job d.core d.job) None ≡ after_delivery w s q d
+delivered_by w s q b d e = ap (λ (x : Bool). with_slot (effects_on (informs x q.superior) s (all_unwound (informed_slots x q.superior) w)) s (with_core_and_job d.core d.job) None) (sym e)
 
 nobody_unwound : (w : State) (o : Option ℕ) → all_unwound (informed_slots false o) w ≡ w
 unfolding all_unwound
@@ -238,18 +238,18 @@ nobody_unwound w o = refl
 pub delivery_done : (old mid new : World) (s : ℕ) (i j : Job) → job_at old.jobs s ≡ Some i → frame_at old.frames.items s ≡ None
     → CoreBecomes old mid s (delivered (core_at old.core s) i).core → j ≡ (delivered (core_at old.core s) i).job
     → IfSome (job_at mid.jobs s) (λ k. JobBecomes mid new s (with_channels k.channels j)) → (delivered (core_at old.core s) i).stops ≡ false
-    → IfSome (raw_at old.files old.core old.jobs old.alarms.items s) (λ q. state_of new ≡ delivered_on (state_of old) s q (delivered q.core q.job))
+    → IfSome (raw_at old.files old.core old.jobs old.alarms.items s) (λ q. state_of new ≡ after_delivery (state_of old) s q (delivered q.core q.job))
 delivery_done old mid new s i j had none a e b quiet =
     let d : Delivered = delivered (core_at old.core s) i in
     let q : Whole = raw_job old.files (core_at old.core s) i (superior_at old.jobs s) (alarm_at old.alarms.items s) in
     let put : JobBecomes mid new s d.job = subst (JobBecomes mid new s) (ap (with_channels i.channels) e ∙ channels_kept (core_at old.core s) i) (put_at mid new s j i (a.job.here ∙ had) b) in
-    raw_fact (λ q. state_of new ≡ delivered_on (state_of old) s q (delivered q.core q.job)) old s i had
-    (turned_state old new s d.core d.job i None (becomes d.core (bare d.job))
+    raw_fact (λ q. state_of new ≡ after_delivery (state_of old) s q (delivered q.core q.job)) old s i had
+    (turned_state old new s d.core d.job i None (with_core_and_job d.core (bare d.job))
     (subst (λ (f : Option Frame). Becomes old new s d.core (Some d.job) f (clear_at old.core s)) none (put_then old mid new s d.core d.job a put)) had
     (becomes_raw old.files (core_at old.core s) d.core (superior_at old.jobs s) (alarm_at old.alarms.items s) i d.job (delivered_channels (core_at old.core s) i))
-    ∙ ap (λ (v : State). with_slot v s (becomes d.core (bare d.job)) None) (sym (nobody_unwound (state_of old) (superior_at old.jobs s)))
+    ∙ ap (λ (v : State). with_slot v s (with_core_and_job d.core (bare d.job)) None) (sym (nobody_unwound (state_of old) (superior_at old.jobs s)))
     ∙ delivered_by (state_of old) s q false (bare_delivered d) quiet
-    ∙ ap (delivered_on (state_of old) s q) (sym (delivered_bare (core_at old.core s) i)))
+    ∙ ap (after_delivery (state_of old) s q) (sym (delivered_bare (core_at old.core s) i)))
 
 -- a delivery that stops the job leaves its core
 all_same : {X : Type 0} (f g : ℕ → X) (s : ℕ) → Only f g s (f s) → (k : ℕ) → g k ≡ f k
@@ -362,7 +362,7 @@ stop_stands old mid after s i had none kept b stops row = let h = stop_still old
 -- its registers are written then. (Files have no numbers in a state, so what unwinding says of a state does not say
 -- that its channels have the same ones: they are those of the world)
 still_becomes : (w : World) (s : ℕ) (q : Whole) (d : Delivered) (h : Still w s q) → d.core ≡ q.core
-    → becomes d.core (bare d.job) (raw_job w.files (core_at w.core s) h.job (superior_at w.jobs s) (alarm_at w.alarms.items s))
+    → with_core_and_job d.core (bare d.job) (raw_job w.files (core_at w.core s) h.job (superior_at w.jobs s) (alarm_at w.alarms.items s))
     ≡ raw_job w.files (core_at w.core s) (with_channels h.job.channels d.job) (superior_at w.jobs s) (alarm_at w.alarms.items s)
 still_becomes w s q d h e =
     let core : d.core ≡ core_at w.core s = e ∙ sym (ap (λ (p : Whole). p.core) h.raw) in
@@ -372,7 +372,7 @@ pub stop_done : (old mid after new : World) (s : ℕ) (i j : Job) → job_at old
     → CoreBecomes old mid s (delivered (core_at old.core s) i).core → (delivered (core_at old.core s) i).stops ≡ true
     → state_of after ≡ told_on (state_of mid) s (superior_at mid.jobs s)
     → j ≡ (delivered (core_at old.core s) i).job → IfSome (job_at after.jobs s) (λ k. JobBecomes after new s (with_channels k.channels j))
-    → IfSome (raw_at old.files old.core old.jobs old.alarms.items s) (λ q. state_of new ≡ delivered_on (state_of old) s q (delivered q.core q.job))
+    → IfSome (raw_at old.files old.core old.jobs old.alarms.items s) (λ q. state_of new ≡ after_delivery (state_of old) s q (delivered q.core q.job))
 stop_done old mid after new s i j had none kept b stops row e put =
     let c : Core = core_at old.core s in
     let d : Delivered = delivered c i in
@@ -380,10 +380,10 @@ stop_done old mid after new s i j had none kept b stops row e put =
     let h = stop_still old mid after s i had none kept b stops row in
     let k : Job = with_channels h.still.job.channels d.job in
     let written : JobBecomes after new s k = subst (λ (x : Job). JobBecomes after new s (with_channels h.still.job.channels x)) e (put_at after new s j h.still.job h.still.had put) in
-    raw_fact (λ q. state_of new ≡ delivered_on (state_of old) s q (delivered q.core q.job)) old s i had
-    (turned_state after new s (core_at after.core s) k h.still.job None (becomes d.core (bare d.job))
+    raw_fact (λ q. state_of new ≡ after_delivery (state_of old) s q (delivered q.core q.job)) old s i had
+    (turned_state after new s (core_at after.core s) k h.still.job None (with_core_and_job d.core (bare d.job))
     (subst (λ (f : Option Frame). Becomes after new s (core_at after.core s) (Some k) f (clear_at after.core s)) h.frame written) h.still.had
     (still_becomes after s q d h.still (delivered_stops c i stops))
-    ∙ ap (λ (v : State). with_slot v s (becomes d.core (bare d.job)) None) h.row
+    ∙ ap (λ (v : State). with_slot v s (with_core_and_job d.core (bare d.job)) None) h.row
     ∙ delivered_by (state_of old) s q true (bare_delivered d) stops
-    ∙ ap (delivered_on (state_of old) s q) (sym (delivered_bare c i)))
+    ∙ ap (after_delivery (state_of old) s q) (sym (delivered_bare c i)))

@@ -23,11 +23,11 @@ use Rattle.its_plain.specs.CallStep.{decision}
 use Rattle.its_plain.specs.Decide.{call_named, listed, target, reach_by, reach}
 use Rattle.its_plain.specs.Machine.{Whole, Machine}
 use Rattle.its_plain.specs.Reasons.{held_up}
-use Rattle.its_stepped.specs.Commit.{committed}
+use Rattle.its_stepped.specs.Commit.{after_commit}
 use Rattle.its_stepped.specs.Forest.{Forest}
 use Rattle.its_stepped.specs.Sound.{Sound, IsWaitable}
 use Rattle.its_stepped.specs.State.{State, plain, seen, same, waiting}
-use Rattle.its_stepped.specs.Tick.{tick_in, tick, tried, prepared_for, helps, helped_if}
+use Rattle.its_stepped.specs.Tick.{tick_in, tick, tried, with_preparation, helps, after_help_if}
 use Rattle.its_stepped.specs.Unwind.{all_unwound}
 use Rattle.its_stepped.proofs.ConsoledLaws.{raw_consoled}
 use Rattle.its_stepped.proofs.TriedLaws.{waits_unreached}
@@ -54,9 +54,9 @@ use Rattle.its_tick.proofs.TickLaws.{runs_by}
 -- its tick, which leaves all as it was
 waits_row : (w : State) (s : ℕ) (q : Whole) (f : Waiting) (r : Wait) → w.raw.jobs s ≡ Some q → w.frames s ≡ Some (frames.Waiting f)
     → decision (plain w) s (seen (Some (frames.Waiting f)) q) f.ask ≡ Waits r → tick_in w s q (Some (frames.Waiting f)) ≡ ticked w Waited
-unfolding committed
+unfolding after_commit
 waits_row w s q f r is fr d =
-    ap (tried w (prepared_for w s (seen (Some (frames.Waiting f)) q) f.ask) s f.site f.ask f.owes) d
+    ap (tried w (with_preparation w s (seen (Some (frames.Waiting f)) q) f.ask) s f.site f.ask f.owes) d
     ∙ ap (λ (v : State). ticked v Waited) (sym (slot_nothing w s q same (Some (waiting f.site f.ask f.owes)) is refl fr))
 
 record IsWaiting (o : Option Frame) : Type 0 where
@@ -94,7 +94,7 @@ pages_waits : (w : State) (j : ℕ) (q : Whole) (f : Waiting) (g : Frames) (r : 
     → decision (plain w) j (seen (Some (frames.Waiting f)) q) f.ask ≡ Waits r → pages_in w j q (Some (frames.Waiting f)) g ≡ g
 pages_waits w j q f g r sound forest is housed fr e =
     let h : Holding = record { site = f.site; ask = f.ask; page = None; owes = f.owes } in
-    let v : State = helped_if (helps q f.ask) (all_unwound (reach w.raw j q f.ask) w) in
+    let v : State = after_help_if (helps q f.ask) (all_unwound (reach w.raw j q f.ask) w) in
     let t = tries w v j q h (decision v.raw j q f.ask) sound forest is housed (ap standing_of fr) tt refl refl in
     let d : decision v.raw j q f.ask ≡ Waits r = sym t.decides ∙ ap (λ (o : Option Frame). decision (plain w) j (seen o q) f.ask) fr ∙ e in
     let k = sound_at w j q (frames.Waiting f) sound is fr in
@@ -158,7 +158,7 @@ waits_by w s f (Some j) kept job fr e =
     let row : tick (state_of w) s ≡ tick_in (state_of w) s q (Some (frames.Waiting f)) =
     runs_by w s j (Some (frames.Waiting f)) (tick_in (state_of w) s q (Some (frames.Waiting f))) job k.runs fr
     (subst (λ (o : Option Whole). IfSome o (λ p. tick_in (state_of w) s p (Some (frames.Waiting f)) ≡ tick_in (state_of w) s q (Some (frames.Waiting f)))) (sym (raw_some w s j job)) refl) in
-    let d = tried_waits (state_of w) (prepared_for (state_of w) s own f.ask) s f.site f.ask f.owes (decision (plain (state_of w)) s own f.ask) (ap (λ t. t.pace) (sym row) ∙ e) in
+    let d = tried_waits (state_of w) (with_preparation (state_of w) s own f.ask) s f.site f.ask f.owes (decision (plain (state_of w)) s own f.ask) (ap (λ t. t.pace) (sym row) ∙ e) in
     let p = waits_place w s j f d.0 kept.sound kept.forest job fr d.1 (housed_at w s j kept.consoled job) in
     record { ring = ring_of d.0; within = ring_within d.0 p.1; here = stands_here w.rings.lists s (ring_of d.0) (wait_list_of w s) (kept.tidy.ringed.each s) p.0 }
 waits_by w s f None kept job fr e = let n = sym (frame_none w s kept.sound job) ∙ fr in absurd cc

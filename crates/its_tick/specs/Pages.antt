@@ -11,7 +11,7 @@ use Rattle.its_plain.specs.Decide.{reach}
 use Rattle.its_plain.specs.Interrupt.{deliverable, delivered}
 use Rattle.its_plain.specs.Machine.{Whole}
 use Rattle.its_stepped.specs.State.{State}
-use Rattle.its_stepped.specs.Tick.{helped_if, helps, quarters, reserves}
+use Rattle.its_stepped.specs.Tick.{after_help_if, helps, quarters, reserves}
 use Rattle.its_stepped.specs.Unwind.{all_unwound, unwind_one}
 use Rattle.its_world.specs.World.{frames_after}
 use Rattle.its_commit.specs.Pages.{pages_carried}
@@ -20,7 +20,7 @@ use Rattle.its_pclsr.specs.Pages.{pages_unwound}
 -- a call is tried: those that it reaches are unwound, and its decision is then carried out
 abbrev pub pages_tried : State → ℕ → Whole → Ask → Frames → Frames
 pages_tried w j q a f =
-    let v = helped_if (helps q a) (all_unwound (reach w.raw j q a) w) in pages_carried (decision v.raw j q a) j v (pages_unwound (reach w.raw j q a) w f)
+    let v = after_help_if (helps q a) (all_unwound (reach w.raw j q a) w) in pages_carried (decision v.raw j q a) j v (pages_unwound (reach w.raw j q a) w f)
 
 abbrev pub pages_held : State → ℕ → Whole → Ask → Option ℕ → Frames → Frames
 pages_held w j q a None f = pages_tried w j q a f

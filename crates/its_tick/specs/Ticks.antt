@@ -17,7 +17,7 @@ pub use Rattle.its_commit.specs.Carried.{pace_of}
 pub use Rattle.pdp_exec.specs.Units.{Left, left, after_outcome, unit_unless, after_unit, after_units}
 use Rattle.its_frame.specs.declared.name.CallName.{CallName}
 use Rattle.its_frame.specs.declared.name.CallName.TheVariants.{Logout, Uclose}
-use Rattle.its_plain.specs.CallStep.{faulted}
+use Rattle.its_plain.specs.CallStep.{with_fault}
 use Rattle.its_plain.specs.Change.{superiors}
 use Rattle.its_plain.specs.Decide.{call_named, listed, with_below}
 use Rattle.its_plain.specs.Machine.{Machine, Whole}
@@ -87,7 +87,7 @@ asked_in _ = None
 -- a part of the decoding, whose frame is there: at a fault its bit is set
 abbrev pub state_decoded : State → ℕ → Result (Unit {0}) Fault → State
 state_decoded w s (Ok u) = w
-state_decoded w s (Err f) = with_slot w s (faulted f) None
+state_decoded w s (Err f) = with_slot w s (with_fault f) None
 
 abbrev pub pace_decoded : Result (Unit {0}) Fault → Pace
 pace_decoded (Ok u) = Work

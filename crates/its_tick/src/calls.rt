@@ -7,7 +7,7 @@ ghost use Rattle.its_core.specs.Cores.{clear_at};
 ghost use Rattle.its_jobs.specs.Table.{job_at};
 ghost use Rattle.its_world.specs.Tidy.{Tidy};
 ghost use Rattle.its_commit.specs.Carried.{standing_of};
-ghost use Rattle.its_plain.specs.CallStep.{decision, faulted};
+ghost use Rattle.its_plain.specs.CallStep.{decision, with_fault};
 ghost use Rattle.its_stepped.specs.Forest.{Forest};
 ghost use Rattle.its_stepped.specs.Duty.{IsTried};
 ghost use Rattle.its_stepped.specs.State.{with_slot};
@@ -128,7 +128,7 @@ fn set_fault(w: &mut World, slot: u8, fault: Fault)
     requires job { is_some (job_at w.old.jobs slot) ≡ true }
     requires frame { frame_at w.old.frames.items slot ≡ None }
     requires tidy { Tidy w.old }
-    ensures row { state_of w.new ≡ with_slot (state_of w.old) slot (faulted fault) None }
+    ensures row { state_of w.new ≡ with_slot (state_of w.old) slot (with_fault fault) None }
     ensures pages { w.new.core.frames ≡ w.old.core.frames }
     ensures tidy { Tidy w.new }
 {

@@ -9,7 +9,7 @@ ghost use Rattle.its_pclsr.specs.Pages.{pages_unwound};
 ghost use Rattle.its_plain.specs.Decide.{reach};
 ghost use Rattle.its_stepped.specs.Forest.{Forest};
 ghost use Rattle.its_stepped.specs.Duty.{IsTried};
-ghost use Rattle.its_stepped.specs.Tick.{helped_if, helps};
+ghost use Rattle.its_stepped.specs.Tick.{after_help_if, helps};
 ghost use Rattle.its_stepped.specs.Unwind.{all_unwound, help};
 ghost use Rattle.its_world.specs.World.{frame_at, raw_at, state_of};
 ghost use Rattle.its_tick.specs.Kept.{Kept};
@@ -36,7 +36,7 @@ pub fn make_ready(w: &mut World, slot: u8)
     requires slot { slot < slots }
     requires kept { Kept w.old }
     requires stands { is_some (standing_of (frame_at w.old.frames.items slot)) ≡ true }
-    ensures row { IfSome (standing_of (frame_at w.old.frames.items slot)) (λ f. IfSome (raw_at w.old.files w.old.core w.old.jobs w.old.alarms.items slot) (λ q. state_of w.new ≡ helped_if (helps q f.ask) (all_unwound (reach (state_of w.old).raw slot q f.ask) (state_of w.old)))) }
+    ensures row { IfSome (standing_of (frame_at w.old.frames.items slot)) (λ f. IfSome (raw_at w.old.files w.old.core w.old.jobs w.old.alarms.items slot) (λ q. state_of w.new ≡ after_help_if (helps q f.ask) (all_unwound (reach (state_of w.old).raw slot q f.ask) (state_of w.old)))) }
     ensures pages { IfSome (standing_of (frame_at w.old.frames.items slot)) (λ f. IfSome (raw_at w.old.files w.old.core w.old.jobs w.old.alarms.items slot) (λ q. w.new.core.frames ≡ pages_unwound (reach (state_of w.old).raw slot q f.ask) (state_of w.old) w.old.core.frames)) }
     ensures tidy { Tidy w.new }
 {
@@ -107,7 +107,7 @@ fn is_on_files(w: &World, slot: u8, ask: &Ask, call: CallName) -> bool
 #[tactic(auto, using(crate::proofs::HelpLaws::help_spared))]
 fn help_if(w: &mut World, on_files: bool)
     requires tidy { Tidy w.old }
-    ensures row { state_of w.new ≡ helped_if on_files (state_of w.old) }
+    ensures row { state_of w.new ≡ after_help_if on_files (state_of w.old) }
     ensures core { w.new.core ≡ w.old.core }
     ensures tidy { Tidy w.new }
 {

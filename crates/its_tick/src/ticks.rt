@@ -5,7 +5,7 @@ ghost use Rattle.its_plain.specs.Licence.{Licensed};
 ghost use Rattle.its_plain.specs.Turns.{runs};
 ghost use Rattle.its_stepped.specs.State.{plain};
 ghost use Rattle.its_stepped.specs.Tick.{tick as tick_of};
-ghost use Rattle.its_stepped.specs.Lines.{paces_of, ticked as so_many};
+ghost use Rattle.its_stepped.specs.Lines.{paces_of, after_ticks as so_many};
 ghost use Rattle.its_world.specs.Filed.{Blocked};
 ghost use Rattle.its_world.specs.World.{frame_at, state_of};
 ghost use Rattle.its_tick.specs.Kept.{Kept};

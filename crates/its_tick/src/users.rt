@@ -9,7 +9,7 @@ ghost use Rattle.its_plain.specs.Interrupt.{deliverable, delivered};
 ghost use Rattle.its_plain.specs.Unit.{Called, unit as unit_of};
 ghost use Rattle.its_stepped.specs.Commit.{effects_on};
 ghost use Rattle.its_stepped.specs.Sound.{Sound};
-ghost use Rattle.its_stepped.specs.Tick.{delivered_on, unit_on};
+ghost use Rattle.its_stepped.specs.Tick.{after_delivery, unit_on};
 ghost use Rattle.its_stepped.specs.Unwind.{all_unwound};
 ghost use Rattle.its_world.specs.World.{state_of, frame_at, raw_at, CoreBecomes, JobBecomes};
 ghost use Rattle.its_tick.specs.Kept.{Kept};
@@ -35,7 +35,7 @@ pub fn deliver_to(w: &mut World, slot: u8, job: Job)
     requires job { job_at w.old.jobs slot ≡ Some job }
     requires frame { frame_at w.old.frames.items slot ≡ None }
     requires deliverable { deliverable job ≡ true }
-    ensures row { IfSome (raw_at w.old.files w.old.core w.old.jobs w.old.alarms.items slot) (λ q. state_of w.new ≡ delivered_on (state_of w.old) slot q (delivered q.core q.job)) }
+    ensures row { IfSome (raw_at w.old.files w.old.core w.old.jobs w.old.alarms.items slot) (λ q. state_of w.new ≡ after_delivery (state_of w.old) slot q (delivered q.core q.job)) }
     ensures pages { IfSome (raw_at w.old.files w.old.core w.old.jobs w.old.alarms.items slot) (λ q. w.new.core.frames ≡ pages_unwound (informed_slots (delivered q.core q.job).stops q.superior) (state_of w.old) w.old.core.frames) }
     ensures tidy { Tidy w.new }
 {

@@ -11,7 +11,7 @@ use Rattle.its_plain.specs.Operator.{Block}
 use Rattle.its_plain.specs.OperatorLines.{operate, lined}
 use Rattle.its_plain.specs.Turns.{runs, turn_after, turns_asked, ticks_asked}
 use Rattle.its_stepped.specs.State.{State}
-use Rattle.its_stepped.specs.Lines.{Told, calmed, paces_of, ticked, turned_by, turned, told}
+use Rattle.its_stepped.specs.Lines.{Told, after_calm, paces_of, after_ticks, turned_by, turned, told}
 use Rattle.its_top.specs.declared.flow.Flow.{Flow}
 use Rattle.its_top.specs.declared.flow.Flow.TheVariants as flows
 use Rattle.its_top.specs.Telling.{Says, said, after, BeginsText, line_says, session_says, Answers, FollowsBy, CircledBy, goes_on}
@@ -43,7 +43,7 @@ line_follows flow n v v' b b' i e old new none a = record { wrote = a.wrote; app
 -- RUN, and its turns
 run_says : (n : ℕ) (v : State) (b : Block) (i k q : ℕ) (items : List Item)
     → session_says n v b i (Read (events.Run k q) ∷ items) ≡ said (turned k q v i (λ x l. told (n + 1) x b l items))
-unfolding session_says calmed lined operate
+unfolding session_says after_calm lined operate
 run_says n v b i k q items = refl
 
 run_by : (flow : Flow) (n : ℕ) (v v' : State) (b : Block) (i j k q : ℕ) (w : List ℕ) → CircledBy flow v i k q v' j w → FollowsBy flow n v b i (events.Run k q) v' b j w
@@ -67,21 +67,21 @@ circle_start v i n q out = record {
 
 -- a turn of slot s
 turn_says : (k q : ℕ) (v : State) (i s : ℕ) (next : State → ℕ → Told) → turn_after v.raw i ≡ Some s
-    → said (turned (suc k) q v i next) ≡ after (text_of_line (printed.Ticks s (paces_of v s q))) (said (turned k q (ticked v s q) s next))
+    → said (turned (suc k) q v i next) ≡ after (text_of_line (printed.Ticks s (paces_of v s q))) (said (turned k q (after_ticks v s q) s next))
 turn_says k q v i s next e =
-    let rest = turned k q (ticked v s q) s next in
+    let rest = turned k q (after_ticks v s q) s next in
     ap (λ o. said (turned_by o q v (λ x l. turned k q x l next) (next v i))) e
     ∙ said_telling (printed.Ticks s (paces_of v s q) ∷ []) rest
     ∙ ap (λ t. after t (said rest)) (text_one (printed.Ticks s (paces_of v s q)))
 
 turns_left : (n k q : ℕ) (now : State) (j s : ℕ) (next : State → ℕ → Told) → k < n → turn_after now.raw j ≡ Some s
-    → said (turned (n - k) q now j next) ≡ after (text_of_line (printed.Ticks s (paces_of now s q))) (said (turned (n - (k + 1)) q (ticked now s q) s next))
+    → said (turned (n - k) q now j next) ≡ after (text_of_line (printed.Ticks s (paces_of now s q))) (said (turned (n - (k + 1)) q (after_ticks now s q) s next))
 turns_left n k q now j s next below e =
     let one : n - k ≡ suc (n - (k + 1)) = omega arith in
     ap (λ x. said (turned x q now j next)) one ∙ turn_says (n - (k + 1)) q now j s next e
 
 pub circle_turn : (flow : Flow) (v now new : State) (i j s n k q : ℕ) (old mid out : Option (List ℕ)) → k < n → CircleSo v now i j n k q old mid → turn_after now.raw j ≡ Some s
-    → new ≡ ticked now s q → goes_on flow ≡ true → Tells flow flows.On (text_of_line (printed.Ticks s (paces_of now s q))) mid out → CircleSo v new i s n (k + 1) q old out
+    → new ≡ after_ticks now s q → goes_on flow ≡ true → Tells flow flows.On (text_of_line (printed.Ticks s (paces_of now s q))) mid out → CircleSo v new i s n (k + 1) q old out
 circle_turn flow v now new i j s n k q old mid out below c e f g t =
     let w = text_of_line (printed.Ticks s (paces_of now s q)) in
     let told_all : WroteFor flows.On flows.On w t.wrote = subst (λ x. WroteFor x flows.On w t.wrote) (on_of flow g) t.complete in
@@ -89,7 +89,7 @@ circle_turn flow v now new i j s n k q old mid out below c e f g t =
       wrote = c.wrote ++ t.wrote;
       appended = Appends-trans old mid out c.wrote t.wrote c.appended t.appended;
       says = λ next.
-          let rest = said (turned (n - (k + 1)) q (ticked now s q) s next) in
+          let rest = said (turned (n - (k + 1)) q (after_ticks now s q) s next) in
           c.says next
           ∙ ap (after c.wrote) (turns_left n k q now j s next below e)
           ∙ after_after c.wrote w rest
@@ -109,7 +109,7 @@ circled_by : (flow : Flow) (v now new : State) (i j s n k q : ℕ) (wrote bytes 
     → turn_after now.raw j ≡ Some s → goes_on flow ≡ false → bytes ≡ text_of_line (printed.Ticks s (paces_of now s q)) → WroteFor flow flows.On bytes part → CircledBy flow v i n q new s (wrote ++ part)
 circled_by flows.Fault v now new i j s n k q wrote bytes part below says e g h t = λ next.
     let w = text_of_line (printed.Ticks s (paces_of now s q)) in
-    let rest = said (turned (n - (k + 1)) q (ticked now s q) s next) in
+    let rest = said (turned (n - (k + 1)) q (after_ticks now s q) s next) in
     begun_by (said (turned n q v i next)) rest wrote part t.0
     (says next ∙ ap (after wrote) (turns_left n k q now j s next below e) ∙ after_after wrote w rest ∙ ap (λ x. after (wrote ++ x) rest) (sym h ∙ t.1))
 circled_by flows.On v now new i j s n k q wrote bytes part below says e g h t = cc

@@ -6,7 +6,7 @@ use Rattle.std.proofs.lemmas.List.{drop-drop, length-append, length-take-le, tak
 use Rattle.its_word.specs.Console.{Console, most_waiting}
 use Rattle.its_plain.specs.Machine.{Machine, changed}
 use Rattle.its_plain.specs.Change.{on_console}
-use Rattle.its_plain.specs.OperatorConsoles.{typed, dropped, drained}
+use Rattle.its_plain.specs.OperatorConsoles.{with_typed, dropped, after_drain}
 use Rattle.its_plain.proofs.MachineLaws.{machine_is}
 use Rattle.its_stepped.specs.State.{State}
 use Rattle.its_stepped.specs.Lines.{with_raw}
@@ -55,7 +55,7 @@ take_front zero xs ys = refl
 take_front (suc n) [] ys = refl
 take_front (suc n) (x ∷ xs) ys = ap (λ zs. x ∷ zs) (take_front n xs ys)
 
-typed_then : (m : Machine) (c : ℕ) (xs ys : List ℕ) → typed c ys (typed c xs m) ≡ typed c (xs ++ ys) m
+typed_then : (m : Machine) (c : ℕ) (xs ys : List ℕ) → with_typed c ys (with_typed c xs m) ≡ with_typed c (xs ++ ys) m
 typed_then m c xs ys =
     on_then m c (typed_by xs) (typed_by ys) (typed_by (xs ++ ys)) (λ x. ap (λ bs. record x { input = bs }) (take_front most_waiting (x.input ++ xs) ys ∙ ap (take most_waiting) (append_assoc x.input xs ys)))
 
@@ -79,26 +79,26 @@ typing_start v c bytes = record {
 
 -- byte k, which is b, was typed in state `now`, and gave state `next`
 typing_next : (v now next : State) (c k n i b : ℕ) (bytes : List ℕ) → k < length bytes → b ≡ slice_index bytes k → TypedSo v now c k n bytes (drop k bytes)
-    → Lands now next (Ok (typed c (b ∷ []) now.raw)) → i + dropped (next.raw.consoles c) (drop (k + 1) bytes) ≡ n + dropped (now.raw.consoles c) (drop k bytes)
+    → Lands now next (Ok (with_typed c (b ∷ []) now.raw)) → i + dropped (next.raw.consoles c) (drop (k + 1) bytes) ≡ n + dropped (now.raw.consoles c) (drop k bytes)
     → TypedSo v next c (k + 1) i bytes (drop (k + 1) bytes)
 typing_next v now next c k n i b bytes h e so d f =
-    let is : typed c (b ∷ []) now.raw ≡ next.raw = landed now next _ d in
+    let is : with_typed c (b ∷ []) now.raw ≡ next.raw = landed now next _ d in
     let rest : b ∷ drop (k + 1) bytes ≡ drop k bytes = ap (λ x. x ∷ drop (k + 1) bytes) e ∙ sym (front bytes k h) in
     record {
       raw = still v now next _ so.raw d;
-      whole = ap (typed c (drop (k + 1) bytes)) (sym is) ∙ typed_then now.raw c (b ∷ []) (drop (k + 1) bytes) ∙ ap (λ l. typed c l now.raw) rest ∙ so.whole;
+      whole = ap (with_typed c (drop (k + 1) bytes)) (sym is) ∙ typed_then now.raw c (b ∷ []) (drop (k + 1) bytes) ∙ ap (λ l. with_typed c l now.raw) rest ∙ so.whole;
       count = f ∙ so.count;
-      reached = λ z. ap (typed c []) (sym is) ∙ typed_then now.raw c (b ∷ []) [] ∙ is;
+      reached = λ z. ap (with_typed c []) (sym is) ∙ typed_then now.raw c (b ∷ []) [] ∙ is;
     }
 
 -- what waits then
-waits_now : (now next : State) (c b : ℕ) → Lands now next (Ok (typed c (b ∷ []) now.raw))
+waits_now : (now next : State) (c b : ℕ) → Lands now next (Ok (with_typed c (b ∷ []) now.raw))
     → length (next.raw.consoles c).input ≡ length (take most_waiting ((now.raw.consoles c).input ++ b ∷ []))
 waits_now now next c b d =
     ap (λ m. length (m.consoles c).input) (sym (landed now next _ d)) ∙ ap (λ x. length x.input) (console_here now.raw c (typed_by (b ∷ [])))
 
 pub typing_room : (v now next : State) (c k n i b : ℕ) (r : Bool) (bytes : List ℕ) → k < length bytes → b ≡ slice_index bytes k → TypedSo v now c k n bytes (drop k bytes)
-    → Lands now next (Ok (typed c (b ∷ []) now.raw)) → (IsTrue r ↔ (length (now.raw.consoles c).input < most_waiting)) → r ≡ true → i ≡ n
+    → Lands now next (Ok (with_typed c (b ∷ []) now.raw)) → (IsTrue r ↔ (length (now.raw.consoles c).input < most_waiting)) → r ≡ true → i ≡ n
     → TypedSo v next c (k + 1) i bytes (drop (k + 1) bytes)
 typing_room v now next c k n i b r bytes h e so d w t f =
     let room : length (now.raw.consoles c).input < most_waiting = w.0 t in
@@ -107,7 +107,7 @@ typing_room v now next c k n i b r bytes h e so d w t f =
     typing_next v now next c k n i b bytes h e so d (omega arith)
 
 pub typing_full : (v now next : State) (c k n i b : ℕ) (r : Bool) (bytes : List ℕ) → k < length bytes → b ≡ slice_index bytes k → TypedSo v now c k n bytes (drop k bytes)
-    → Lands now next (Ok (typed c (b ∷ []) now.raw)) → (IsTrue r ↔ (length (now.raw.consoles c).input < most_waiting)) → r ≡ false → i ≡ n + 1
+    → Lands now next (Ok (with_typed c (b ∷ []) now.raw)) → (IsTrue r ↔ (length (now.raw.consoles c).input < most_waiting)) → r ≡ false → i ≡ n + 1
     → TypedSo v next c (k + 1) i bytes (drop (k + 1) bytes)
 typing_full v now next c k n i b r bytes h e so d w t f =
     let full : most_waiting ≤ length (now.raw.consoles c).input = elim (cases_lt (length (now.raw.consoles c).input) most_waiting) [
@@ -119,17 +119,17 @@ typing_full v now next c k n i b r bytes h e so d w t f =
     typing_next v now next c k n i b bytes h e so d (omega arith)
 
 pub typing_end : (v now : State) (c k n : ℕ) (bytes rest : List ℕ) → 0 < k → rest ≡ [] → TypedSo v now c k n bytes rest
-    → (n ≡ dropped (v.raw.consoles c) bytes) × Lands v now (Ok (typed c bytes v.raw))
+    → (n ≡ dropped (v.raw.consoles c) bytes) × Lands v now (Ok (with_typed c bytes v.raw))
 typing_end v now c k n bytes rest h e so = (
   let z : length rest ≡ 0 = ap length e in omega (arith, z, so.count),
-  record { is = ap Ok (sym so.whole ∙ ap (λ l. typed c l now.raw) e ∙ so.reached h); rest = so.raw },
+  record { is = ap Ok (sym so.whole ∙ ap (λ l. with_typed c l now.raw) e ∙ so.reached h); rest = so.raw },
 )
 
 -- bytes that are drained one after another
 abbrev drained_by : ℕ → Console → Console
 drained_by n x = record x { output = drop n x.output }
 
-drained_then : (m : Machine) (c j : ℕ) → drained c j (drained c 1 m) ≡ drained c (1 + j) m
+drained_then : (m : Machine) (c j : ℕ) → after_drain c j (after_drain c 1 m) ≡ after_drain c (1 + j) m
 drained_then m c j = on_then m c (drained_by 1) (drained_by j) (drained_by (1 + j)) (λ x. ap (λ bs. record x { output = bs }) (drop-drop j 1 x.output))
 
 taken_none : (j : ℕ) (xs : List ℕ) → None ≡ slice_get xs 0 → take j (drop 1 xs) ≡ take (suc j) xs
@@ -144,26 +144,26 @@ taken_some j b (x ∷ xs) h = let e : b ≡ x = cc in ap (λ y. y ∷ take j xs)
 pub draining_start : (v : State) (c n : ℕ) → DrainedSo v v c n 0 []
 draining_start v c n = let e : n - 0 ≡ n = omega arith in record {
   raw = refl;
-  whole = ap (λ k. drained c k v.raw) e;
+  whole = ap (λ k. after_drain c k v.raw) e;
   taken = ap (λ k. take k (v.raw.consoles c).output) e;
 }
 
-draining_next : (v now next : State) (c n k : ℕ) (bytes more : List ℕ) → k < n → DrainedSo v now c n k bytes → Lands now next (Ok (drained c 1 now.raw))
+draining_next : (v now next : State) (c n k : ℕ) (bytes more : List ℕ) → k < n → DrainedSo v now c n k bytes → Lands now next (Ok (after_drain c 1 now.raw))
     → more ++ take (n - (k + 1)) (drop 1 (now.raw.consoles c).output) ≡ bytes ++ take (suc (n - (k + 1))) (now.raw.consoles c).output
     → DrainedSo v next c n (k + 1) more
 draining_next v now next c n k bytes more h so d f =
-    let is : drained c 1 now.raw ≡ next.raw = landed now next _ d in
+    let is : after_drain c 1 now.raw ≡ next.raw = landed now next _ d in
     let e : suc (n - (k + 1)) ≡ n - k = omega arith in
     let left : 1 + (n - (k + 1)) ≡ n - k = omega arith in
     record {
       raw = still v now next _ so.raw d;
-      whole = ap (drained c (n - (k + 1))) (sym is) ∙ drained_then now.raw c (n - (k + 1)) ∙ ap (λ j. drained c j now.raw) left ∙ so.whole;
+      whole = ap (after_drain c (n - (k + 1))) (sym is) ∙ drained_then now.raw c (n - (k + 1)) ∙ ap (λ j. after_drain c j now.raw) left ∙ so.whole;
       taken = ap (λ m. more ++ take (n - (k + 1)) (m.consoles c).output) (sym is)
           ∙ ap (λ x. more ++ take (n - (k + 1)) x.output) (console_here now.raw c (drained_by 1))
           ∙ f ∙ ap (λ j. bytes ++ take j (now.raw.consoles c).output) e ∙ so.taken;
     }
 
-pub draining_some : (v now next : State) (c n k b : ℕ) (bytes more : List ℕ) → k < n → DrainedSo v now c n k bytes → Lands now next (Ok (drained c 1 now.raw))
+pub draining_some : (v now next : State) (c n k b : ℕ) (bytes more : List ℕ) → k < n → DrainedSo v now c n k bytes → Lands now next (Ok (after_drain c 1 now.raw))
     → Some b ≡ slice_get (now.raw.consoles c).output 0 → more ≡ bytes ++ b ∷ [] → DrainedSo v next c n (k + 1) more
 draining_some v now next c n k b bytes more h so d e f =
     let j = n - (k + 1) in
@@ -171,7 +171,7 @@ draining_some v now next c n k b bytes more h so d e f =
     (ap (λ l. l ++ take j (drop 1 (now.raw.consoles c).output)) f ∙ append_assoc bytes (b ∷ []) (take j (drop 1 (now.raw.consoles c).output))
     ∙ ap (λ l. bytes ++ l) (taken_some j b (now.raw.consoles c).output e))
 
-pub draining_none : (v now next : State) (c n k : ℕ) (bytes more : List ℕ) → k < n → DrainedSo v now c n k bytes → Lands now next (Ok (drained c 1 now.raw))
+pub draining_none : (v now next : State) (c n k : ℕ) (bytes more : List ℕ) → k < n → DrainedSo v now c n k bytes → Lands now next (Ok (after_drain c 1 now.raw))
     → None ≡ slice_get (now.raw.consoles c).output 0 → more ≡ bytes → DrainedSo v next c n (k + 1) more
 draining_none v now next c n k bytes more h so d e f =
     let j = n - (k + 1) in
@@ -179,9 +179,9 @@ draining_none v now next c n k bytes more h so d e f =
     (ap (λ l. l ++ take j (drop 1 (now.raw.consoles c).output)) f ∙ ap (λ l. bytes ++ l) (taken_none j (now.raw.consoles c).output e))
 
 pub draining_end : (v now : State) (c n k : ℕ) (bytes : List ℕ) → k ≡ n → DrainedSo v now c n k bytes
-    → (bytes ≡ take n (v.raw.consoles c).output) × Lands v now (Ok (drained c n v.raw))
+    → (bytes ≡ take n (v.raw.consoles c).output) × Lands v now (Ok (after_drain c n v.raw))
 draining_end v now c n k bytes e so =
     let z : n - k ≡ 0 = omega arith in (
       sym (ap (λ j. bytes ++ take j (now.raw.consoles c).output) z ∙ append-nil bytes) ∙ so.taken,
-      record { is = ap Ok (sym so.whole ∙ ap (λ j. drained c j now.raw) z ∙ on_same now.raw c); rest = so.raw },
+      record { is = ap Ok (sym so.whole ∙ ap (λ j. after_drain c j now.raw) z ∙ on_same now.raw c); rest = so.raw },
     )

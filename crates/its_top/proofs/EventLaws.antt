@@ -13,7 +13,7 @@ use Rattle.its_plain.specs.Machine.{Machine}
 use Rattle.its_plain.specs.Operator.{Block, Does, Refuses, Ticks, Quits}
 use Rattle.its_plain.specs.OperatorLines.{Lined, Done, Peeks, operate, lined}
 use Rattle.its_stepped.specs.State.{State}
-use Rattle.its_stepped.specs.Lines.{Told, telling, calmed, with_raw, peeked, paces_of, ticked, told_by, line_told}
+use Rattle.its_stepped.specs.Lines.{Told, telling, after_calm, with_raw, peeked, paces_of, after_ticks, told_by, line_told}
 use Rattle.its_world.specs.World.{state_of}
 use Rattle.its_world.specs.declared.world.World.{World}
 use Rattle.its_word.specs.Refusals.{reason_of}
@@ -40,7 +40,7 @@ said_telling out t = ap (λ x. saying x t.fate) (text_append out t.lines)
 
 -- an event that finds state c, and there has result o
 pub record Comes (v : State) (b : Block) (e : Event) (c : State) (o : Lined) : Type 0 where
-  pub calm : calmed v b e ≡ c
+  pub calm : after_calm v b e ≡ c
   pub is : lined c.raw b e ≡ o
 
 told_comes : (n : ℕ) (v c : State) (b : Block) (e : Event) (o : Lined) (next : State → Block → Told) → Comes v b e c o → line_told n v b e next ≡ told_by n v c b o next
@@ -52,7 +52,7 @@ unfolding lined operate
 end_goes m b = refl
 
 pub end_comes : (v : State) (b : Block) → Comes v b events.End v (Done Quits)
-unfolding calmed
+unfolding after_calm
 end_comes v b = record { calm = refl; is = end_goes v.raw b }
 
 goes_unless : (m : Machine) (b : Block) (e : Event) → lined m b e ≢ Done Quits → goes_on_after e ≡ true
@@ -69,11 +69,11 @@ does v c m b b' e s ps w touched h k f =
       ready = f;
     }
 
-pub ticks : (v c : State) (b : Block) (e : Event) (s k : ℕ) (ps : List Pace) (w : World) → Comes v b e c (Done (Ticks s k)) → ps ≡ paces_of v s k → state_of w ≡ ticked v s k
+pub ticks : (v c : State) (b : Block) (e : Event) (s k : ℕ) (ps : List Pace) (w : World) → Comes v b e c (Done (Ticks s k)) → ps ≡ paces_of v s k → state_of w ≡ after_ticks v s k
     → Performed (Ok (shows.Line (replies.Ticks s))) v b e ps w b
 ticks v c b e s k ps w h f g = record {
   tells = λ n next. told_comes n v c b e (Done (Ticks s k)) next h
-      ∙ ap (λ x. telling (printed.Ticks s x ∷ []) (next (ticked v s k) b)) (sym f) ∙ ap (λ x. telling (printed.Ticks s ps ∷ []) (next x b)) (sym g);
+      ∙ ap (λ x. telling (printed.Ticks s x ∷ []) (next (after_ticks v s k) b)) (sym f) ∙ ap (λ x. telling (printed.Ticks s ps ∷ []) (next x b)) (sym g);
   goes = goes_unless c.raw b e (λ x. let l : Done (Ticks s k) ≡ Done Quits = sym h.is ∙ x in cc);
   ready = tt;
 }

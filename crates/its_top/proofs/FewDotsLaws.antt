@@ -21,7 +21,7 @@ use Rattle.its_plain.specs.Turns.{turn_after, highest, turns_asked, ticks_asked}
 use Rattle.its_plain.proofs.FairLaws.{turn_within}
 use Rattle.its_stepped.specs.Calling.{Decoding}
 use Rattle.its_stepped.specs.Forest.{Forest}
-use Rattle.its_stepped.specs.Lines.{Told, calmed, with_raw, lifted_line, paces_of, ticked, told_by, turned_by, turned, told, stepped}
+use Rattle.its_stepped.specs.Lines.{Told, after_calm, with_raw, lifted_line, paces_of, after_ticks, told_by, turned_by, turned, told, stepped}
 use Rattle.its_stepped.specs.State.{State, plain, no_state}
 use Rattle.its_stepped.specs.Tick.{tick}
 use Rattle.its_stepped.proofs.DotsLaws.{bound, OwnDots, bound_few, tick_dots}
@@ -71,7 +71,7 @@ module _ (decoding : Decoding) where
       fewer (tick w i).pace (d i) (bound (w.frames i)) (bound ((tick w i).state.frames i)) (tick_dots w i g.sound given).own (g.dotted.each i) (bound_few (tick w i).state i sound) is
 
   ticks_few : (k : ℕ) (w : State) (d : Dots) (b : Block) (i q : ℕ) (next : Walk → Course) → Fine d w
-      → ((f : Dots) → Fine f (ticked w i q) → Few (next (at k (ticked w i q) f b)).moments) → Few (paced (at k w d b) i (paces_of w i q) next).moments
+      → ((f : Dots) → Fine f (after_ticks w i q) → Few (next (at k (after_ticks w i q) f b)).moments) → Few (paced (at k w d b) i (paces_of w i q) next).moments
   ticks_few k w d b i zero next g h = h d g
   ticks_few k w d b i (suc q) next g h =
       let p = (tick w i).pace in
@@ -93,7 +93,7 @@ module _ (decoding : Decoding) where
   turn_few k n q last w d b next more None l is g h go = h w d last g l
   turn_few k n q last w d b next more (Some s) l is g h go = (
     tt,
-    ticks_few k w d b s q (λ x. courses.turned n x s (turned n q (ticked w s q) s next).lines more) g (λ f good. go (ticked w s q) f s good (turn_within w.raw last s l is)),
+    ticks_few k w d b s q (λ x. courses.turned n x s (turned n q (after_ticks w s q) s next).lines more) g (λ f good. go (after_ticks w s q) f s good (turn_within w.raw last s l is)),
   )
 
   turns_few : (k n q last : ℕ) (w : State) (d : Dots) (b : Block) (next : State → ℕ → Told) (more : Walk → ℕ → List Line → Course) → last < slots → Fine d w → Follows k b next more
@@ -115,7 +115,7 @@ module _ (decoding : Decoding) where
         subst (λ ls. Few (more (at k (with_raw v m) (dots_after_line d touched) c) ls).moments) (sym (drop_at out rest (length out) refl)) (h (with_raw v m) (dots_after_line d touched) c a),
       )
   line_few k n w v d b e (Done (Ticks s q)) next more g a h =
-      ticks_few k w d b s q (λ x. more x (next (ticked w s q) b).lines) g (λ f good. h (ticked w s q) f b good)
+      ticks_few k w d b s q (λ x. more x (next (after_ticks w s q) b).lines) g (λ f good. h (after_ticks w s q) f b good)
   line_few k n w v d b e (Done Quits) next more g a h = tt
   line_few k n w v d b e (Peeks s) next more g a h = h w d b g
 
@@ -124,7 +124,7 @@ module _ (decoding : Decoding) where
       let more : Walk → List Line → Course = λ x rest. courses.turned (turns_asked e) x last rest (λ y i ls. course (next_line y) i es ls) in
       let next : State → Block → Told = λ v c. turned (turns_asked e) (ticks_asked e) v last (λ x i. told (n + 1) x c i es) in
       subst (λ o. Few (past (at k w d b) e o (told n w b last (Read e ∷ es)).lines more).moments) (sym (u.line d w b e g))
-      (line_few k n w (calmed w b e) d b e (lined (calmed w b e).raw b e) next more g (u.after d w b e g)
+      (line_few k n w (after_calm w b e) d b e (lined (after_calm w b e).raw b e) next more g (u.after d w b e g)
       (λ w' f c good.
       turns_few k (turns_asked e) (ticks_asked e) last w' f c (λ x i. told (n + 1) x c i es) (λ y i ls. course (next_line y) i es ls) l good
       (λ x f' i fine at'. told_few (k + 1) (n + 1) x f' c i es at' fine)))

@@ -14,14 +14,14 @@ use Rattle.its_word.specs.declared.session.Refusal.{Refusal}
 use Rattle.its_word.specs.declared.show.FileShow.{FileShow}
 use Rattle.its_print.specs.Printing.{Line, text_of_line, text}
 use Rattle.its_print.specs.Printing as printed
-use Rattle.its_files.specs.Files.{Store, entry_at, is_file, names_at, words_at, file_at, directory, helped}
+use Rattle.its_files.specs.Files.{Store, entry_at, is_file, names_at, words_at, file_at, directory, after_help}
 use Rattle.its_files.proofs.DirectoryLaws.{helped_unmarked}
 use Rattle.its_word.proofs.NamesLaws.{same_self}
 use Rattle.its_plain.specs.Own.{names_of}
 use Rattle.its_plain.specs.CallFile.{is_full, file_named}
 use Rattle.its_plain.specs.Machine.{Names, File, Machine}
 use Rattle.its_plain.specs.Operator.{and_then}
-use Rattle.its_plain.specs.OperatorFiles.{channels_of, with_files, word_added_if, word_added_to, word_added, words_added, is_in, files_in, show_of, filed_line, rows}
+use Rattle.its_plain.specs.OperatorFiles.{channels_of, with_files, with_word_added_if, with_word_added_to, with_word_added, with_words_added, is_in, files_in, show_of, filed_line, rows}
 use Rattle.its_stepped.specs.State.{State, plain}
 use Rattle.its_stepped.specs.State as state
 use Rattle.its_stepped.specs.Unwind.{help}
@@ -42,18 +42,18 @@ use Rattle.its_world.proofs.StorageLaws.{files_are}
 
 -- a state in which no part of a close is pending stays as it is
 still_helped : (v : State) → v.mark ≡ None → help v ≡ v
-unfolding help state.helped
-still_helped v e = λ i. record v { raw = record v.raw { files = state.helped (e i) v.raw.files }; mark = sym e i }
+unfolding help state.after_help
+still_helped v e = λ i. record v { raw = record v.raw { files = state.after_help (e i) v.raw.files }; mark = sym e i }
 
 pub twice_helped : (v : State) → help (help v) ≡ help v
-unfolding help state.helped
+unfolding help state.after_help
 twice_helped v = refl
 
 -- calls that look at files
 pub looking_start : (w : World) → Looked w w 0
 looking_start w = record { found = refl; reached = λ h. absurd (omega arith); unmarked = λ h. absurd (omega arith) }
 
-pub looking_next : (old now then : World) (k : ℕ) → Looked old now k → state_of then ≡ help (state_of now) → then.files ≡ helped now.files → Looked old then (k + 1)
+pub looking_next : (old now then : World) (k : ℕ) → Looked old now k → state_of then ≡ help (state_of now) → then.files ≡ after_help now.files → Looked old then (k + 1)
 looking_next old now then k l e f = record {
   found = ap help e ∙ twice_helped (state_of now) ∙ l.found;
   reached = λ h. e ∙ l.found;
@@ -64,7 +64,7 @@ state_marked : (w : World) → w.files.mark ≡ None → (state_of w).mark ≡ N
 unfolding state_of
 state_marked w e = none_marked w.files e
 
-pub stood : (old now : World) → old.files.mark ≡ None → state_of now ≡ help (state_of old) → now.files ≡ helped old.files → Stood old now
+pub stood : (old now : World) → old.files.mark ≡ None → state_of now ≡ help (state_of old) → now.files ≡ after_help old.files → Stood old now
 stood old now none e f = record { state = e ∙ still_helped (state_of old) (state_marked old none); files = f ∙ made_none old.files none }
 
 pub standing_start : (w : World) → Stood w w
@@ -73,7 +73,7 @@ standing_start w = record { state = refl; files = refl }
 pub standing_then : (old now then : World) → Stood old now → Stood now then → Stood old then
 standing_then old now then s t = record { state = t.state ∙ s.state; files = t.files ∙ s.files }
 
-pub standing_next : (old now then : World) → old.files.mark ≡ None → Stood old now → state_of then ≡ help (state_of now) → then.files ≡ helped now.files → Stood old then
+pub standing_next : (old now then : World) → old.files.mark ≡ None → Stood old now → state_of then ≡ help (state_of now) → then.files ≡ after_help now.files → Stood old then
 standing_next old now then none s e f =
     standing_then old now then s (stood now then (ap (λ (x : Store). x.mark) s.files ∙ none) e f)
 
@@ -316,40 +316,40 @@ length_stood old now id n o s h e f =
 
 -- words that are added one after another: the first call performs the pending parts of a close
 help_lands : (v then : State) (m : Machine) → then ≡ with_raw (help v) m → help then ≡ then
-unfolding help state.helped
+unfolding help state.after_help
 help_lands v then m e = ap help e ∙ sym e
 
 pub adding_start : (v : State) (n : Names) (words : List ℕ) → AddSo (help v) v n 0 words (drop 0 words)
 adding_start v n words = record { raw = refl; reached = λ h. absurd (omega arith); whole = refl }
 
-added_first : (m l : Machine) (n : Names) (w : ℕ) (ws : List ℕ) → word_added m n w ≡ Ok l → words_added m n (w ∷ ws) ≡ words_added l n ws
-added_first m l n w ws h = ap (λ r. and_then r (λ k. words_added k n ws)) h
+added_first : (m l : Machine) (n : Names) (w : ℕ) (ws : List ℕ) → with_word_added m n w ≡ Ok l → with_words_added m n (w ∷ ws) ≡ with_words_added l n ws
+added_first m l n w ws h = ap (λ r. and_then r (λ k. with_words_added k n ws)) h
 
-refused_first : (m : Machine) (n : Names) (w : ℕ) (ws : List ℕ) (r : Reason) → word_added m n w ≡ Err r → words_added m n (w ∷ ws) ≡ Err r
-refused_first m n w ws r h = ap (λ x. and_then x (λ k. words_added k n ws)) h
+refused_first : (m : Machine) (n : Names) (w : ℕ) (ws : List ℕ) (r : Reason) → with_word_added m n w ≡ Err r → with_words_added m n (w ∷ ws) ≡ Err r
+refused_first m n w ws r h = ap (λ x. and_then x (λ k. with_words_added k n ws)) h
 
 pub adding_next : (v now then : State) (n : Names) (k x : ℕ) (words : List ℕ) → k < length words → x ≡ slice_index words k → AddSo v now n k words (drop k words)
-    → Lands (help now) then (word_added (help now).raw n x) → AddSo v then n (k + 1) words (drop (k + 1) words)
+    → Lands (help now) then (with_word_added (help now).raw n x) → AddSo v then n (k + 1) words (drop (k + 1) words)
 adding_next v now then n k x words h e so d =
     let still : help then ≡ then = help_lands now then then.raw d.rest in
-    let added : word_added (help now).raw n (slice_index words k) ≡ Ok then.raw = ap (word_added (help now).raw n) (sym e) ∙ d.is in
+    let added : with_word_added (help now).raw n (slice_index words k) ≡ Ok then.raw = ap (with_word_added (help now).raw n) (sym e) ∙ d.is in
     record {
       raw = still ∙ d.rest ∙ ap (λ y. with_raw y then.raw) so.raw ∙ ap (λ y. with_raw v y.raw) (sym still);
       reached = λ z. sym still;
-      whole = ap (λ y. words_added y.raw n (drop (k + 1) words)) still ∙ sym (added_first (help now).raw then.raw n (slice_index words k) (drop (k + 1) words) added)
-          ∙ ap (words_added (help now).raw n) (sym (front words k h)) ∙ so.whole;
+      whole = ap (λ y. with_words_added y.raw n (drop (k + 1) words)) still ∙ sym (added_first (help now).raw then.raw n (slice_index words k) (drop (k + 1) words) added)
+          ∙ ap (with_words_added (help now).raw n) (sym (front words k h)) ∙ so.whole;
     }
 
 pub adding_fails : (v now : State) (n : Names) (k : ℕ) (r : Reason) (words : List ℕ) → k < length words → AddSo v now n k words (drop k words)
-    → word_added (help now).raw n (slice_index words k) ≡ Err r → words_added v.raw n words ≡ Err r
+    → with_word_added (help now).raw n (slice_index words k) ≡ Err r → with_words_added v.raw n words ≡ Err r
 adding_fails v now n k r words h so g =
-    sym so.whole ∙ ap (words_added (help now).raw n) (front words k h) ∙ refused_first (help now).raw n (slice_index words k) (drop (k + 1) words) r g
+    sym so.whole ∙ ap (with_words_added (help now).raw n) (front words k h) ∙ refused_first (help now).raw n (slice_index words k) (drop (k + 1) words) r g
 
-pub adding_end : (v now : State) (n : Names) (k : ℕ) (words rest : List ℕ) → 0 < k → rest ≡ [] → AddSo v now n k words rest → Lands v now (words_added v.raw n words)
+pub adding_end : (v now : State) (n : Names) (k : ℕ) (words rest : List ℕ) → 0 < k → rest ≡ [] → AddSo v now n k words rest → Lands v now (with_words_added v.raw n words)
 adding_end v now n k words rest h e so =
     let here = so.reached h in
     record {
-      is = sym so.whole ∙ ap (words_added (help now).raw n) e ∙ ap (λ x. Ok x.raw) (sym here);
+      is = sym so.whole ∙ ap (with_words_added (help now).raw n) e ∙ ap (λ x. Ok x.raw) (sym here);
       rest = here ∙ so.raw ∙ ap (λ x. with_raw v x.raw) (sym here);
     }
 
@@ -365,54 +365,54 @@ found_same n f (g ∷ gs) h = go (same_names n g.names) refl h (found_same n f g
 named_alike : (a b : Names) (fs : List File) → same_names a b ≡ true → file_named a fs ≡ file_named b fs
 named_alike a b fs e = λ i. find (λ f. same_self a b f.names e i) fs
 
-added_alike : (m : Machine) (a b : Names) (w : ℕ) (full : Bool) → same_names a b ≡ true → word_added_if m a w full ≡ word_added_if m b w full
+added_alike : (m : Machine) (a b : Names) (w : ℕ) (full : Bool) → same_names a b ≡ true → with_word_added_if m a w full ≡ with_word_added_if m b w full
 added_alike m a b w true e = refl
 added_alike m a b w false e = ap (λ fs. Ok (with_files m fs)) (changed_same a b (longer w) m.files e)
 
-added_by : (m : Machine) (n : Names) (f : File) (w : ℕ) → file_named n m.files ≡ Some f → word_added m f.names w ≡ word_added m n w
-unfolding word_added
+added_by : (m : Machine) (n : Names) (f : File) (w : ℕ) → file_named n m.files ≡ Some f → with_word_added m f.names w ≡ with_word_added m n w
+unfolding with_word_added
 added_by m n f w h =
     let same = found_same n f m.files h in
-    ap (word_added_to m f.names w) (sym (named_alike n f.names m.files same) ∙ h)
+    ap (with_word_added_to m f.names w) (sym (named_alike n f.names m.files same) ∙ h)
     ∙ sym (added_alike m n f.names w (is_full m.files (channels_of m) f.words) same)
-    ∙ sym (ap (word_added_to m n w) h)
+    ∙ sym (ap (with_word_added_to m n w) h)
 
-module _ (old mid : World) (e : state_of mid ≡ help (state_of old)) (files : mid.files ≡ helped old.files) where
-  mid_same : helped mid.files ≡ mid.files
+module _ (old mid : World) (e : state_of mid ≡ help (state_of old)) (files : mid.files ≡ after_help old.files) where
+  mid_same : after_help mid.files ≡ mid.files
   mid_same = made_none mid.files (helped_unmarked old.files mid.files files)
 
   mid_helped : help (state_of mid) ≡ help (state_of old)
   mid_helped = ap help e ∙ twice_helped (state_of old)
 
   -- the file still exists
-  pub adds_file : (id : ℕ) → is_file (entry_at mid.files id) ≡ true → is_file (entry_at (helped mid.files) id) ≡ true
+  pub adds_file : (id : ℕ) → is_file (entry_at mid.files id) ≡ true → is_file (entry_at (after_help mid.files) id) ≡ true
   adds_file id h = ap (λ s. is_file (entry_at s id)) mid_same ∙ h
 
   adds_same : (n : Names) (id w : ℕ) → file_named n (plain (state_of old)).files ≡ Some (file_at mid.files id)
-      → word_added (help (state_of mid)).raw (names_at (helped mid.files) id) w ≡ word_added (help (state_of old)).raw n w
+      → with_word_added (help (state_of mid)).raw (names_at (after_help mid.files) id) w ≡ with_word_added (help (state_of old)).raw n w
   adds_same n id w h =
-      ap (λ v. word_added v.raw (names_at (helped mid.files) id) w) mid_helped ∙ ap (λ s. word_added (help (state_of old)).raw (names_at s id) w) mid_same
+      ap (λ v. with_word_added v.raw (names_at (after_help mid.files) id) w) mid_helped ∙ ap (λ s. with_word_added (help (state_of old)).raw (names_at s id) w) mid_same
       ∙ added_by (help (state_of old)).raw n (file_at mid.files id) w (ap (file_named n) (sym (found_files (state_of old))) ∙ h)
 
   pub adds_done : {T : Type 0} (result : Result T Refusal) (then : World) (n : Names) (id w : ℕ) → file_named n (plain (state_of old)).files ≡ Some (file_at mid.files id)
-      → OnOk result (Lands (help (state_of mid)) (state_of then) (word_added (help (state_of mid)).raw (names_at (helped mid.files) id) w))
-      → OnOk result (Lands (help (state_of old)) (state_of then) (word_added (help (state_of old)).raw n w))
+      → OnOk result (Lands (help (state_of mid)) (state_of then) (with_word_added (help (state_of mid)).raw (names_at (after_help mid.files) id) w))
+      → OnOk result (Lands (help (state_of old)) (state_of then) (with_word_added (help (state_of old)).raw n w))
   adds_done (Ok x) then n id w h l =
-      subst (λ v. Lands v (state_of then) (word_added (help (state_of old)).raw n w)) mid_helped
+      subst (λ v. Lands v (state_of then) (with_word_added (help (state_of old)).raw n w)) mid_helped
       (subst (Lands (help (state_of mid)) (state_of then)) (adds_same n id w h) l)
   adds_done (Err r) then n id w h l = tt
 
   pub adds_refused : {T : Type 0} (result : Result T Refusal) (n : Names) (id w : ℕ) → file_named n (plain (state_of old)).files ≡ Some (file_at mid.files id)
-      → IfErr result (λ r. FileRefused (state_of mid) (λ m. word_added m (names_at (helped mid.files) id) w) r)
-      → IfErr result (λ r. word_added (help (state_of old)).raw n w ≡ Err (reason_of r))
+      → IfErr result (λ r. FileRefused (state_of mid) (λ m. with_word_added m (names_at (after_help mid.files) id) w) r)
+      → IfErr result (λ r. with_word_added (help (state_of old)).raw n w ≡ Err (reason_of r))
   adds_refused (Ok x) n id w h f = tt
   adds_refused (Err r) n id w h f = sym (adds_same n id w h) ∙ f.calmed
 
   -- if there is no file with these names, nothing is added
-  pub adds_nothing : (n : Names) (w : ℕ) → file_named n (plain (state_of old)).files ≡ None → Lands (help (state_of old)) (state_of mid) (word_added (help (state_of old)).raw n w)
-  unfolding word_added
+  pub adds_nothing : (n : Names) (w : ℕ) → file_named n (plain (state_of old)).files ≡ None → Lands (help (state_of old)) (state_of mid) (with_word_added (help (state_of old)).raw n w)
+  unfolding with_word_added
   adds_nothing n w h = record {
-    is = ap (word_added_to (help (state_of old)).raw n w) (ap (file_named n) (sym (found_files (state_of old))) ∙ h) ∙ ap (λ v. Ok v.raw) (sym e);
+    is = ap (with_word_added_to (help (state_of old)).raw n w) (ap (file_named n) (sym (found_files (state_of old))) ∙ h) ∙ ap (λ v. Ok v.raw) (sym e);
     rest = e ∙ ap (λ v. with_raw (help (state_of old)) v.raw) (sym e);
   }
 

@@ -11,7 +11,7 @@ use Rattle.its_frame.specs.declared.change.Change.TheVariants as changes
 use Rattle.its_frame.specs.declared.decision.Decision.{Decision}
 use Rattle.its_frame.specs.declared.decision.Decision.TheVariants.{Waits, Goes, Ends, Gone}
 use Rattle.its_plain.specs.CallStep.{acted, decision, informs, step, Transition, moves_in, transition, moves}
-use Rattle.its_plain.specs.Change.{rest_of, taken_from, put_to, removed, effect, effects}
+use Rattle.its_plain.specs.Change.{rest_of, after_take, after_put, after_removal, effect, effects}
 use Rattle.its_plain.specs.Interrupt.{delivered}
 use Rattle.its_plain.specs.Ledger.{byte_of}
 use Rattle.its_plain.specs.Machine.{Whole, Machine, changed}
@@ -52,7 +52,7 @@ first_there : (j d c : ℕ) (bs : List ℕ) → d ≢ c → flat_map (byte_of c 
 first_there j d c [] ne = refl
 first_there j d c (b ∷ bs) ne = rw (ne_eqb d c ne) refl
 
-taken_here : (j c : ℕ) (x : Console) → Passes x (taken_from x) (first_move j (AtConsole c) x.input) c
+taken_here : (j c : ℕ) (x : Console) → Passes x (after_take x) (first_move j (AtConsole c) x.input) c
 taken_here j c x = record {
   input = first_here j c x.input;
   output = sym (append-nil x.output) ∙ ap (λ l. x.output ++ l) (sym (first_out j c c x.input));
@@ -64,7 +64,7 @@ taken_there j d c x bs ne = record {
   output = sym (append-nil x.output) ∙ ap (λ l. x.output ++ l) (sym (first_out j d c bs));
 }
 
-taken_passes : (consoles : ℕ → Console) (j d c : ℕ) → Passes (consoles c) (changed consoles d (taken_from (consoles d)) c) (first_move j (AtConsole d) (consoles d).input) c
+taken_passes : (consoles : ℕ → Console) (j d c : ℕ) → Passes (consoles c) (changed consoles d (after_take (consoles d)) c) (first_move j (AtConsole d) (consoles d).input) c
 taken_passes consoles j d c = elim (cases_eq d c) [
   | inl at ↦ rw (at, eq-eqb c c refl) (taken_here j c (consoles c))
   | inr ne ↦ rw (ne_eqb c d (λ e. ne (sym e))) (taken_there j d c (consoles c) (consoles d).input ne)
@@ -74,13 +74,13 @@ taken_passes consoles j d c = elim (cases_eq d c) [
 abbrev put_byte : ℕ → ℕ → ℕ → Move
 put_byte j d b = record { slot = j; device = AtConsole d; way = Outward; byte = b }
 
-put_here : (j c b : ℕ) (x : Console) → Passes x (put_to b x) (put_byte j c b ∷ []) c
+put_here : (j c b : ℕ) (x : Console) → Passes x (after_put b x) (put_byte j c b ∷ []) c
 put_here j c b x = record { input = rw (eq-eqb c c refl) refl; output = rw (eq-eqb c c refl) refl }
 
 put_there : (j d c b : ℕ) (x : Console) → d ≢ c → Passes x x (put_byte j d b ∷ []) c
 put_there j d c b x ne = record { input = rw (ne_eqb d c ne) refl; output = rw (ne_eqb d c ne) (sym (append-nil x.output)) }
 
-put_passes : (consoles : ℕ → Console) (j d c b : ℕ) → Passes (consoles c) (changed consoles d (put_to b (consoles d)) c) (put_byte j d b ∷ []) c
+put_passes : (consoles : ℕ → Console) (j d c b : ℕ) → Passes (consoles c) (changed consoles d (after_put b (consoles d)) c) (put_byte j d b ∷ []) c
 put_passes consoles j d c b = elim (cases_eq d c) [
   | inl at ↦ rw (at, eq-eqb c c refl) (put_here j c b (consoles c))
   | inr ne ↦ rw (ne_eqb c d (λ e. ne (sym e))) (put_there j d c b (consoles c) ne)
@@ -93,7 +93,7 @@ link_passes x j l c (w ∷ ws) = record { input = refl; output = sym (append-nil
 
 -- a change, and several
 change_passes : (h : Change) (j : ℕ) (m : Machine) (c : ℕ) → Passes (m.consoles c) ((effect h j m).consoles c) (moves_of h j m) c
-unfolding effect removed
+unfolding effect after_removal
 change_passes (changes.Take d) j m c = taken_passes m.consoles j d c
 change_passes (changes.Put d b) j m c = put_passes m.consoles j d c b
 change_passes (changes.Receive l) j m c = link_passes (m.consoles c) j l c (words_in (m.links l))

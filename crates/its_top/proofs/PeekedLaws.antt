@@ -30,7 +30,7 @@ use Rattle.its_plain.proofs.FairLaws.{turn_within}
 use Rattle.its_word.specs.Limits.{slots}
 use Rattle.its_stepped.specs.Calling.{Decoding}
 use Rattle.its_stepped.specs.Forest.{Forest}
-use Rattle.its_stepped.specs.Lines.{Told, calmed, peeked, stepped, ticked, turned_by, turned, told, told_by, with_raw}
+use Rattle.its_stepped.specs.Lines.{Told, after_calm, peeked, stepped, after_ticks, turned_by, turned, told, told_by, with_raw}
 use Rattle.its_stepped.specs.Sound.{Sound}
 use Rattle.its_stepped.specs.State.{State, no_state}
 use Rattle.its_stepped.specs.Tick.{tick}
@@ -207,7 +207,7 @@ module _ (decoding : Decoding) where
   abbrev u : Upkeep Fine
   u = upkeep (lasting decoding)
 
-  ticks_small : (w : State) (d : Dots) (i k : ℕ) (lines : State → List Line) → Fine d w → ((f : Dots) → Fine f (ticked w i k) → AllSmall (lines (ticked w i k))) → AllSmall (lines (ticked w i k))
+  ticks_small : (w : State) (d : Dots) (i k : ℕ) (lines : State → List Line) → Fine d w → ((f : Dots) → Fine f (after_ticks w i k) → AllSmall (lines (after_ticks w i k))) → AllSmall (lines (after_ticks w i k))
   ticks_small w d i zero lines g h = h d g
   ticks_small w d i (suc k) lines g h = ticks_small (tick w i).state _ i k lines (u.ticks d w i g) h
 
@@ -219,7 +219,7 @@ module _ (decoding : Decoding) where
       → AllSmall done.lines → AllSmall (turned_by o q w next done).lines
   turn_small q last w d next done None l is g h k = k
   turn_small q last w d next done (Some s) l is g h k =
-      (tt, ticks_small w d s q (λ x. (next x s).lines) g (λ f good. h (ticked w s q) f s good (turn_within w.raw last s l is)))
+      (tt, ticks_small w d s q (λ x. (next x s).lines) g (λ f good. h (after_ticks w s q) f s good (turn_within w.raw last s l is)))
 
   turns_small : (n q last : ℕ) (w : State) (d : Dots) (next : State → ℕ → Told) → last < slots → Fine d w → Next next → AllSmall (turned n q w last next).lines
   turns_small zero q last w d next l g h = h w d last g l
@@ -232,14 +232,14 @@ module _ (decoding : Decoding) where
   line_small n w v d b (Done (Refuses r)) next g a s h = (tt, tt)
   line_small n w v d b (Done (Does m out touched c)) next g a s h =
       small_append out (next (with_raw v m) c).lines s (h (with_raw v m) (dots_after_line d touched) c a)
-  line_small n w v d b (Done (Ticks i k)) next g a s h = (tt, ticks_small w d i k (λ x. (next x b).lines) g (λ f good. h (ticked w i k) f b good))
+  line_small n w v d b (Done (Ticks i k)) next g a s h = (tt, ticks_small w d i k (λ x. (next x b).lines) g (λ f good. h (after_ticks w i k) f b good))
   line_small n w v d b (Done Quits) next g a s h = tt
   line_small n w v d b (Peeks i) next g a s h = ((s, peek_small w i g.sound), h w d b g)
 
   told_small : (n : ℕ) (w : State) (d : Dots) (b : Block) (last : ℕ) (es : List Item) → last < slots → Fine d w → AllFit es → AllSmall (told n w b last es).lines
   told_small n w d b last [] l g fit = tt
   told_small n w d b last (Read e ∷ es) l g fit =
-      line_small n w (calmed w b e) d b (lined (calmed w b e).raw b e) _ g (u.after d w b e g) (lined_shown (calmed w b e).raw b e fit.0)
+      line_small n w (after_calm w b e) d b (lined (after_calm w b e).raw b e) _ g (u.after d w b e g) (lined_shown (after_calm w b e).raw b e fit.0)
       (λ w' f c good. turns_small (turns_asked e) (ticks_asked e) last w' f (λ x i. told (n + 1) x c i es) l good (λ x g i fine at. told_small (n + 1) x g c i es at fine fit.1))
   told_small n w d b last (Unread r ∷ es) l g fit = (tt, tt)
   told_small n w d b last (Beyond ∷ es) l g fit = tt

@@ -16,17 +16,17 @@ use Rattle.its_word.specs.declared.session.Reason.{Reason}
 use Rattle.its_word.specs.declared.show.JobShow.{JobShow}
 use Rattle.its_print.specs.Printing.{Line}
 use Rattle.its_print.specs.Printing as printed
-use Rattle.its_plain.specs.OperatorClock.{clock_end, clocked_if, clocked}
-use Rattle.its_plain.specs.OperatorConsoles.{typed, dropped, drained}
+use Rattle.its_plain.specs.OperatorClock.{clock_end, after_clock_if, after_clock}
+use Rattle.its_plain.specs.OperatorConsoles.{with_typed, dropped, after_drain}
 use Rattle.its_plain.specs.OperatorLines.{shows, operate, Lined, Done, Peeks, peeked_at, lined, by_load, by_exam, in_a_line, by_state, by_clock}
 use Rattle.its_plain.specs.CallFile.{file_named}
-use Rattle.its_plain.specs.OperatorFiles.{file_made, words_added, files_in, filed_line, listing, rows, shown_lines, shown_by, file_shown}
+use Rattle.its_plain.specs.OperatorFiles.{with_file_made, with_words_added, files_in, filed_line, listing, rows, shown_lines, shown_by, file_shown}
 use Rattle.its_plain.specs.Ledger.{typed_by, drained_by}
 use Rattle.its_plain.specs.Machine.{File, Whole, Machine, mapped, limit}
 use Rattle.its_plain.specs.Operator.{Block, Refuses, Does, Ticks, Quits, and_then, disturbs, quietly}
-use Rattle.its_plain.specs.OperatorSymbols.{symbol_kept_if, symbol_kept_of, symbol_kept}
-use Rattle.its_plain.specs.OperatorVersion.{versioned}
-use Rattle.its_plain.specs.OperatorJobs.{stored, with_core, word_loaded_of, word_loaded, words_stored, words_barred, words_loaded_if, words_loaded, page_protected_in, page_protected, on_job, with_registers, on_registers, started, interrupted, stopped, continued, deposited_in, deposited, loaded_in, loaded, examined, state_shown}
+use Rattle.its_plain.specs.OperatorSymbols.{with_symbol_kept_if, with_symbol_kept_of, with_symbol_kept}
+use Rattle.its_plain.specs.OperatorVersion.{with_version}
+use Rattle.its_plain.specs.OperatorJobs.{with_stored, with_core, with_word_loaded_of, with_word_loaded, with_words_stored, words_barred, with_words_loaded_if, with_words_loaded, with_page_protected_in, with_page_protected, on_job, with_registers, on_registers, after_go, after_int, after_stop, after_cont, after_deposit_in, after_deposit, after_load_in, after_load, examined, state_shown}
 use Rattle.its_plain.specs.Own.{names_of}
 use Rattle.its_plain.proofs.CallLineLaws.{FilesAlone, made_files, added_files}
 
@@ -73,68 +73,68 @@ registers_same m s f = go (m.jobs s)
     go (Some q) = refl
     go None = tt
 
-deposited_same : (m : Machine) (s a w : ℕ) → SameBy m (deposited m s a w)
-unfolding deposited
+deposited_same : (m : Machine) (s a w : ℕ) → SameBy m (after_deposit m s a w)
+unfolding after_deposit
 deposited_same m s a w = go (m.jobs s)
   where
-    go : (o : Option Whole) → SameBy m (on_job m s (λ q. with_core m s q (deposited_in q.core a w (can_store q.core a) (is_some (word_at q.core a)))) o)
-    go (Some q) = core_same m s q (deposited_in q.core a w (can_store q.core a) (is_some (word_at q.core a)))
+    go : (o : Option Whole) → SameBy m (on_job m s (λ q. with_core m s q (after_deposit_in q.core a w (can_store q.core a) (is_some (word_at q.core a)))) o)
+    go (Some q) = core_same m s q (after_deposit_in q.core a w (can_store q.core a) (is_some (word_at q.core a)))
     go None = tt
 
-word_same : (m : Machine) (s a w : ℕ) → SameBy m (word_loaded m s a w)
-unfolding word_loaded
+word_same : (m : Machine) (s a w : ℕ) → SameBy m (with_word_loaded m s a w)
+unfolding with_word_loaded
 word_same m s a w = go (m.jobs s)
   where
-    go : (o : Option Whole) → SameBy m (word_loaded_of m s a w o)
-    go (Some q) = core_same m s q (stored (mapped m) q.core a w)
+    go : (o : Option Whole) → SameBy m (with_word_loaded_of m s a w o)
+    go (Some q) = core_same m s q (with_stored (mapped m) q.core a w)
     go None = tt
 
 same_further : (m n : Machine) (r : Result Machine Reason) → n.consoles ≡ m.consoles → SameBy n r → SameBy m r
 same_further m n (Ok l) a b = b ∙ a
 same_further m n (Err r) a b = tt
 
-stored_same : (m : Machine) (s a : ℕ) (ws : List ℕ) → SameBy m (words_stored m s a ws)
+stored_same : (m : Machine) (s a : ℕ) (ws : List ℕ) → SameBy m (with_words_stored m s a ws)
 stored_same m s a [] = refl
-stored_same m s a (w ∷ ws) = go (word_loaded m s a w) (word_same m s a w) (λ n. stored_same n s (a + 1) ws)
+stored_same m s a (w ∷ ws) = go (with_word_loaded m s a w) (word_same m s a w) (λ n. stored_same n s (a + 1) ws)
   where
-    go : (r : Result Machine Reason) → SameBy m r → ((n : Machine) → SameBy n (words_stored n s (a + 1) ws)) → SameBy m (and_then r (λ n. words_stored n s (a + 1) ws))
-    go (Ok n) first h = same_further m n (words_stored n s (a + 1) ws) first (h n)
+    go : (r : Result Machine Reason) → SameBy m r → ((n : Machine) → SameBy n (with_words_stored n s (a + 1) ws)) → SameBy m (and_then r (λ n. with_words_stored n s (a + 1) ws))
+    go (Ok n) first h = same_further m n (with_words_stored n s (a + 1) ws) first (h n)
     go (Err r) first h = tt
 
-words_same : (m : Machine) (s a : ℕ) (ws : List ℕ) → SameBy m (words_loaded m s a ws)
-unfolding words_loaded
+words_same : (m : Machine) (s a : ℕ) (ws : List ℕ) → SameBy m (with_words_loaded m s a ws)
+unfolding with_words_loaded
 words_same m s a ws = go (words_barred m s a (length ws))
   where
-    go : (b : Bool) → SameBy m (words_loaded_if m s a ws b)
+    go : (b : Bool) → SameBy m (with_words_loaded_if m s a ws b)
     go true = tt
     go false = stored_same m s a ws
 
-page_same : (m : Machine) (s k : ℕ) → SameBy m (page_protected m s k)
-unfolding page_protected
+page_same : (m : Machine) (s k : ℕ) → SameBy m (with_page_protected m s k)
+unfolding with_page_protected
 page_same m s k = go (m.jobs s)
   where
-    there : (q : Whole) (o : Option Page) → SameBy m (page_protected_in m s k q o)
+    there : (q : Whole) (o : Option Page) → SameBy m (with_page_protected_in m s k q o)
     there q (Some p) = refl
     there q None = tt
 
-    go : (o : Option Whole) → SameBy m (on_job m s (λ q. page_protected_in m s k q (page_of q.core k)) o)
+    go : (o : Option Whole) → SameBy m (on_job m s (λ q. with_page_protected_in m s k q (page_of q.core k)) o)
     go (Some q) = there q (page_of q.core k)
     go None = tt
 
-symbol_same : (m : Machine) (s name a : ℕ) → SameBy m (symbol_kept m s name a)
-unfolding symbol_kept
+symbol_same : (m : Machine) (s name a : ℕ) → SameBy m (with_symbol_kept m s name a)
+unfolding with_symbol_kept
 symbol_same m s name a = go (m.jobs s)
   where
-    fits : (b : Bool) → SameBy m (symbol_kept_if m s (name, a) b)
+    fits : (b : Bool) → SameBy m (with_symbol_kept_if m s (name, a) b)
     fits true = refl
     fits false = tt
 
-    go : (o : Option Whole) → SameBy m (symbol_kept_of m s (name, a) o)
+    go : (o : Option Whole) → SameBy m (with_symbol_kept_of m s (name, a) o)
     go (Some q) = fits (nat_lt (length (m.symbols s)) most_symbols)
     go None = tt
 
-version_same : (m : Machine) (v : ℕ) → (versioned m v).consoles ≡ m.consoles
-unfolding versioned
+version_same : (m : Machine) (v : ℕ) → (with_version m v).consoles ≡ m.consoles
+unfolding with_version
 version_same m v = go (no_job m.jobs)
   where
     go : (b : Bool) → (if b then record m { version = v } else m).consoles ≡ m.consoles
@@ -164,7 +164,7 @@ peek_shows : (c : ℕ) (m : Machine) (s : ℕ) (o : Option Whole) → ShowsBy c 
 peek_shows c m s (Some q) = tt
 peek_shows c m s None = tt
 
-load_shows : (c : ℕ) (m : Machine) (b : Block) (u j : ℕ) (console o : Option ℕ) → Few c m → ShowsBy c m (events.Load u j console) (Done (by_load b (loaded_in m u j console o)))
+load_shows : (c : ℕ) (m : Machine) (b : Block) (u j : ℕ) (console o : Option ℕ) → Few c m → ShowsBy c m (events.Load u j console) (Done (by_load b (after_load_in m u j console o)))
 load_shows c m b u j (Some d) (Some s) few = shows_still c m _ (events.Load u j (Some d)) (printed.Loaded s ∷ []) few refl refl refl
 load_shows c m b u j None (Some s) few = shows_still c m _ (events.Load u j None) (printed.Loaded s ∷ []) few refl refl refl
 load_shows c m b u j console None few = tt
@@ -174,7 +174,7 @@ quiet_shows : (c : ℕ) (m : Machine) (e : Event) (b : Block) (r : Result Machin
 quiet_shows c m e b (Ok n) few none h = shows_still c m n e [] few h none refl
 quiet_shows c m e b (Err r) few none h = tt
 
-clock_shows : (c : ℕ) (m : Machine) (b : Block) (n : ℕ) (fits : Bool) → Few c m → ShowsBy c m (events.Clock n) (Done (by_clock m b n (clocked_if m n fits)))
+clock_shows : (c : ℕ) (m : Machine) (b : Block) (n : ℕ) (fits : Bool) → Few c m → ShowsBy c m (events.Clock n) (Done (by_clock m b n (after_clock_if m n fits)))
 clock_shows c m b n true few = shows_still c m _ (events.Clock n) [] few refl refl refl
 clock_shows c m b n false few = tt
 
@@ -206,7 +206,7 @@ most_taken : (n : ℕ) (xs : List ℕ) → length (take n xs) ≤ n
 most_taken n xs = let is : length (take n xs) ≡ min n (length xs) = length-take n xs in omega arith
 
 typed_here : (c : ℕ) (m : Machine) (bytes : List ℕ) → Few c m
-    → Shows c m (typed c bytes m) (events.TypeIn c (record { items = bytes })) (printed.Typed c (dropped (m.consoles c) bytes) ∷ [])
+    → Shows c m (with_typed c bytes m) (events.TypeIn c (record { items = bytes })) (printed.Typed c (dropped (m.consoles c) bytes) ∷ [])
 typed_here c m bytes few = record {
   input = rw (eq-eqb c c refl) (fills most_waiting (m.consoles c).input bytes few);
   output = rw (eq-eqb c c refl) refl;
@@ -214,7 +214,7 @@ typed_here c m bytes few = record {
 }
 
 typed_shows : (c d : ℕ) (m : Machine) (bytes : List ℕ) → Few c m
-    → Shows c m (typed d bytes m) (events.TypeIn d (record { items = bytes })) (printed.Typed d (dropped (m.consoles d) bytes) ∷ [])
+    → Shows c m (with_typed d bytes m) (events.TypeIn d (record { items = bytes })) (printed.Typed d (dropped (m.consoles d) bytes) ∷ [])
 typed_shows c d m bytes few = elim (cases_eq d c) [
   | inl at ↦ rw at (typed_here c m bytes few)
   | inr ne ↦ record {
@@ -225,7 +225,7 @@ typed_shows c d m bytes few = elim (cases_eq d c) [
 ]
 
 drained_here : (c : ℕ) (m : Machine) (n : ℕ) → Few c m
-    → Shows c m (drained c n m) (events.Drain c n) (printed.Drained c (take n (m.consoles c).output) ∷ [])
+    → Shows c m (after_drain c n m) (events.Drain c n) (printed.Drained c (take n (m.consoles c).output) ∷ [])
 drained_here c m n few = record {
   input = rw (eq-eqb c c refl) (append-nil (m.consoles c).input);
   output = rw (eq-eqb c c refl)
@@ -234,7 +234,7 @@ drained_here c m n few = record {
 }
 
 drained_shows : (c d : ℕ) (m : Machine) (n : ℕ) → Few c m
-    → Shows c m (drained d n m) (events.Drain d n) (printed.Drained d (take n (m.consoles d).output) ∷ [])
+    → Shows c m (after_drain d n m) (events.Drain d n) (printed.Drained d (take n (m.consoles d).output) ∷ [])
 drained_shows c d m n few = elim (cases_eq d c) [
   | inl at ↦ rw at (drained_here c m n few)
   | inr ne ↦ record {
@@ -246,18 +246,18 @@ drained_shows c d m n few = elim (cases_eq d c) [
 
 -- each line
 pub line_shows : (c : ℕ) (m : Machine) (b : Block) (e : Event) → Few c m → ShowsBy c m e (lined m b e)
-unfolding lined operate loaded clocked file_shown
+unfolding lined operate after_load after_clock file_shown
 line_shows c m b (events.Load u j console) few = load_shows c m b u j console (least_free (limit m) m.jobs) few
 line_shows c m b (events.Words a words) few =
-    disturbs_shows c m (events.Words a words) b.slot b (words_loaded m b.slot a words.items) few refl (words_same m b.slot a words.items)
-line_shows c m b (events.Version v) few = shows_still c m (versioned m v) (events.Version v) [] few (version_same m v) refl refl
-line_shows c m b (events.ReadOnly p) few = disturbs_shows c m (events.ReadOnly p) b.slot b (page_protected m b.slot p) few refl (page_same m b.slot p)
-line_shows c m b (events.Symbol x a) few = quiet_shows c m (events.Symbol x a) b (symbol_kept m b.slot x a) few refl (symbol_same m b.slot x a)
-line_shows c m b (events.Go a) few = disturbs_shows c m (events.Go a) b.slot b (on_registers m b.slot (started a)) few refl (registers_same m b.slot (started a))
-line_shows c m b (events.Int s x y) few = disturbs_shows c m (events.Int s x y) s b (on_registers m s (interrupted x y)) few refl (registers_same m s (interrupted x y))
-line_shows c m b (events.Stop s) few = disturbs_shows c m (events.Stop s) s b (on_registers m s stopped) few refl (registers_same m s stopped)
-line_shows c m b (events.Cont s) few = disturbs_shows c m (events.Cont s) s b (on_registers m s continued) few refl (registers_same m s continued)
-line_shows c m b (events.Deposit s a x) few = disturbs_shows c m (events.Deposit s a x) s b (deposited m s a x) few refl (deposited_same m s a x)
+    disturbs_shows c m (events.Words a words) b.slot b (with_words_loaded m b.slot a words.items) few refl (words_same m b.slot a words.items)
+line_shows c m b (events.Version v) few = shows_still c m (with_version m v) (events.Version v) [] few (version_same m v) refl refl
+line_shows c m b (events.ReadOnly p) few = disturbs_shows c m (events.ReadOnly p) b.slot b (with_page_protected m b.slot p) few refl (page_same m b.slot p)
+line_shows c m b (events.Symbol x a) few = quiet_shows c m (events.Symbol x a) b (with_symbol_kept m b.slot x a) few refl (symbol_same m b.slot x a)
+line_shows c m b (events.Go a) few = disturbs_shows c m (events.Go a) b.slot b (on_registers m b.slot (after_go a)) few refl (registers_same m b.slot (after_go a))
+line_shows c m b (events.Int s x y) few = disturbs_shows c m (events.Int s x y) s b (on_registers m s (after_int x y)) few refl (registers_same m s (after_int x y))
+line_shows c m b (events.Stop s) few = disturbs_shows c m (events.Stop s) s b (on_registers m s after_stop) few refl (registers_same m s after_stop)
+line_shows c m b (events.Cont s) few = disturbs_shows c m (events.Cont s) s b (on_registers m s after_cont) few refl (registers_same m s after_cont)
+line_shows c m b (events.Deposit s a x) few = disturbs_shows c m (events.Deposit s a x) s b (after_deposit m s a x) few refl (deposited_same m s a x)
 line_shows c m b (events.Exam s a n) few = exam_shows c m b (events.Exam s a n) s (in_a_line s a) (examined m s a n) few refl (λ ws. refl)
 line_shows c m b (events.List s a n) few = exam_shows c m b (events.List s a n) s (printed.listed s a) (examined m s a n) few refl (λ ws. listed_quiet c s a ws)
 line_shows c m b (events.State s) few = state_shows c m b s (state_shown m s) few
@@ -269,9 +269,9 @@ line_shows c m b events.Nothing few = shows_still c m m events.Nothing [] few re
 line_shows c m b events.End few = tt
 line_shows c m b (events.File d x y) few =
     let n = names_of d x y in
-    quiet_shows c m (events.File d x y) (record b { file = n }) (file_made m n) few refl (files_same m (file_made m n) (made_files m n))
+    quiet_shows c m (events.File d x y) (record b { file = n }) (with_file_made m n) few refl (files_same m (with_file_made m n) (made_files m n))
 line_shows c m b (events.Append words) few =
-    quiet_shows c m (events.Append words) b (words_added m b.file words.items) few refl (files_same m (words_added m b.file words.items) (added_files m b.file words.items))
+    quiet_shows c m (events.Append words) b (with_words_added m b.file words.items) few refl (files_same m (with_words_added m b.file words.items) (added_files m b.file words.items))
 line_shows c m b events.EndFile few = shows_still c m m events.EndFile [] few refl refl refl
 line_shows c m b (events.TypeIn d bytes) few = typed_shows c d m bytes.items few
 line_shows c m b (events.Drain d n) few = drained_shows c d m n few

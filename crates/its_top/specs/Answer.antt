@@ -8,14 +8,14 @@ use Rattle.its_reader.specs.declared.items.Found.{Found}
 use Rattle.its_reader.specs.declared.items.Found.TheVariants as founds
 use Rattle.its_word.specs.declared.calls.Pace.{Pace}
 use Rattle.its_plain.specs.Machine.{Names, Machine}
-use Rattle.its_plain.specs.OperatorConsoles.{typed, dropped, drained}
-use Rattle.its_plain.specs.OperatorFiles.{words_added}
+use Rattle.its_plain.specs.OperatorConsoles.{with_typed, dropped, after_drain}
+use Rattle.its_plain.specs.OperatorFiles.{with_words_added}
 use Rattle.its_stepped.specs.State.{State}
 use Rattle.its_stepped.specs.Unwind.{unwound, help}
-use Rattle.its_stepped.specs.Lines.{Told, turned, with_raw, paces_of, ticked}
+use Rattle.its_stepped.specs.Lines.{Told, turned, with_raw, paces_of, after_ticks}
 use Rattle.its_word.specs.declared.session.Reason.{Reason}
 use Rattle.its_plain.specs.Operator.{Block}
-use Rattle.its_plain.specs.OperatorJobs.{words_stored, examined}
+use Rattle.its_plain.specs.OperatorJobs.{with_words_stored, examined}
 use Rattle.its_print.specs.Printing.{Line, text}
 use Rattle.its_world.specs.World.{state_of}
 use Rattle.its_world.specs.declared.world.World.{World}
@@ -101,7 +101,7 @@ pub record Stood (old now : World) : Type 0 where
 pub record AddSo (v now : State) (n : Names) (k : ℕ) (words rest : List ℕ) : Type 0 where
   pub raw : help now ≡ with_raw v (help now).raw
   pub reached : 0 < k → now ≡ help now
-  pub whole : words_added (help now).raw n rest ≡ words_added v.raw n words
+  pub whole : with_words_added (help now).raw n rest ≡ with_words_added v.raw n words
 
 -- of some lines all but the last ones were written
 pub record WritesSo (lines rest : List Line) (old now : Option (List ℕ)) : Type 0 where
@@ -113,22 +113,22 @@ pub record WritesSo (lines rest : List Line) (old now : Option (List ℕ)) : Typ
 pub record LoadSo (v now : State) (s a k : ℕ) (words rest : List ℕ) : Type 0 where
   pub raw : unwound now s ≡ with_raw v (unwound now s).raw
   pub reached : 0 < k → now ≡ unwound now s
-  pub whole : words_stored (unwound now s).raw s (a + k) rest ≡ words_stored v.raw s a words
+  pub whole : with_words_stored (unwound now s).raw s (a + k) rest ≡ with_words_stored v.raw s a words
 
 -- k of n ticks of a slot were made
 pub record PacesSo (v now : State) (s n k : ℕ) (ps : List Pace) : Type 0 where
   pub letters : ps ++ paces_of now s (n - k) ≡ paces_of v s n
-  pub state : ticked now s (n - k) ≡ ticked v s n
+  pub state : after_ticks now s (n - k) ≡ after_ticks v s n
 
 -- k bytes of a TYPE line were typed at console c, of which n were dropped
 pub record TypedSo (v now : State) (c k n : ℕ) (bytes rest : List ℕ) : Type 0 where
   pub raw : now ≡ with_raw v now.raw
-  pub whole : typed c rest now.raw ≡ typed c bytes v.raw
+  pub whole : with_typed c rest now.raw ≡ with_typed c bytes v.raw
   pub count : n + dropped (now.raw.consoles c) rest ≡ dropped (v.raw.consoles c) bytes
-  pub reached : 0 < k → typed c [] now.raw ≡ now.raw
+  pub reached : 0 < k → with_typed c [] now.raw ≡ now.raw
 
 -- the output of console c was drained k times, of n
 pub record DrainedSo (v now : State) (c n k : ℕ) (bytes : List ℕ) : Type 0 where
   pub raw : now ≡ with_raw v now.raw
-  pub whole : drained c (n - k) now.raw ≡ drained c n v.raw
+  pub whole : after_drain c (n - k) now.raw ≡ after_drain c n v.raw
   pub taken : bytes ++ take (n - k) (now.raw.consoles c).output ≡ take n (v.raw.consoles c).output

@@ -1,7 +1,7 @@
 ghost use Rattle.std.specs.Prelude.{◌≡◌, ◌≤◌, ◌<◌, ◌-◌};
 ghost use Rattle.its_word.specs.Limits.{slots};
 ghost use Rattle.its_session.specs.Fits.{EventFits};
-ghost use Rattle.its_stepped.specs.Lines.{paces_of, ticked};
+ghost use Rattle.its_stepped.specs.Lines.{paces_of, after_ticks};
 ghost use Rattle.its_world.specs.World.{state_of};
 ghost use Rattle.its_monitor.specs.Kept.{Kept};
 ghost use Rattle.its_print.specs.Printing.{Ticks, text_of_line};
@@ -48,7 +48,7 @@ pub fn tick_line<K: Sink>(m: &mut Monitor, s: u8, n: u32, runs: &mut Runs, out: 
     requires slot { s < slots }
     requires few { n ≤ 512 }
     ensures told { Tells result Flow.On (text_of_line (Ticks s (paces_of (state_of m.old.world) s n))) (K.written out.old) (K.written out.new) }
-    ensures state { state_of m.new.world ≡ ticked (state_of m.old.world) s n }
+    ensures state { state_of m.new.world ≡ after_ticks (state_of m.old.world) s n }
     ensures sound { Kept m.new.world }
     ensures cause { FlowCause result (K.faults out.old) (K.faults out.new) }
 {

@@ -2,8 +2,8 @@
 ghost use Rattle.std.specs.Prelude.{◌≡◌, ◌<◌, ◌↔◌, ◌∷◌, [], Ok, IsTrue, IfSome, IfOk, IfErr, OnErr, length, slice_get};
 ghost use Rattle.its_word.specs.Console.{most_waiting};
 ghost use Rattle.its_word.specs.Limits.{slots};
-ghost use Rattle.its_plain.specs.OperatorJobs.{loaded};
-ghost use Rattle.its_plain.specs.OperatorConsoles.{typed, drained};
+ghost use Rattle.its_plain.specs.OperatorJobs.{after_load};
+ghost use Rattle.its_plain.specs.OperatorConsoles.{with_typed, after_drain};
 ghost use Rattle.its_world.specs.World.{state_of};
 ghost use Rattle.its_monitor.specs.Kept.{Kept, Lands, Loads, Refused};
 
@@ -15,9 +15,9 @@ use its_word::{Refusal, Word};
 pub fn load_job(m: &mut Monitor, u: Word, j: Word, console: Option<u8>) -> Result<u8, Refusal>
     requires sound { Kept m.old.world }
     requires console { IfSome console (λ c. c < 8) }
-    ensures done { IfOk result (λ s. Loads (state_of m.old.world) (state_of m.new.world) (loaded (state_of m.old.world).raw u j console) s) }
+    ensures done { IfOk result (λ s. Loads (state_of m.old.world) (state_of m.new.world) (after_load (state_of m.old.world).raw u j console) s) }
     ensures slot { IfOk result (λ s. s < slots) }
-    ensures refused { IfErr result (λ e. Refused (state_of m.old.world) (state_of m.old.world) (λ x. loaded x u j console) e) }
+    ensures refused { IfErr result (λ e. Refused (state_of m.old.world) (state_of m.old.world) (λ x. after_load x u j console) e) }
     ensures same { OnErr result (m.new ≡ m.old) }
     ensures sound { Kept m.new.world }
 {
@@ -29,7 +29,7 @@ pub fn type_in(m: &mut Monitor, console: u8, b: u8) -> bool
     requires sound { Kept m.old.world }
     requires console { console < 8 }
     ensures waits { IsTrue result ↔ (length ((state_of m.old.world).raw.consoles console).input < most_waiting) }
-    ensures done { Lands (state_of m.old.world) (state_of m.new.world) (Ok (typed console (b ∷ []) (state_of m.old.world).raw)) }
+    ensures done { Lands (state_of m.old.world) (state_of m.new.world) (Ok (with_typed console (b ∷ []) (state_of m.old.world).raw)) }
     ensures sound { Kept m.new.world }
 {
     match m.type_in(console, b) {
@@ -43,7 +43,7 @@ pub fn drain(m: &mut Monitor, console: u8) -> Option<u8>
     requires sound { Kept m.old.world }
     requires console { console < 8 }
     ensures first { result ≡ slice_get ((state_of m.old.world).raw.consoles console).output 0 }
-    ensures done { Lands (state_of m.old.world) (state_of m.new.world) (Ok (drained console 1 (state_of m.old.world).raw)) }
+    ensures done { Lands (state_of m.old.world) (state_of m.new.world) (Ok (after_drain console 1 (state_of m.old.world).raw)) }
     ensures sound { Kept m.new.world }
 {
     match m.drain(console) {

@@ -3,7 +3,7 @@ ghost use Rattle.std.specs.Prelude.{◌≡◌, ◌≤◌, ◌<◌, ◌+◌, ◌-
 ghost use Rattle.its_word.specs.declared.calls.Pace.{Pace};
 ghost use Rattle.its_files.specs.Files.{entry_at, is_file, words_at};
 ghost use Rattle.its_plain.specs.Operator.{Block};
-ghost use Rattle.its_plain.specs.OperatorFiles.{word_added, words_added, files_in, filed_line, listing, shown_lines, rows};
+ghost use Rattle.its_plain.specs.OperatorFiles.{with_word_added, with_words_added, files_in, filed_line, listing, shown_lines, rows};
 ghost use Rattle.its_stepped.specs.Unwind.{help};
 ghost use Rattle.its_world.specs.World.{state_of};
 ghost use Rattle.its_word.specs.Refusals.{reason_of};
@@ -57,8 +57,8 @@ pub fn make_file(
 pub fn add_words(m: &mut Monitor, names: [Word; 3], words: &[Word]) -> Result<(), Refusal>
     requires sound { Kept m.old.world }
     requires some { 1 ≤ length words.now }
-    ensures done { OnOk result (Lands (help (state_of m.old.world)) (state_of m.new.world) (words_added (help (state_of m.old.world)).raw names words.now)) }
-    ensures refused { IfErr result (λ e. words_added (help (state_of m.old.world)).raw names words.now ≡ Err (reason_of e)) }
+    ensures done { OnOk result (Lands (help (state_of m.old.world)) (state_of m.new.world) (with_words_added (help (state_of m.old.world)).raw names words.now)) }
+    ensures refused { IfErr result (λ e. with_words_added (help (state_of m.old.world)).raw names words.now ≡ Err (reason_of e)) }
     ensures sound { Kept m.new.world }
 {
     for w in words {
@@ -71,8 +71,8 @@ pub fn add_words(m: &mut Monitor, names: [Word; 3], words: &[Word]) -> Result<()
 #[tactic(auto, using(crate::proofs::FilingLaws::adds_file, crate::proofs::FilingLaws::adds_done, crate::proofs::FilingLaws::adds_refused, crate::proofs::FilingLaws::adds_nothing))]
 fn add_word(m: &mut Monitor, names: [Word; 3], w: Word) -> Result<(), Refusal>
     requires sound { Kept m.old.world }
-    ensures done { OnOk result (Lands (help (state_of m.old.world)) (state_of m.new.world) (word_added (help (state_of m.old.world)).raw names w)) }
-    ensures refused { IfErr result (λ e. word_added (help (state_of m.old.world)).raw names w ≡ Err (reason_of e)) }
+    ensures done { OnOk result (Lands (help (state_of m.old.world)) (state_of m.new.world) (with_word_added (help (state_of m.old.world)).raw names w)) }
+    ensures refused { IfErr result (λ e. with_word_added (help (state_of m.old.world)).raw names w ≡ Err (reason_of e)) }
     ensures sound { Kept m.new.world }
 {
     let [d, x, y] = names;

@@ -4,10 +4,10 @@ ghost use Rattle.its_word.specs.Limits.{slots};
 ghost use Rattle.its_word.specs.declared.calls.Pace.{Pace};
 ghost use Rattle.its_session.specs.Fits.{EventFits};
 ghost use Rattle.its_plain.specs.Operator.{Block};
-ghost use Rattle.its_plain.specs.OperatorJobs.{words_loaded, words_stored, examined};
-ghost use Rattle.its_plain.specs.OperatorConsoles.{typed, dropped, drained};
+ghost use Rattle.its_plain.specs.OperatorJobs.{with_words_loaded, with_words_stored, examined};
+ghost use Rattle.its_plain.specs.OperatorConsoles.{with_typed, dropped, after_drain};
 ghost use Rattle.its_stepped.specs.Unwind.{unwound};
-ghost use Rattle.its_stepped.specs.Lines.{paces_of, ticked};
+ghost use Rattle.its_stepped.specs.Lines.{paces_of, after_ticks};
 ghost use Rattle.its_world.specs.World.{state_of};
 ghost use Rattle.its_word.specs.Refusals.{reason_of};
 ghost use Rattle.its_monitor.specs.Kept.{Kept, Lands};
@@ -214,8 +214,8 @@ pub fn load_words(m: &mut Monitor, slot: u8, a: u32, words: &[Word]) -> Result<(
     requires slot { slot < slots }
     requires some { 1 ≤ length words.now }
     requires end { a + length words.now ≤ 2 ^ 18 }
-    ensures done { OnOk result (Lands (unwound (state_of m.old.world) slot) (state_of m.new.world) (words_loaded (unwound (state_of m.old.world) slot).raw slot a words.now)) }
-    ensures refused { IfErr result (λ e. words_loaded (unwound (state_of m.old.world) slot).raw slot a words.now ≡ Err (reason_of e)) }
+    ensures done { OnOk result (Lands (unwound (state_of m.old.world) slot) (state_of m.new.world) (with_words_loaded (unwound (state_of m.old.world) slot).raw slot a words.now)) }
+    ensures refused { IfErr result (λ e. with_words_loaded (unwound (state_of m.old.world) slot).raw slot a words.now ≡ Err (reason_of e)) }
     ensures sound { Kept m.new.world }
 {
     if m.barred(slot, a, words.len() as u32) {
@@ -231,8 +231,8 @@ fn store_words(m: &mut Monitor, slot: u8, a: u32, words: &[Word]) -> Result<(), 
     requires slot { slot < slots }
     requires some { 1 ≤ length words.now }
     requires end { a + length words.now ≤ 2 ^ 18 }
-    ensures done { OnOk result (Lands (unwound (state_of m.old.world) slot) (state_of m.new.world) (words_stored (unwound (state_of m.old.world) slot).raw slot a words.now)) }
-    ensures refused { IfErr result (λ e. words_stored (unwound (state_of m.old.world) slot).raw slot a words.now ≡ Err (reason_of e)) }
+    ensures done { OnOk result (Lands (unwound (state_of m.old.world) slot) (state_of m.new.world) (with_words_stored (unwound (state_of m.old.world) slot).raw slot a words.now)) }
+    ensures refused { IfErr result (λ e. with_words_stored (unwound (state_of m.old.world) slot).raw slot a words.now ≡ Err (reason_of e)) }
     ensures sound { Kept m.new.world }
 {
     let mut at = a;
@@ -252,7 +252,7 @@ pub fn paces_of(m: &mut Monitor, s: u8, n: u32, runs: &mut Runs)
     requires empty { runs.old.items ≡ [] }
     ensures paces { paces_in runs.new.items ≡ paces_of (state_of m.old.world) s n }
     ensures count { length (paces_in runs.new.items) ≡ n }
-    ensures state { state_of m.new.world ≡ ticked (state_of m.old.world) s n }
+    ensures state { state_of m.new.world ≡ after_ticks (state_of m.old.world) s n }
     ensures sound { Kept m.new.world }
 {
     let mut made = 0;
@@ -281,7 +281,7 @@ fn run_of(m: &mut Monitor, s: u8, n: u32, stepped: bool) -> Run
     requires some { 0 < n }
     ensures few { 1 + result.more ≤ n }
     ensures paces { paces_in (result ∷ []) ≡ paces_of (state_of m.old.world) s (1 + result.more) }
-    ensures state { state_of m.new.world ≡ ticked (state_of m.old.world) s (1 + result.more) }
+    ensures state { state_of m.new.world ≡ after_ticks (state_of m.old.world) s (1 + result.more) }
     ensures sound { Kept m.new.world }
 {
     let pace = m.tick(s);
@@ -302,7 +302,7 @@ pub fn type_bytes(m: &mut Monitor, c: u8, bytes: &[u8]) -> u32
     requires some { 1 ≤ length bytes.now }
     requires few { length bytes.now ≤ 32 }
     ensures dropped { result ≡ dropped ((state_of m.old.world).raw.consoles c) bytes.now }
-    ensures done { Lands (state_of m.old.world) (state_of m.new.world) (Ok (typed c bytes.now (state_of m.old.world).raw)) }
+    ensures done { Lands (state_of m.old.world) (state_of m.new.world) (Ok (with_typed c bytes.now (state_of m.old.world).raw)) }
     ensures sound { Kept m.new.world }
 {
     let mut count = 0;
@@ -322,7 +322,7 @@ pub fn drain_bytes(m: &mut Monitor, c: u8, n: u32) -> ArrayVec<u8, 64>
     requires few { n ≤ 64 }
     ensures bytes { result.items ≡ take n ((state_of m.old.world).raw.consoles c).output }
     ensures few { length result.items ≤ 64 }
-    ensures done { Lands (state_of m.old.world) (state_of m.new.world) (Ok (drained c n (state_of m.old.world).raw)) }
+    ensures done { Lands (state_of m.old.world) (state_of m.new.world) (Ok (after_drain c n (state_of m.old.world).raw)) }
     ensures sound { Kept m.new.world }
 {
     let mut bytes = ArrayVec::new();

@@ -7,13 +7,13 @@ use Rattle.its_word.specs.Limits.{slots}
 use Rattle.its_word.specs.Only.{Only, Same}
 use Rattle.its_word.specs.declared.jobs.Channel.{Channel}
 use Rattle.its_word.specs.declared.jobs.Channel.TheVariants.{Closed, TtyIn, TtyOut, Reading, Writing, Usr}
-use Rattle.its_files.specs.Files.{Store, IsStore, entry_at, is_file, names_at, names_by, words_at, readers_at, directory, found, with_readers, with_draft, discarded, with_word, close, delete, rename, new_names}
+use Rattle.its_files.specs.Files.{Store, IsStore, entry_at, is_file, names_at, names_by, words_at, readers_at, directory, found, with_readers, with_draft, after_discard, with_word, close, delete, rename, new_names}
 use Rattle.its_files.specs.declared.entry.Entry.TheVariants.{File, Draft}
 use Rattle.its_frame.specs.declared.change.Change.TheVariants.{Open, Shut as Shuts, Move, Append, Close, Delete, Rename}
 use Rattle.its_frame.specs.declared.change.Opened.TheVariants as opened
 use Rattle.its_plain.specs.Machine.{Names, Shut, Reads, Writes}
 use Rattle.its_plain.specs.Own.{names_of, opened_on, at_position, with_word as longer_on, on_channel}
-use Rattle.its_plain.specs.Change.{effect, without_file, renamed}
+use Rattle.its_plain.specs.Change.{effect, without_file, with_new_names}
 use Rattle.its_plain.specs.CallFile.{has_file}
 use Rattle.its_stepped.specs.Commit.{effect_on}
 use Rattle.its_world.specs.World.{chan_of, mark_of, state_of, in_raw}
@@ -97,7 +97,7 @@ module _ (old new : World) (s n : ℕ) (ls : s < slots) (ln : n < 16) (tidy : Ti
     shut_file_comes = channel_comes old new s n Closed t b tidy shut_file_kept (λ c. Shut) (λ some. refl) files shut_file_mark
 
   module _ (t : Store) (k : ℕ) (b : ChannelBecomes old new s n Closed t) (was : Writing k ≡ channel_at old.jobs s n)
-      (made : t ≡ discarded old.files k) (files : directory t ≡ directory old.files)
+      (made : t ≡ after_discard old.files k) (files : directory t ≡ directory old.files)
       (entry : Only (entry_at old.files) (entry_at t) k None) (words : Only (words_at old.files) (words_at t) k []) where
     shut_draft_kept : Kept old.files t old.jobs new.jobs s n
     shut_draft_kept = discarded_kept old.files t old.jobs new.jobs s n k tidy.across ls ln [] (sym was)
@@ -245,8 +245,8 @@ module _ (old new : World) (tidy : Tidy old) (d x y : ℕ) (unmarked : (state_of
     pub rename_comes : (j : ℕ) → Comes new (effect_on (Rename d x y u v) j (state_of old))
     unfolding effect_on effect
     rename_comes j =
-        directory_comes t (renamed (names_of d x y) u v (state_of old).raw.files) o renamed_is
-        (renamed_directory old.files whole t (names_of d x y) f u v is files ∙ sym (ap (renamed (names_of d x y) u v) (files_are old)))
+        directory_comes t (with_new_names (names_of d x y) u v (state_of old).raw.files) o renamed_is
+        (renamed_directory old.files whole t (names_of d x y) f u v is files ∙ sym (ap (with_new_names (names_of d x y) u v) (files_are old)))
         (ap (λ w. w.mark) (rename_is old.files t f u v made).1)
 
   pub rename_none : (u v : ℕ) → found old.files (d ∷ x ∷ y ∷ []) ≡ None → (j : ℕ) → Comes old (effect_on (Rename d x y u v) j (state_of old))

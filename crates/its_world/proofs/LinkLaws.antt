@@ -8,7 +8,7 @@ use Rattle.its_files.specs.Files.{Store}
 use Rattle.its_frame.specs.declared.change.Change.TheVariants.{Join, Part}
 use Rattle.its_jobs.specs.Table.{Table, job_at}
 use Rattle.its_pipes.specs.Pipes.{piped}
-use Rattle.its_plain.specs.Change.{effect, end_closed, link_or_new, with_end_opened}
+use Rattle.its_plain.specs.Change.{effect, after_end_close, link_or_new, with_end_opened}
 use Rattle.its_plain.specs.Machine.{Shut, Linked, Pipe}
 use Rattle.its_plain.specs.OperatorClock.{clock_end}
 use Rattle.its_plain.specs.Own.{on_channel}
@@ -52,8 +52,8 @@ unfolding effect_on effect
 joined_row old mid new s n l x y write b put =
     put ∙ ap (λ w. in_raw w s (on_channel n (λ c. Linked l write))) (link_state old mid l (λ o. Some (with_end_opened write s n (link_or_new x y o))) b)
 
-pub parted_row : (old mid new : World) (s n l : ℕ) (write : Bool) → LinkBecomes old mid l (end_closed write (piped old.pipes l))
+pub parted_row : (old mid new : World) (s n l : ℕ) (write : Bool) → LinkBecomes old mid l (after_end_close write (piped old.pipes l))
     → state_of new ≡ in_raw (state_of mid) s (on_channel n (λ c. chan_of mid.files Closed)) → state_of new ≡ effect_on (Part n l write) s (state_of old)
 unfolding effect_on effect
 parted_row old mid new s n l write b put =
-    put ∙ ap (λ w. in_raw w s (on_channel n (λ c. Shut))) (link_state old mid l (end_closed write) b)
+    put ∙ ap (λ w. in_raw w s (on_channel n (λ c. Shut))) (link_state old mid l (after_end_close write) b)

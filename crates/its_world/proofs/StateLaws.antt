@@ -10,7 +10,7 @@ use Rattle.its_word.specs.declared.calls.Exit.{Exit}
 use Rattle.its_word.specs.declared.plan.Store.{Store}
 use Rattle.its_core.specs.Cores.{core_at, reserved_at, clear_at}
 use Rattle.its_core.specs.Frames.{Frames}
-use Rattle.its_plain.specs.Own.{with_stores, left_with, leave}
+use Rattle.its_plain.specs.Own.{with_stores, after_exit, after_leave}
 use Rattle.its_word.specs.Stores.{stored}
 use Rattle.its_files.specs.Files.{directory}
 use Rattle.its_jobs.specs.Table.{job_at, superior_at}
@@ -117,8 +117,8 @@ stored_slot old new s ss f h b =
     turned_state old new s (stored (core_at old.core s) ss) j.0 j.0 f (with_stores ss) (subst (λ o. Becomes old new s (stored (core_at old.core s) ss) o f (clear_at old.core s)) j.1 b) j.1 refl
 
 pub left_slot : (old new : World) (s : ℕ) (j : Job) (e : Exit) (f : Option Frame) → job_at old.jobs s ≡ Some j
-    → Becomes old new s (core_at old.core s) (Some (left_with e j)) f (clear_at old.core s) → state_of new ≡ with_slot (state_of old) s (leave e) f
-left_slot old new s j e f h b = turned_state old new s (core_at old.core s) (left_with e j) j f (leave e) b h refl
+    → Becomes old new s (core_at old.core s) (Some (after_exit e j)) f (clear_at old.core s) → state_of new ≡ with_slot (state_of old) s (after_leave e) f
+left_slot old new s j e f h b = turned_state old new s (core_at old.core s) (after_exit e j) j f (after_leave e) b h refl
 
 -- a frame that was taken out and another put in its place
 pub retaken : (w : State) (s : ℕ) (f g : Option Frame) (h : Whole → Whole) → with_slot (with_slot w s same f) s h g ≡ with_slot w s h g

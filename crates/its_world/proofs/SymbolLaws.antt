@@ -6,7 +6,7 @@ use Rattle.std.proofs.lemmas.List.{get_or_past}
 use Rattle.its_word.specs.ArrayVec.{ArrayVec}
 use Rattle.its_word.specs.Only.{Only, Same}
 use Rattle.its_jobs.specs.Table.{job_at}
-use Rattle.its_plain.specs.Change.{symbols_left}
+use Rattle.its_plain.specs.Change.{symbols_after_removal}
 use Rattle.its_plain.specs.Machine.{Symbol}
 use Rattle.its_world.specs.World.{no_symbols, symbols_at, VersionBecomes}
 use Rattle.its_world.specs.declared.world.World.{World}
@@ -45,7 +45,7 @@ version_becomes old new v version jobs superiors core frames consoles holders fi
 
 -- the lists below n are done
 pub record Forgotten (gone : ℕ → Bool) (old new : List (ArrayVec Symbol)) (n : ℕ) : Type 0 where
-  pub done : (k : ℕ) → k < n → symbols_at new k ≡ symbols_left (gone k) (symbols_at old k)
+  pub done : (k : ℕ) → k < n → symbols_at new k ≡ symbols_after_removal (gone k) (symbols_at old k)
   pub rest : (k : ℕ) → n ≤ k → symbols_at new k ≡ symbols_at old k
 
 pub forget_start : (gone : ℕ → Bool) (old : List (ArrayVec Symbol)) → Forgotten gone old old 0
@@ -55,7 +55,7 @@ pub forget_gone : (gone : ℕ → Bool) (old new : List (ArrayVec Symbol)) (n : 
     → Forgotten gone old (slice_set new n x) (n + 1)
 forget_gone gone old new n x l e g c = record {
   done = λ k less. elim (cases_eq k n) [
-    | inl is ↦ ap (symbols_at (slice_set new n x)) is ∙ (list_here new n x [] l e).here ∙ sym (ap (λ (b : Bool). symbols_left b (symbols_at old k)) (ap gone is ∙ g))
+    | inl is ↦ ap (symbols_at (slice_set new n x)) is ∙ (list_here new n x [] l e).here ∙ sym (ap (λ (b : Bool). symbols_after_removal b (symbols_at old k)) (ap gone is ∙ g))
     | inr ne ↦ (list_here new n x [] l e).others k ne ∙ c.done k (omega arith)
   ];
   rest = λ k less. (list_here new n x [] l e).others k (λ is. omega arith) ∙ c.rest k (omega arith);
@@ -64,18 +64,18 @@ forget_gone gone old new n x l e g c = record {
 pub forget_kept : (gone : ℕ → Bool) (old new : List (ArrayVec Symbol)) (n : ℕ) → gone n ≡ false → Forgotten gone old new n → Forgotten gone old new (n + 1)
 forget_kept gone old new n g c = record {
   done = λ k less. elim (cases_eq k n) [
-    | inl is ↦ c.rest k (omega arith) ∙ sym (ap (λ (b : Bool). symbols_left b (symbols_at old k)) (ap gone is ∙ g))
+    | inl is ↦ c.rest k (omega arith) ∙ sym (ap (λ (b : Bool). symbols_after_removal b (symbols_at old k)) (ap gone is ∙ g))
     | inr ne ↦ c.done k (omega arith)
   ];
   rest = λ k less. c.rest k (omega arith);
 }
 
-left_none : (b : Bool) (ss : List Symbol) → ss ≡ [] → symbols_left b ss ≡ []
+left_none : (b : Bool) (ss : List Symbol) → ss ≡ [] → symbols_after_removal b ss ≡ []
 left_none true ss e = refl
 left_none false ss e = e
 
 pub forget_end : (gone : ℕ → Bool) (old new : List (ArrayVec Symbol)) (n : ℕ) → length old ≤ n → Forgotten gone old new n
-    → (k : ℕ) → symbols_at new k ≡ symbols_left (gone k) (symbols_at old k)
+    → (k : ℕ) → symbols_at new k ≡ symbols_after_removal (gone k) (symbols_at old k)
 forget_end gone old new n l c k = elim (cases_lt k n) [
   | inl less ↦ c.done k less
   | inr past ↦

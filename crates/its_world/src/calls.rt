@@ -3,7 +3,7 @@ ghost use Rattle.std.specs.Prelude.{◌≡◌, ◌<◌, ◌≤◌, ◌∷◌, []
 ghost use Rattle.its_calls.specs.Calls.{after_fetch, after_parse, after_step, ending_in, entered_in, fault_of, frame_seen, gone_to, parsed_in, request, request_in};
 ghost use Rattle.its_core.specs.Cores.{core_at};
 ghost use Rattle.its_jobs.specs.Table.{job_at};
-ghost use Rattle.its_plain.specs.Arguments.{revalued};
+ghost use Rattle.its_plain.specs.Arguments.{with_new_values};
 ghost use Rattle.its_plain.specs.Footprint.{SiteFits};
 ghost use Rattle.its_stepped.specs.State.{entered, ending};
 ghost use Rattle.its_stepped.specs.TwoParts.{fetch_of, parse_of};
@@ -157,7 +157,7 @@ impl World {
     pub fn go_on(&mut self, slot: u8, values: &[Word], next: Next)
         requires slot { slot < slots }
         requires request { is_some (request_in (frame_at self.old.frames.items slot)) ≡ true }
-        ensures { IfSome (request_in (frame_at self.old.frames.items slot)) (λ r. FrameBecomes self.old self.new slot (Some (gone_to next (request r.site (revalued r.ask values.now))))) }
+        ensures { IfSome (request_in (frame_at self.old.frames.items slot)) (λ r. FrameBecomes self.old self.new slot (Some (gone_to next (request r.site (with_new_values r.ask values.now))))) }
     {
         self.write_go_on(slot, values, next);
         self.refile(slot);
@@ -168,7 +168,7 @@ impl World {
     fn write_go_on(&mut self, slot: u8, values: &[Word], next: Next)
         requires slot { slot < slots }
         requires request { is_some (request_in (frame_at self.old.frames.items slot)) ≡ true }
-        ensures { IfSome (request_in (frame_at self.old.frames.items slot)) (λ r. SlotWritten self.old self.new slot (job_at self.old.jobs slot) (Some (gone_to next (request r.site (revalued r.ask values.now))))) }
+        ensures { IfSome (request_in (frame_at self.old.frames.items slot)) (λ r. SlotWritten self.old self.new slot (job_at self.old.jobs slot) (Some (gone_to next (request r.site (with_new_values r.ask values.now))))) }
     {
         self.frames[usize::from(slot)].go_on(values, next);
     }

@@ -5,7 +5,7 @@ ghost use Rattle.its_word.specs.Limits.{slots};
 ghost use Rattle.its_word.specs.Links.{most_links, most_linked};
 ghost use Rattle.its_frame.specs.declared.change.Change.TheVariants.{Join, Part, Receive, Send};
 ghost use Rattle.its_plain.specs.CallLink.{words_in};
-ghost use Rattle.its_plain.specs.Change.{end_closed, link_or_new, with_end_opened, with_received, with_sent};
+ghost use Rattle.its_plain.specs.Change.{after_end_close, link_or_new, with_end_opened, with_received, with_sent};
 ghost use Rattle.its_plain.specs.Machine.{Linked, Shut};
 ghost use Rattle.its_stepped.specs.Commit.{effect_on};
 ghost use Rattle.its_pipes.specs.Pipes.{piped};
@@ -73,7 +73,7 @@ impl World {
     #[tactic(auto, using(crate::proofs::WorldLaws::link_becomes))]
     fn close_end(&mut self, link: u8, write: bool)
         requires { link < most_links }
-        ensures { LinkBecomes self.old self.new link (end_closed write (piped self.old.pipes link)) }
+        ensures { LinkBecomes self.old self.new link (after_end_close write (piped self.old.pipes link)) }
     {
         self.write_parted(link, write);
         self.resettle_link(link);
@@ -82,7 +82,7 @@ impl World {
     /// Writes the end that is closed; those that wait keep their places.
     fn write_parted(&mut self, link: u8, write: bool)
         requires { link < most_links }
-        ensures { LinkWritten self.old self.new link (end_closed write (piped self.old.pipes link)) }
+        ensures { LinkWritten self.old self.new link (after_end_close write (piped self.old.pipes link)) }
     {
         self.pipes.part(link, write);
     }

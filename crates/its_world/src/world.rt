@@ -53,7 +53,7 @@ impl World {
     ghost use Rattle.its_jobs.specs.Table.{job_at, superior_at, NoJobs};
     ghost use Rattle.its_word.specs.Core.{store, can_store, put as put_at, page_of};
     ghost use Rattle.its_world.specs.World.{frame_at, console_at, holder_at, alarm_at, CoreBecomes, JobBecomes, FrameBecomes, PageBecomes, ConsoleBecomes, HolderBecomes, ClockBecomes, symbols_at, SymbolsBecome, VersionBecomes, typed_at, drained_at};
-    ghost use Rattle.its_plain.specs.Change.{taken_from, put_to};
+    ghost use Rattle.its_plain.specs.Change.{after_take, after_put};
     ghost use Rattle.its_files.specs.Files.{no_files};
     ghost use Rattle.its_pipes.specs.Pipes.{piped};
     ghost use Rattle.its_world.specs.Filed.{Ringed, SlotWritten, ConsoleWritten, HolderWritten, ClockWritten};
@@ -205,7 +205,7 @@ impl World {
     pub fn take(&mut self, console: u8) -> Option<u8>
         requires { console < 8 }
         ensures first { result ≡ slice_get (console_at self.old.consoles.items console).input 0 }
-        ensures rest { ConsoleBecomes self.old self.new console (taken_from (console_at self.old.consoles.items console)) }
+        ensures rest { ConsoleBecomes self.old self.new console (after_take (console_at self.old.consoles.items console)) }
     {
         let byte = self.write_taken(console);
         self.resettle_input(console);
@@ -217,7 +217,7 @@ impl World {
     fn write_taken(&mut self, console: u8) -> Option<u8>
         requires { console < 8 }
         ensures first { result ≡ slice_get (console_at self.old.consoles.items console).input 0 }
-        ensures rest { ConsoleWritten self.old self.new console (taken_from (console_at self.old.consoles.items console)) }
+        ensures rest { ConsoleWritten self.old self.new console (after_take (console_at self.old.consoles.items console)) }
     {
         self.consoles[usize::from(console)].take()
     }
@@ -227,7 +227,7 @@ impl World {
     pub fn put(&mut self, console: u8, b: u8) -> bool
         requires { console < 8 }
         ensures kept { IsTrue result ↔ (length (console_at self.old.consoles.items console).output < most_waiting) }
-        ensures put { IsTrue result → ConsoleBecomes self.old self.new console (put_to b (console_at self.old.consoles.items console)) }
+        ensures put { IsTrue result → ConsoleBecomes self.old self.new console (after_put b (console_at self.old.consoles.items console)) }
         ensures same { result ≡ false → self.new ≡ self.old }
     {
         if self.write_put(console, b) {
@@ -243,7 +243,7 @@ impl World {
     fn write_put(&mut self, console: u8, b: u8) -> bool
         requires { console < 8 }
         ensures kept { IsTrue result ↔ (length (console_at self.old.consoles.items console).output < most_waiting) }
-        ensures put { IsTrue result → ConsoleWritten self.old self.new console (put_to b (console_at self.old.consoles.items console)) }
+        ensures put { IsTrue result → ConsoleWritten self.old self.new console (after_put b (console_at self.old.consoles.items console)) }
         ensures same { result ≡ false → self.new ≡ self.old }
     {
         self.consoles[usize::from(console)].put(b)

@@ -5,7 +5,7 @@ ghost use Rattle.its_core.specs.Cores.{core_at};
 ghost use Rattle.its_word.specs.Limits.{slots};
 ghost use Rattle.its_plain.specs.Job.{flags_of, pc_word};
 ghost use Rattle.its_plain.specs.UnitPlan.{ContextFits, both_down, both_up};
-ghost use Rattle.its_plain.specs.UnitJumps.{branch_row, counted, is_negative, named_by, restored, stack_row, transferred};
+ghost use Rattle.its_plain.specs.UnitJumps.{branch_row, with_count, is_negative, named_by, restored, stack_row, transferred};
 
 use super::plans::{
     Draft, any_on, complete, jump, next, stay, to, with_flags, with_pending, without,
@@ -107,7 +107,7 @@ pub fn branches(core: &Core, slot: u8, x: &Context, op: BranchOp) -> Result<Draf
 /// A plan with PDL set if the count in the left half of a stack pointer ran out.
 #[inline(always)]
 fn count(end: u32, pointer: Word, plan: Draft) -> Draft
-    ensures { result ≡ counted end pointer plan }
+    ensures { result ≡ with_count end pointer plan }
 {
     let pending = if pointer.left() == end {
         Word::new(PDL)

@@ -6,7 +6,7 @@ ghost use Rattle.its_word.specs.Limits.{slots};
 ghost use Rattle.its_word.specs.Only.{Only};
 ghost use Rattle.its_word.specs.Core.{can_store, store};
 ghost use Rattle.its_word.specs.Stores.{first_fault, place, stored};
-ghost use Rattle.its_plain.specs.Unit.{left_by};
+ghost use Rattle.its_plain.specs.Unit.{after_plan};
 ghost use Rattle.pdp_exec.specs.Stores.{list_of};
 
 use super::plans::Draft;
@@ -101,7 +101,7 @@ fn make(core: &mut Core, slot: u8, stores: Stores) -> Result<(), Fault>
 /// The registers after a plan.
 #[inline(always)]
 fn leave(job: &mut Job, plan: &Draft)
-    ensures registers { job.new ≡ left_by job.old plan.now }
+    ensures registers { job.new ≡ after_plan job.old plan.now }
     ensures pc { job.new.pc < 2 ^ 18 }
 {
     job.flags = plan.flags() & NAMED_FLAGS;
@@ -115,7 +115,7 @@ pub fn carry_out(core: &mut Core, slot: u8, job: &mut Job, plan: &Draft) -> Resu
     requires slot { slot < slots }
     ensures made { result_err result ≡ first_fault (core_at core.old slot) plan.now.stores.items }
     ensures stored { OnOk result (Only (core_at core.old) (core_at core.new) slot (stored (core_at core.old slot) plan.now.stores.items)) }
-    ensures left { OnOk result (job.new ≡ left_by job.old plan.now) }
+    ensures left { OnOk result (job.new ≡ after_plan job.old plan.now) }
     ensures pc { OnOk result (job.new.pc < 2 ^ 18) }
     ensures reserved { core.new.reserved ≡ core.old.reserved }
     ensures frames { core.new.frames ≡ core.old.frames }

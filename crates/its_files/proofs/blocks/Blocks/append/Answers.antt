@@ -1,7 +1,7 @@
 -- a word more in the last block, or in a new one
 use Rattle.std.proofs.Common.{◌∙◌, ◌+◌, ◌-◌, ◌/◌, ap, sym, arith}
 use Rattle.std.proofs.lemmas.List.{get_or_read}
-use Rattle.its_files.specs.Blocks.{appended, is_full}
+use Rattle.its_files.specs.Blocks.{with_word_appended, is_full}
 use Rattle.its_files.proofs.ChainLaws.{standing}
 use Rattle.its_files.proofs.BlockLaws.{grown, grown_is, full_is, room_is, put_blocks, put_view}
 use Rattle.its_files.proofs.blocks.Blocks.append.Goals as goal
@@ -44,7 +44,7 @@ returns-clause-ok c =
     let g = grown i.words.words i.words.most i.lengths.items i.lasts.items i.free i.place i.links c.args.id c.self.invariant c.requires c.block_for.new.links c.index-length.result.now c.in-Ok.block c.index-last.result.now n_is l_is c.in-Ok.ensures.old_block c.in-Ok.ensures.new_block in
     let m = grown_is i.words.words i.words.most i.lengths.items i.lasts.items i.free i.place i.links c.args.id c.self.invariant c.requires c.block_for.new.links c.index-length.result.now c.in-Ok.block c.index-last.result.now c.in-Ok.ensures.old_block c.in-Ok.ensures.new_block in
     put_view i.words.words c.put_word.new.words.words i.words.most c.put_word.new.words.most i.lengths.items i.lasts.items i.free i.place i.links.nodes c.block_for.new.links.nodes i.links.lists c.block_for.new.links.lists c.args.id c.index-length.result.now c.in-Ok.block c.args.w c.self.invariant c.put_word.ensures.most m.0 c.requires n_is g c.seen.ensures.once c.put_word.ensures.words m.1
-    ∙ ap (λ s. appended s c.args.id c.args.w) c.self.view_is
+    ∙ ap (λ s. with_word_appended s c.args.id c.args.w) c.self.view_is
 
 pub returns-clause-full : goal.returns-clause-full
 returns-clause-full c =
