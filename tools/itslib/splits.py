@@ -11,9 +11,9 @@ from typing import Callable, Dict, Iterator, List, NamedTuple, Set, Tuple
 
 ORDER = WALK, EFFECT, KIND = "walk", "effect", "kind"
 SAID = {WALK: "a session", EFFECT: "what a line does", KIND: "the kinds of line"}
-VARIANTS = "Rattle.its_word.specs.declared.session.Event.TheVariants"
+VARIANTS = "Rattle.its_records.specs.declared.session.Event.TheVariants"
 TYPES = (
-    ("Item", "Rattle.its_word.specs.Item", WALK),
+    ("Item", "Rattle.its_records.specs.Item", WALK),
     ("Lined", "Rattle.its_plain.specs.OperatorLines", EFFECT),
     ("Operated", "Rattle.its_plain.specs.Operator", EFFECT),
 )

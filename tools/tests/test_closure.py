@@ -73,7 +73,7 @@ class Checks(unittest.TestCase):
         more = "data More : List Item → Type 0 where\n  rule : {e : Event} → More (Unread r ∷ [])\n\n"
         self.split(checking, "abbrev pub checked_text", more + "abbrev pub checked_text", ": More distinguishes a session")
         self.split(turns, "turns_asked", "turns_wanted", "turns_wanted distinguishes the kinds of line", "says that turns_asked distinguishes")
-        more = "use Rattle.its_word.specs.Item.{Read as Seen}\nmore : List Item → ℕ\nmore (Seen e ∷ es) = 1\nmore es = 0\n"
+        more = "use Rattle.its_records.specs.Item.{Read as Seen}\nmore : List Item → ℕ\nmore (Seen e ∷ es) = 1\nmore es = 0\n"
         with changed(fair, "\n\n", "\n" + more + "\n"):
             self.assertIn(no_place % "a session", " ".join(REAL.complaints(self.parts)))
 

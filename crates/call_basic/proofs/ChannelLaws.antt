@@ -1,9 +1,9 @@
 -- A channel is closed if it is shut on the plain machine.
 use Rattle.std.specs.Prelude.{◌≡◌, ◌&&◌, ℕ, nat_lt, refl}
 use Rattle.std.proofs.Common.{ap, ◌∙◌}
-use Rattle.its_word.specs.declared.jobs.Channel.{Channel}
-use Rattle.its_word.specs.declared.jobs.Channel.TheVariants.{Closed}
-use Rattle.its_word.specs.declared.jobs.Job.{Job}
+use Rattle.its_records.specs.declared.jobs.Channel.{Channel}
+use Rattle.its_records.specs.declared.jobs.Channel.TheVariants.{Closed}
+use Rattle.its_records.specs.declared.jobs.Job.{Job}
 use Rattle.its_files.specs.Files.{Store}
 use Rattle.its_plain.specs.CallBasic.{channel_at, is_shut}
 use Rattle.its_world.specs.World.{chan_of, chans_of}

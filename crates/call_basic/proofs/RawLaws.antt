@@ -1,9 +1,9 @@
 -- The raw job of a slot that has a job.
 use Rattle.std.specs.Prelude.{◌≡◌, ℕ, Bool, Option, Some, IfSome, refl}
 use Rattle.std.proofs.Common.{sym, subst}
-use Rattle.its_word.specs.declared.calls.Ask.{Ask}
-use Rattle.its_word.specs.declared.jobs.Channel.TheVariants.{Usr}
-use Rattle.its_word.specs.declared.jobs.Job.{Job}
+use Rattle.its_records.specs.declared.calls.Ask.{Ask}
+use Rattle.its_records.specs.declared.jobs.Channel.TheVariants.{Usr}
+use Rattle.its_records.specs.declared.jobs.Job.{Job}
 use Rattle.its_frame.specs.declared.name.CallName.TheVariants.{Usrvar}
 use Rattle.its_jobs.specs.Table.{job_at}
 use Rattle.its_plain.specs.Arguments.{input}

@@ -1,7 +1,7 @@
 -- What a USRVAR finds in the job into which it reaches.
 use Rattle.std.specs.Prelude.{◌≡◌, ℕ, Some, None}
 use Rattle.std.proofs.Common.{sym, ap}
-use Rattle.its_word.specs.declared.jobs.Job.{Job}
+use Rattle.its_records.specs.declared.jobs.Job.{Job}
 use Rattle.its_frame.specs.declared.variable.Variable.{Variable}
 use Rattle.its_jobs.specs.Table.{job_at}
 use Rattle.its_plain.specs.CallBasic.{value_of_other}

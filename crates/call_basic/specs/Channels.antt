@@ -1,9 +1,9 @@
 -- Whether a channel of some registers is closed, in the forms that code answers.
 -- No promise rests on this.
 use Rattle.std.specs.Prelude.{◌&&◌, ℕ, Bool, true, false, nat_lt}
-use Rattle.its_word.specs.declared.jobs.Channel.{Channel}
-use Rattle.its_word.specs.declared.jobs.Channel.TheVariants.{Closed}
-use Rattle.its_word.specs.declared.jobs.Job.{Job}
+use Rattle.its_records.specs.declared.jobs.Channel.{Channel}
+use Rattle.its_records.specs.declared.jobs.Channel.TheVariants.{Closed}
+use Rattle.its_records.specs.declared.jobs.Job.{Job}
 use Rattle.its_machine.specs.Called.{channel_under}
 
 abbrev pub is_closed : Channel → Bool

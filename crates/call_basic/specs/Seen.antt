@@ -1,8 +1,8 @@
 -- What a call of a slot's job looks at in a world.
 -- No promise rests on this.
 use Rattle.std.specs.Prelude.{ℕ, Bool, true, false, Option, option_map}
-use Rattle.its_word.specs.declared.calls.Ask.{Ask}
-use Rattle.its_word.specs.declared.jobs.Job.{Job}
+use Rattle.its_records.specs.declared.calls.Ask.{Ask}
+use Rattle.its_records.specs.declared.jobs.Job.{Job}
 use Rattle.its_core.specs.Cores.{core_at}
 use Rattle.its_jobs.specs.Table.{superior_at}
 use Rattle.its_frame.specs.declared.decision.Decision.{Decision}

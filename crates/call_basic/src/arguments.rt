@@ -3,7 +3,8 @@ ghost use Rattle.std.specs.Prelude.{◌≡◌};
 ghost use Rattle.its_plain.specs.Arguments.{has_input, input, place_of_input};
 ghost use Rattle.its_plain.specs.Footprint.{among, in_footprint, is_shared, times};
 
-use its_word::{Ask, Word};
+use its_records::Ask;
+use its_word::Word;
 
 /// The value of an input; 0 if there is none.
 pub fn input(ask: &Ask, k: usize) -> Word

@@ -8,7 +8,7 @@ use super::ends::{fails, finishes_with};
 use super::sleeping::is_negative;
 use arrayvec::ArrayVec;
 use its_frame::{Change, Decision, error};
-use its_word::{Ask, Job};
+use its_records::{Ask, Job};
 use its_world::World;
 
 /// The longest period of an alarm, in thirtieths.

@@ -11,7 +11,8 @@ use super::arguments::input;
 use super::party::{channel, is_oneself};
 use arrayvec::ArrayVec;
 use its_frame::{CallName, Change, Decision};
-use its_word::{Ask, Channel, Job, Word};
+use its_records::{Ask, Channel, Job};
+use its_word::Word;
 use its_world::World;
 
 /// The slot of the job into which the call of a slot's job reaches, through an open channel on it.

@@ -7,7 +7,8 @@ ghost use Rattle.its_plain.specs.Tests.{number_at, out};
 
 use arrayvec::ArrayVec;
 use its_frame::{Change, Decision, Exit, Store};
-use its_word::{ADDRESSES, Ask, BYTE_HALF, Fault, IOC, Job, Word};
+use its_records::{Ask, Job};
+use its_word::{ADDRESSES, BYTE_HALF, Fault, IOC, Word};
 
 /// The registers of a job as they are.
 pub(crate) fn exit_of(job: &Job) -> Exit

@@ -3,7 +3,8 @@ ghost use Rattle.std.specs.Prelude.{◌≡◌, unwrap_or};
 ghost use Rattle.call_basic.specs.Channels.{is_closed, is_free};
 
 use super::party::channel;
-use its_word::{Ask, Channel, Job, Word};
+use its_records::{Ask, Channel, Job};
+use its_word::Word;
 
 /// The control argument; 0 if there is none.
 pub fn control(ask: &Ask) -> u64

@@ -4,7 +4,8 @@ ghost use Rattle.its_plain.specs.CallBasic.{is_oneself, is_superior};
 ghost use Rattle.its_machine.specs.Called.{channel_under};
 ghost use Rattle.call_basic.specs.Seen.{outline_at};
 
-use its_word::{Channel, Job, Word};
+use its_records::{Channel, Job};
+use its_word::Word;
 use its_world::World;
 
 /// Whether an argument names the caller itself.

@@ -7,7 +7,7 @@ use super::arguments::{input, place_of_input};
 use super::ends::{ends, fails, faults, store_at};
 use its_frame::{Decision, error};
 use its_ints::{dismiss as dismissed, popped};
-use its_word::{Ask, Job};
+use its_records::{Ask, Job};
 use its_world::World;
 
 /// DISMIS p: PC, flags and deferrals come from the words that a delivery pushed, and 5 is taken from each half of the

@@ -16,7 +16,8 @@ use super::party::{channel, is_oneself};
 use super::variables::{by_oneself, by_superior, exit_with, variable_of};
 use arrayvec::ArrayVec;
 use its_frame::{Change, Decision, Store, Variable, error};
-use its_word::{Ask, Channel, Job, Word};
+use its_records::{Ask, Channel, Job};
+use its_word::Word;
 use its_world::World;
 
 /// USRVAR job, name, optional new value: the output gets the value before, and then the new value is set. Errors 4 if

@@ -9,7 +9,8 @@ use super::arguments::{input, is_shared, place_of_input};
 use super::ends::{fails, faults, finishes};
 use arrayvec::ArrayVec;
 use its_frame::{Decision, Wait, error};
-use its_word::{Ask, Fault, Job, Word};
+use its_records::{Ask, Job};
+use its_word::{Fault, Word};
 use its_world::World;
 
 /// The longest sleep, in thirtieths.

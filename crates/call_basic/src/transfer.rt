@@ -3,7 +3,7 @@ ghost use Rattle.std.specs.Prelude.{◌≡◌, ◌==◌, ◌<◌, ◌∷◌, ◌
 ghost use Rattle.std.specs.Option.{option_to_list};
 ghost use Rattle.its_word.specs.Byte.{size};
 ghost use Rattle.its_word.specs.Limits.{slots};
-ghost use Rattle.its_word.specs.declared.jobs.Job.{Job};
+ghost use Rattle.its_records.specs.declared.jobs.Job.{Job};
 ghost use Rattle.its_core.specs.Cores.{core_at};
 ghost use Rattle.its_frame.specs.declared.decision.Decision.TheVariants.{Ends, Goes};
 ghost use Rattle.its_plain.specs.Arguments.{input};
@@ -19,7 +19,8 @@ use super::sleeping::{is_negative, is_read_only, is_shared_place};
 use arrayvec::ArrayVec;
 use its_bytes::{has_size, increment};
 use its_frame::{Change, Decision, Held, Store, error};
-use its_word::{Ask, Fault, Job, Word};
+use its_records::{Ask, Job};
+use its_word::{Fault, Word};
 use its_world::World;
 
 /// Bits 13 to 17 of a word are the low five bits of its left half: I and X of a byte pointer.

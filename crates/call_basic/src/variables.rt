@@ -7,7 +7,8 @@ ghost use Rattle.call_basic.specs.Seen.{raw_with};
 
 use super::ends::exit_after;
 use its_frame::{Exit, Variable};
-use its_word::{Job, Word, flags_in, pc_word};
+use its_records::Job;
+use its_word::{Word, flags_in, pc_word};
 use its_world::World;
 
 /// A word of ones, which means that there is no number.

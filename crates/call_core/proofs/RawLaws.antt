@@ -1,8 +1,8 @@
 -- The decision is made on the raw job of the slot.
 use Rattle.std.specs.Prelude.{◌≡◌, ℕ, Some, IfSome}
 use Rattle.std.proofs.Common.{subst}
-use Rattle.its_word.specs.declared.calls.Ask.{Ask}
-use Rattle.its_word.specs.declared.jobs.Job.{Job}
+use Rattle.its_records.specs.declared.calls.Ask.{Ask}
+use Rattle.its_records.specs.declared.jobs.Job.{Job}
 use Rattle.its_frame.specs.declared.decision.Decision.{Decision}
 use Rattle.its_jobs.specs.Table.{job_at}
 use Rattle.its_plain.specs.CallStep.{decision}

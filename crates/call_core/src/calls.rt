@@ -17,7 +17,7 @@ use call_file::{access, delete, fillen, rename};
 use call_tty::{finish, listen, ttylnd};
 use call_usr::{uclose, usrmem};
 use its_frame::{CallName, Decision, Wait, error};
-use its_word::{Ask, Job};
+use its_records::{Ask, Job};
 use its_world::World;
 
 /// The decision of the call of a slot's job.

@@ -22,7 +22,7 @@ use call_link::{close_end, iot_link, is_link, open_link, siot_link};
 use call_tty::{iot_in, iot_out, open_tty, siot_in, siot_out};
 use call_usr::{iot_through, is_usr, open_usr, siot_through};
 use its_frame::{Change, Decision, error};
-use its_word::{Ask, Channel, Job};
+use its_records::{Ask, Channel, Job};
 use its_world::World;
 
 /// OPEN by its device: any but DSK, USR and LNK has to be TTY.

@@ -16,7 +16,7 @@ ghost use Rattle.call_basic.specs.Seen.{seen_by};
 use arrayvec::ArrayVec;
 use call_basic::{channel, fails, finishes_with, input, is_oneself};
 use its_frame::{Change, Decision, error};
-use its_word::{Ask, Channel, Job};
+use its_records::{Ask, Channel, Job};
 use its_world::World;
 
 /// The highest operation.

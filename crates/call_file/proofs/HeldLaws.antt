@@ -1,7 +1,7 @@
 -- What the channels of a job are on that read a file or write a draft.
 use Rattle.std.specs.Prelude.{◌≡◌, ℕ, true, Some}
-use Rattle.its_word.specs.declared.jobs.Channel.TheVariants.{Reading, Writing}
-use Rattle.its_word.specs.declared.jobs.Job.{Job}
+use Rattle.its_records.specs.declared.jobs.Channel.TheVariants.{Reading, Writing}
+use Rattle.its_records.specs.declared.jobs.Job.{Job}
 use Rattle.its_files.specs.Files.{entry_at, is_file, is_draft}
 use Rattle.its_jobs.specs.Table.{job_at}
 use Rattle.its_world.specs.Tidy.{Tidy}

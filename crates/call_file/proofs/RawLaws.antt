@@ -1,10 +1,10 @@
 -- Whether a call is one on files, by what its channel is on.
 use Rattle.std.specs.Prelude.{◌≡◌, ℕ, true, Some, refl}
 use Rattle.std.proofs.Common.{sym, ◌∙◌, ap}
-use Rattle.its_word.specs.declared.calls.Ask.{Ask}
-use Rattle.its_word.specs.declared.jobs.Channel.{Channel}
-use Rattle.its_word.specs.declared.jobs.Channel.TheVariants.{Writing}
-use Rattle.its_word.specs.declared.jobs.Job.{Job}
+use Rattle.its_records.specs.declared.calls.Ask.{Ask}
+use Rattle.its_records.specs.declared.jobs.Channel.{Channel}
+use Rattle.its_records.specs.declared.jobs.Channel.TheVariants.{Writing}
+use Rattle.its_records.specs.declared.jobs.Job.{Job}
 use Rattle.its_files.specs.Files.{Store}
 use Rattle.its_frame.specs.declared.name.CallName.TheVariants.{Iot, Siot}
 use Rattle.its_plain.specs.Arguments.{input}

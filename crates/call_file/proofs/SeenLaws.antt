@@ -2,8 +2,8 @@
 use Rattle.std.specs.Prelude.{◌≡◌, ◌+◌, ℕ, Bool, true, false, Option, Some, None, length, refl}
 use Rattle.std.proofs.Common.{sym, ◌∙◌, ap, arith}
 use Rattle.its_files.specs.Blocks.{blocks, free_blocks, is_full, blocks_used}
-use Rattle.its_word.specs.declared.calls.Ask.{Ask}
-use Rattle.its_word.specs.declared.jobs.Job.{Job}
+use Rattle.its_records.specs.declared.calls.Ask.{Ask}
+use Rattle.its_records.specs.declared.jobs.Job.{Job}
 use Rattle.its_files.specs.Files.{IsStore, directory, found, words_at}
 use Rattle.its_plain.specs.Machine.{Names}
 use Rattle.its_plain.specs.CallFile.{channels_in, is_full as has_no_room, is_read}

@@ -1,8 +1,8 @@
 -- What the calls on files find in the store and on channels, in the forms that code answers.
 -- No promise rests on this.
 use Rattle.std.specs.Prelude.{ℕ, Bool, true, false, Option, Some, None, nat_lt}
-use Rattle.its_word.specs.declared.jobs.Channel.{Channel}
-use Rattle.its_word.specs.declared.jobs.Channel.TheVariants.{Reading, Writing}
+use Rattle.its_records.specs.declared.jobs.Channel.{Channel}
+use Rattle.its_records.specs.declared.jobs.Channel.TheVariants.{Reading, Writing}
 use Rattle.its_files.specs.Files.{Store, readers_at}
 
 -- whether a channel reads a file, if there is one

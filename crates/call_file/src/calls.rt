@@ -11,7 +11,7 @@ ghost use Rattle.call_file.specs.Held.{is_on_file};
 use super::directory::DSK;
 use call_basic::{channel, input};
 use its_frame::{CallName, OnFiles};
-use its_word::{Ask, Channel, Job};
+use its_records::{Ask, Channel, Job};
 use its_world::World;
 
 /// Whether the device of OPEN is DSK.

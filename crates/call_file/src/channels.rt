@@ -15,7 +15,8 @@ use super::directory::{has_file, is_read, names_from};
 use arrayvec::ArrayVec;
 use call_basic::{channel, control, fails, finishes, finishes_with, input, is_free, store_at};
 use its_frame::{Change, Decision, Opened, error};
-use its_word::{ADDRESSES, Ask, Channel, Job, Word};
+use its_records::{Ask, Channel, Job};
+use its_word::{ADDRESSES, Word};
 use its_world::World;
 
 /// The position at which a channel on an inferior is at its end, after word 777777 (octal).

@@ -10,7 +10,8 @@ ghost use Rattle.call_file.specs.Held.{has_readers};
 use arrayvec::ArrayVec;
 use call_basic::{fails, finishes_with, input};
 use its_frame::{Change, Decision, error};
-use its_word::{Ask, Job, Word};
+use its_records::{Ask, Job};
+use its_word::Word;
 use its_world::World;
 
 /// The device of files, in SIXBIT.

@@ -13,7 +13,8 @@ use arrayvec::ArrayVec;
 use call_basic::{bar_of_store, fails, faults, input, ioc, iot_ends, moves, next_pointer, stopped};
 use its_bytes::load;
 use its_frame::{Change, Decision, Held, Store, error};
-use its_word::{Ask, Fault, Job, Word};
+use its_records::{Ask, Job};
+use its_word::{Fault, Word};
 use its_world::World;
 
 /// What `.IOT` gets at the end of a file.

@@ -1,8 +1,8 @@
 //! OPEN of LNK: an end of a link by its names, which is made if there is none; and CLOSE of an end.
 ghost use Rattle.std.specs.Prelude.{◌≡◌, ◌==◌, ◌<◌, ◌∷◌, []};
 ghost use Rattle.its_word.specs.Limits.{slots};
-ghost use Rattle.its_word.specs.Links.{is_unopened, link_end, most_links};
-ghost use Rattle.its_word.specs.Tree.{least_free};
+ghost use Rattle.its_records.specs.Links.{is_unopened, link_end, most_links};
+ghost use Rattle.its_records.specs.Tree.{least_free};
 ghost use Rattle.its_frame.specs.declared.change.Change.TheVariants.{Join, Part};
 ghost use Rattle.its_frame.specs.declared.decision.Decision.TheVariants.{Ends};
 ghost use Rattle.its_plain.specs.Arguments.{input};
@@ -14,7 +14,7 @@ ghost use Rattle.call_basic.specs.Seen.{seen_by};
 use arrayvec::ArrayVec;
 use call_basic::{control, fails, finishes_with, input, is_free};
 use its_frame::{Change, Decision, error};
-use its_word::{Ask, End, Job, Link};
+use its_records::{Ask, End, Job, Link};
 use its_world::World;
 
 /// The device of links, in SIXBIT.

@@ -13,7 +13,8 @@ use call_basic::{
 };
 use its_bytes::load;
 use its_frame::{Change, Decision, Held, Wait, error};
-use its_word::{Ask, Fault, Job, Word};
+use its_records::{Ask, Job};
+use its_word::{Fault, Word};
 use its_world::World;
 
 /// What `.IOT` gets at the end of a link.

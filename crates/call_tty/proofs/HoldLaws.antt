@@ -1,7 +1,7 @@
 -- What a call sees of who holds a console.
 use Rattle.std.specs.Prelude.{◌≡◌, ℕ, Option, Some, None, refl}
-use Rattle.its_word.specs.declared.calls.Ask.{Ask}
-use Rattle.its_word.specs.declared.jobs.Job.{Job}
+use Rattle.its_records.specs.declared.calls.Ask.{Ask}
+use Rattle.its_records.specs.declared.jobs.Job.{Job}
 use Rattle.its_plain.specs.CallTty.{can_take, is_holder}
 use Rattle.its_plain.specs.View.{view}
 use Rattle.its_world.specs.World.{state_of}

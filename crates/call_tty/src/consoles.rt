@@ -5,7 +5,7 @@ ghost use Rattle.its_plain.specs.CallTty.{is_empty, is_other};
 ghost use Rattle.its_world.specs.World.{console_at, holder_at};
 ghost use Rattle.call_tty.specs.Waiting.{cannot_put, cannot_take};
 
-use its_word::Job;
+use its_records::Job;
 use its_world::World;
 
 /// The bytes that can wait in one direction.

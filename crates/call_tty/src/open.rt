@@ -6,7 +6,7 @@ ghost use Rattle.call_basic.specs.Seen.{seen_by};
 use arrayvec::ArrayVec;
 use call_basic::{control, fails, finishes_with, input, is_free};
 use its_frame::{Change, Decision, Opened, error};
-use its_word::{Ask, Job};
+use its_records::{Ask, Job};
 use its_world::World;
 
 /// The device of consoles, in SIXBIT.

@@ -11,7 +11,8 @@ use arrayvec::ArrayVec;
 use call_basic::{bar_of_store, faults, input, iot_ends, moves, next_pointer, stopped};
 use its_bytes::load;
 use its_frame::{Change, Decision, Held, Store, Wait};
-use its_word::{Ask, Fault, Job, Word};
+use its_records::{Ask, Job};
+use its_word::{Fault, Word};
 use its_world::World;
 
 /// The bits of a byte that a console shows.

@@ -11,7 +11,8 @@ use call_basic::{
     channel, fails, finishes, finishes_with, input, is_oneself, is_superior, store_at,
 };
 use its_frame::{Change, Decision, Wait, error};
-use its_word::{Ask, Channel, Job, Word};
+use its_records::{Ask, Channel, Job};
+use its_word::Word;
 use its_world::World;
 
 /// FINISH channel: waits until all output of the console is drained. Errors 4, 5.

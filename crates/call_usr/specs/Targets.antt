@@ -2,8 +2,8 @@
 -- No promise rests on this.
 use Rattle.std.specs.Prelude.{◌≡◌, ◌<◌, ℕ, true, Some, is_some}
 use Rattle.its_word.specs.Limits.{slots}
-use Rattle.its_word.specs.declared.calls.Ask.{Ask}
-use Rattle.its_word.specs.declared.jobs.Job.{Job}
+use Rattle.its_records.specs.declared.calls.Ask.{Ask}
+use Rattle.its_records.specs.declared.jobs.Job.{Job}
 use Rattle.its_jobs.specs.Table.{job_at}
 use Rattle.its_plain.specs.Arguments.{input}
 use Rattle.its_plain.specs.Decide.{target}

@@ -18,7 +18,8 @@ ghost use Rattle.call_usr.specs.Targets.{Targets};
 use arrayvec::ArrayVec;
 use call_basic::{channel, fails, finishes, finishes_with, has_input, input, output};
 use its_frame::{Change, Decision, error};
-use its_word::{Ask, Channel, Job, Word};
+use its_records::{Ask, Channel, Job};
+use its_word::Word;
 use its_world::World;
 
 /// The highest address.

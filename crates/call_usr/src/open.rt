@@ -1,7 +1,7 @@
 //! OPEN of USR: an inferior by its names, which is made if it is to be written and there is none.
 ghost use Rattle.std.specs.Prelude.{◌≡◌, ◌==◌, ◌&&◌, ◌<◌, [], ◌∷◌, true, unwrap_or};
 ghost use Rattle.its_word.specs.Limits.{slots};
-ghost use Rattle.its_word.specs.Tree.{least_free};
+ghost use Rattle.its_records.specs.Tree.{least_free};
 ghost use Rattle.its_frame.specs.declared.change.Change.TheVariants.{Make, Open};
 ghost use Rattle.its_frame.specs.declared.change.Opened.TheVariants.{Usr};
 ghost use Rattle.its_frame.specs.declared.decision.Decision.TheVariants.{Ends};
@@ -14,7 +14,8 @@ ghost use Rattle.call_basic.specs.Seen.{seen_by, outline_at};
 use arrayvec::ArrayVec;
 use call_basic::{control, exit_after, fails, finishes_with, input, is_free, is_superior};
 use its_frame::{Change, Decision, Opened, error};
-use its_word::{Ask, Job, SLOTS, Word};
+use its_records::{Ask, Job};
+use its_word::{SLOTS, Word};
 use its_world::World;
 
 /// OPEN channel, USR, user name, job name: the caller's inferior with these names. Errors 4, 22; 13 if they are those of another job,

@@ -16,7 +16,8 @@ use call_basic::{
 };
 use its_bytes::load;
 use its_frame::{Change, Decision, Held, error};
-use its_word::{ADDRESSES, Ask, Fault, Job, Word};
+use its_records::{Ask, Job};
+use its_word::{ADDRESSES, Fault, Word};
 use its_world::World;
 
 /// What `.IOT` gets at the end of an inferior's core.

@@ -3,8 +3,8 @@ use Rattle.std.specs.Prelude.{◌≡◌, Ok, List, ℕ, [], ◌∷◌, ◌++◌,
 use Rattle.std.proofs.Common.{sym, ◌∙◌, ap, subst, append_assoc, append-nil}
 use Rattle.std.proofs.lemmas.Grind.{flat_map-append}
 use Rattle.std.proofs.lemmas.List.Elements.{All-append, All-cons, All-nil}
-use Rattle.its_word.specs.declared.session.Event.{Event}
-use Rattle.its_word.specs.declared.session.Event.TheVariants as events
+use Rattle.its_records.specs.declared.session.Event.{Event}
+use Rattle.its_records.specs.declared.session.Event.TheVariants as events
 use Rattle.its_asm.specs.declared.assembly.Image.{Image}
 use Rattle.its_session.specs.Fits.{place_of}
 use Rattle.its_session.specs.Grammar.{line_event}

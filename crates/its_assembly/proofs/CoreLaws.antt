@@ -8,7 +8,7 @@ use Rattle.std.proofs.lemmas.Bool.Decides.{nat_tests}
 use Rattle.std.proofs.lemmas.List.Folds.{list_any-append}
 use Rattle.its_word.specs.Limits.{most_pages}
 use Rattle.its_word.specs.Core.{Core, Page, can_store, no_core, page_of, page_stored, pages_present, present, store, stores_in, with_page, word_at, word_in, zero_page}
-use Rattle.its_word.specs.declared.session.Reason.{Reason}
+use Rattle.its_records.specs.declared.session.Reason.{Reason}
 use Rattle.its_word.proofs.CoreLaws.{can_store-store, in_page, is_some-store, stores_page, word_at-store_same, word_at-store_other}
 use Rattle.its_word.proofs.PageLaws.{can_store-no_core, can_store-with_page_acc, can_store-with_page_other, get-copies, page_of-no_core, page_of-with_page, page_of-with_page_other, word_at-no_core, word_at-no_core_past, word_at-with_page_acc, word_at-with_page_other}
 use Rattle.its_plain.specs.OperatorJobs.{with_stored, with_stored_in}

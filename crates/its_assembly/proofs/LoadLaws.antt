@@ -7,16 +7,16 @@ use Rattle.std.proofs.lemmas.Bool.Decides.{nat_tests}
 use Rattle.std.proofs.lemmas.List.{length-append}
 use Rattle.std.proofs.lemmas.List.Elements.{All-append, All-cons, All-head, All-nil, All-tail}
 use Rattle.std.proofs.lemmas.List.Sums.{count_by-le-length}
-use Rattle.its_word.proofs.FreeLaws.{no_job_at_all}
-use Rattle.its_word.specs.Item.{Item, Read}
+use Rattle.its_records.proofs.FreeLaws.{no_job_at_all}
+use Rattle.its_records.specs.Item.{Item, Read}
 use Rattle.its_word.specs.Limits.{limit_of, most_pages, most_symbols, slots}
 use Rattle.its_word.specs.Only.{Only}
 use Rattle.its_word.specs.Core.{Core, can_store, no_core, pages_mapped, pages_present, word_at}
-use Rattle.its_word.specs.Tree.{free_from, fresh_job, least_free, no_job}
-use Rattle.its_word.specs.declared.jobs.Job.{Job}
-use Rattle.its_word.specs.declared.session.Event.{Event}
-use Rattle.its_word.specs.declared.session.Event.TheVariants as events
-use Rattle.its_word.specs.declared.session.Reason.{Reason}
+use Rattle.its_records.specs.Tree.{free_from, fresh_job, least_free, no_job}
+use Rattle.its_records.specs.declared.jobs.Job.{Job}
+use Rattle.its_records.specs.declared.session.Event.{Event}
+use Rattle.its_records.specs.declared.session.Event.TheVariants as events
+use Rattle.its_records.specs.declared.session.Reason.{Reason}
 use Rattle.its_word.proofs.PageLaws.{pages_mapped-none, pages_mapped-only, pages_present-no_core}
 use Rattle.its_print.specs.Printing.{Line}
 use Rattle.its_print.specs.Printing as printed

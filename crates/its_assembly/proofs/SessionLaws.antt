@@ -6,12 +6,12 @@ use Rattle.std.proofs.lemmas.Bool.Decides.{nat_tests}
 use Rattle.std.proofs.lemmas.List.{length-append}
 use Rattle.std.proofs.lemmas.List.Elements.{All-append, All-cons, All-head, All-nil, All-tail}
 use Rattle.its_word.specs.Text.{digits_of, is_code, is_octal, octal_value, spaced, words_of}
-use Rattle.its_word.specs.Item.{Item, Read}
-use Rattle.its_word.specs.declared.session.Event.{Event}
-use Rattle.its_word.specs.declared.session.Event.TheVariants as events
-use Rattle.its_word.specs.declared.session.Place.{Place}
-use Rattle.its_word.specs.declared.session.Place.TheVariants as places
-use Rattle.its_word.specs.declared.session.Bad.TheVariants as bads
+use Rattle.its_records.specs.Item.{Item, Read}
+use Rattle.its_records.specs.declared.session.Event.{Event}
+use Rattle.its_records.specs.declared.session.Event.TheVariants as events
+use Rattle.its_records.specs.declared.session.Place.{Place}
+use Rattle.its_records.specs.declared.session.Place.TheVariants as places
+use Rattle.its_records.specs.declared.session.Bad.TheVariants as bads
 use Rattle.its_session.specs.Events.{events_of, item_then, items_from, lines_from, most_lines, place_after, version_after}
 use Rattle.its_session.specs.Fits.{place_of}
 use Rattle.its_session.specs.Grammar.{event_of_words, kind_of, line_event, version_line}

@@ -4,8 +4,8 @@ use Rattle.std.specs.Prelude.{◌≡◌, ◌<◌, ◌/◌, ◌^◌, ◌&&◌, �
 use Rattle.std.specs.List.{list_any}
 use Rattle.std.specs.Map.{lookup}
 use Rattle.its_word.specs.Core.{word_at}
-use Rattle.its_word.specs.Item.{Read}
-use Rattle.its_word.specs.Tree.{fresh_job}
+use Rattle.its_records.specs.Item.{Read}
+use Rattle.its_records.specs.Tree.{fresh_job}
 use Rattle.its_print.specs.Printing as printed
 use Rattle.its_session.specs.Events.{events_of}
 use Rattle.its_plain.specs.Machine.{Machine, Whole}

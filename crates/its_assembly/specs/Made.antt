@@ -2,8 +2,8 @@
 -- No promise rests on this.
 use Rattle.std.specs.Prelude.{◌≡◌, ◌≤◌, ◌+◌, ◌^◌, ℕ, true, false, Option, IfSome, Result, Ok, Err, List, [], ◌∷◌, ◌++◌, All, length}
 use Rattle.std.specs.Io.KnownBytes.{Consumes}
-use Rattle.its_word.specs.declared.session.Event.{Event}
-use Rattle.its_word.specs.declared.session.Event.TheVariants as events
+use Rattle.its_records.specs.declared.session.Event.{Event}
+use Rattle.its_records.specs.declared.session.Event.TheVariants as events
 use Rattle.its_session.specs.Fits.{place_of}
 use Rattle.its_session.specs.Grammar.{line_event}
 use Rattle.its_session.specs.Writing.{text_of_event}

@@ -4,13 +4,14 @@ ghost use Rattle.its_session.specs.Fits.{EventFits};
 ghost use Rattle.its_assembly.specs.Written.{image_events, rows, rows_from, symbol_lines};
 ghost use Rattle.its_assembly.specs.Image.{ImageFits, CellFits, SymbolFits};
 ghost use Rattle.its_assembly.specs.Made.{Adds, AddsRow, RowFits, IsSessionOf};
-ghost use Rattle.its_word.specs.declared.session.Event.TheVariants as events;
+ghost use Rattle.its_records.specs.declared.session.Event.TheVariants as events;
 
 use super::row::Row;
 use arrayvec::ArrayVec;
 use its_asm::{Image, Symbols};
+use its_records::Event;
 use its_session::print_event;
-use its_word::{Event, Word};
+use its_word::Word;
 use std::alloc::{AllocError, Global};
 
 /// The most symbols that a text defines.

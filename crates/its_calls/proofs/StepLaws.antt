@@ -2,8 +2,8 @@
 use Rattle.std.specs.Prelude.{◌≡◌, ◌<◌, Bool, true, false, List, [], ◌∷◌, length, refl}
 use Rattle.std.specs.List.{remove}
 use Rattle.std.proofs.Common.{arith, sym}
-use Rattle.its_word.specs.declared.calls.Owed.{Owed}
-use Rattle.its_word.specs.declared.calls.Owed.TheVariants.{Unlink, Link, Free}
+use Rattle.its_records.specs.declared.calls.Owed.{Owed}
+use Rattle.its_records.specs.declared.calls.Owed.TheVariants.{Unlink, Link, Free}
 use Rattle.its_stepped.specs.Unwind.{due}
 use Rattle.its_calls.specs.Steps.{begins_with_file}
 

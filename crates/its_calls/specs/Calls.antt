@@ -3,9 +3,9 @@
 use Rattle.std.specs.Prelude.{ℕ, Bool, true, false, Option, Some, None, List, drop, Result, Ok, Err}
 use Rattle.its_word.specs.ArrayVec.{ArrayVec}
 use Rattle.its_word.specs.declared.access.Fault.{Fault}
-use Rattle.its_word.specs.declared.calls.Ask.{Ask}
-use Rattle.its_word.specs.declared.calls.Owed.{Owed}
-use Rattle.its_word.specs.declared.calls.Site.{Site}
+use Rattle.its_records.specs.declared.calls.Ask.{Ask}
+use Rattle.its_records.specs.declared.calls.Owed.{Owed}
+use Rattle.its_records.specs.declared.calls.Site.{Site}
 use Rattle.its_frame.specs.declared.decision.Held.{Held}
 use Rattle.its_frame.specs.declared.frame.Frame.{Frame}
 use Rattle.its_frame.specs.declared.frame.Frame.TheVariants as frames

@@ -1,8 +1,8 @@
 -- Inputs of a call with new values.
 -- No promise rests on this.
 use Rattle.std.specs.Prelude.{ℕ, None, List, ◌++◌, take, drop, slice_set, slice_index_or}
-use Rattle.its_word.specs.declared.calls.Ask.{Ask}
-use Rattle.its_word.specs.declared.calls.Operand.{Operand}
+use Rattle.its_records.specs.declared.calls.Ask.{Ask}
+use Rattle.its_records.specs.declared.calls.Operand.{Operand}
 use Rattle.its_plain.specs.Arguments.{operands_with_values}
 
 -- an input with a new value; the inputs from one on with new values

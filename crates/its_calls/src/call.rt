@@ -16,7 +16,8 @@ use arrayvec::ArrayVec;
 use its_core::Core;
 use its_decode::{fetch_site, parse_site};
 use its_frame::Held;
-use its_word::{Ask, Block, Fault, Owed, Site, Word};
+use its_records::{Ask, Block, Owed, Site};
+use its_word::{Fault, Word};
 use std::marker::Model;
 
 /// How far a job is inside a call: in user mode; it has entered the monitor at a site; its block is read; its arguments are found; it

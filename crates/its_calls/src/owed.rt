@@ -5,7 +5,7 @@ ghost use Rattle.its_stepped.specs.Unwind.{due};
 ghost use Rattle.its_calls.specs.Steps.{begins_with_file};
 
 use arrayvec::ArrayVec;
-use its_word::Owed;
+use its_records::Owed;
 
 /// Takes the first pending step. File steps at the head are passed over if the close that is marked is not the call's own (`mine`).
 #[tactic(auto, using(crate::proofs::StepLaws::due_whole))]

@@ -3,7 +3,8 @@ ghost use Rattle.std.specs.Prelude.{◌≡◌, ◌<◌, length};
 ghost use Rattle.its_plain.specs.Arguments.{with_new_values};
 ghost use Rattle.its_calls.specs.Values.{with_value};
 
-use its_word::{Ask, Word};
+use its_records::Ask;
+use its_word::Word;
 
 /// Gives the last inputs of a call new values.
 pub fn revalue(ask: &mut Ask, values: &[Word])

@@ -4,12 +4,12 @@ use Rattle.std.proofs.Common.{sym, ap, ◌∙◌, subst, arith, drop, drop-cons}
 use Rattle.its_word.specs.Console.{most_waiting}
 use Rattle.its_word.specs.Core.{Core, no_core, zero_page, page_of, with_page, marked, can_store, store, pages_mapped}
 use Rattle.its_word.specs.Limits.{most_pages}
-use Rattle.its_word.specs.Links.{most_linked}
+use Rattle.its_records.specs.Links.{most_linked}
 use Rattle.its_word.specs.Stores.{stored}
-use Rattle.its_word.specs.Tree.{least_free, fresh_job}
-use Rattle.its_word.specs.declared.jobs.Channel.TheVariants as channels
-use Rattle.its_word.specs.declared.jobs.Job.{Job}
-use Rattle.its_word.proofs.FreeLaws.{least_empty, none_is}
+use Rattle.its_records.specs.Tree.{least_free, fresh_job}
+use Rattle.its_records.specs.declared.jobs.Channel.TheVariants as channels
+use Rattle.its_records.specs.declared.jobs.Job.{Job}
+use Rattle.its_records.proofs.FreeLaws.{least_empty, none_is}
 use Rattle.its_core.specs.Cores.{core_at, clear_at}
 use Rattle.its_files.specs.Files.{Store}
 use Rattle.its_jobs.specs.Table.{job_at, superior_at}

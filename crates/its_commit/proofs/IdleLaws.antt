@@ -7,10 +7,10 @@ use Rattle.std.proofs.lemmas.List.{get_or-set_same, get_or-set_other, get_or_pas
 use Rattle.its_word.specs.Core.{Core, can_store}
 use Rattle.its_word.specs.Limits.{slots}
 use Rattle.its_word.specs.Only.{Only}
-use Rattle.its_word.specs.declared.jobs.Job.{Job}
-use Rattle.its_word.specs.Tree.{least_free, fresh_job, is_below}
-use Rattle.its_word.specs.declared.jobs.Channel.{Channel}
-use Rattle.its_word.specs.declared.jobs.Channel.TheVariants.{Closed, Reading, Writing}
+use Rattle.its_records.specs.declared.jobs.Job.{Job}
+use Rattle.its_records.specs.Tree.{least_free, fresh_job, is_below}
+use Rattle.its_records.specs.declared.jobs.Channel.{Channel}
+use Rattle.its_records.specs.declared.jobs.Channel.TheVariants.{Closed, Reading, Writing}
 use Rattle.its_core.specs.Cores.{IsEmpty, Reserved, core_at, clear_at}
 use Rattle.its_files.specs.Blocks.{numbers}
 use Rattle.its_files.specs.Files.{Store, no_files, readers_by, entry_at, is_marked}

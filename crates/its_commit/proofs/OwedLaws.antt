@@ -2,8 +2,8 @@
 use Rattle.std.specs.Prelude.{◌≡◌, ◌<◌, ◌≤◌, ℕ, suc, ◌-◌, ◌%◌, ◌^◌, ◌==◌, false, Option, Some, None, option_map, List, [], ◌∷◌, length, drop, slice_index_or, refl}
 use Rattle.std.proofs.Common.{arith, sym, ap, ◌∙◌, length-drop, drop-cons}
 use Rattle.its_word.specs.Core.{Core, store}
-use Rattle.its_word.specs.declared.calls.Ask.{Ask}
-use Rattle.its_word.specs.declared.calls.Operand.{Operand}
+use Rattle.its_records.specs.declared.calls.Ask.{Ask}
+use Rattle.its_records.specs.declared.calls.Operand.{Operand}
 use Rattle.its_word.specs.declared.plan.Store as stores
 use Rattle.its_plain.specs.Arguments.{stores_of, debts}
 use Rattle.its_word.specs.Stores.{place, stored}

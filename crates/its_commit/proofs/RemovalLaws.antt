@@ -7,10 +7,10 @@ use Rattle.std.proofs.lemmas.List.{get_or_past}
 use Rattle.its_word.specs.ArrayVec.{ArrayVec}
 use Rattle.its_word.specs.Core.{Core, no_core}
 use Rattle.its_word.specs.Limits.{slots}
-use Rattle.its_word.specs.Links.{most_links}
-use Rattle.its_word.specs.Tree.{is_below}
-use Rattle.its_word.specs.declared.jobs.Channel.TheVariants as channels
-use Rattle.its_word.specs.declared.jobs.Job.{Job}
+use Rattle.its_records.specs.Links.{most_links}
+use Rattle.its_records.specs.Tree.{is_below}
+use Rattle.its_records.specs.declared.jobs.Channel.TheVariants as channels
+use Rattle.its_records.specs.declared.jobs.Job.{Job}
 use Rattle.its_core.specs.Cores.{core_at, clear_at}
 use Rattle.its_core.specs.Frames.{Frames, frames_drop_all}
 use Rattle.its_commit.specs.Pages.{pages_swept}
@@ -48,7 +48,7 @@ use Rattle.its_world.proofs.MappedLaws.{frames_tidy}
 use Rattle.its_world.proofs.StorageLaws.{chan_is, chan_shut, frame_is}
 use Rattle.its_machine.proofs.AcrossLaws.{across_alike, across_table, same_alike}
 use Rattle.its_machine.proofs.LeftLaws.{left_alike, left_chan, raw_superior, shut_here, shut_there}
-use Rattle.its_word.proofs.ClimbLaws.{or_second}
+use Rattle.its_records.proofs.ClimbLaws.{or_second}
 use Rattle.its_stepped.proofs.KeptLaws.{user_page}
 
 -- lists of symbols of which those of slots without a job are emptied

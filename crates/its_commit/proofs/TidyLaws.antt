@@ -4,13 +4,13 @@ use Rattle.std.proofs.Common.{◌∙◌, sym, ap, subst, inl, inr}
 use Rattle.std.proofs.lemmas.Bool.{cases_eq}
 use Rattle.its_word.specs.Console.{Console}
 use Rattle.its_word.specs.Core.{Core, no_core}
-use Rattle.its_word.specs.declared.jobs.Channel.TheVariants.{Closed}
-use Rattle.its_word.specs.declared.jobs.Job.{Job}
+use Rattle.its_records.specs.declared.jobs.Channel.TheVariants.{Closed}
+use Rattle.its_records.specs.declared.jobs.Job.{Job}
 use Rattle.its_frame.specs.declared.frame.Frame.{Frame}
 use Rattle.its_core.specs.Cores.{core_at, clear_at}
 use Rattle.its_files.specs.Files.{Store}
 use Rattle.its_jobs.specs.Table.{Table, job_at}
-use Rattle.its_word.specs.declared.calls.Exit.{Exit}
+use Rattle.its_records.specs.declared.calls.Exit.{Exit}
 use Rattle.its_plain.specs.Machine.{Pipe}
 use Rattle.its_plain.specs.Own.{after_exit}
 use Rattle.its_plain.specs.OperatorClock.{clock_end}

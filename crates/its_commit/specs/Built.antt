@@ -4,10 +4,10 @@ use Rattle.std.specs.Prelude.{◌≡◌, ◌<◌, ℕ, Bool, true, false, Some, 
 use Rattle.its_word.specs.Console.{most_waiting}
 use Rattle.its_word.specs.Core.{page_of}
 use Rattle.its_word.specs.Limits.{slots, most_pages}
-use Rattle.its_word.specs.Links.{most_links, most_linked}
-use Rattle.its_word.specs.Tree.{least_free, is_below}
-use Rattle.its_word.specs.declared.calls.Owed.{Owed}
-use Rattle.its_word.specs.declared.calls.Owed.TheVariants.{GiveBack}
+use Rattle.its_records.specs.Links.{most_links, most_linked}
+use Rattle.its_records.specs.Tree.{least_free, is_below}
+use Rattle.its_records.specs.declared.calls.Owed.{Owed}
+use Rattle.its_records.specs.declared.calls.Owed.TheVariants.{GiveBack}
 use Rattle.its_frame.specs.declared.change.Change.{Change}
 use Rattle.its_frame.specs.declared.change.Change.TheVariants as changes
 use Rattle.its_frame.specs.declared.change.Opened.{Opened}

@@ -11,9 +11,9 @@ use Rattle.its_frame.specs.declared.frame.Frame.TheVariants as frames
 use Rattle.its_frame.specs.declared.frame.Holding.{Holding}
 use Rattle.its_plain.specs.Arguments.{debts}
 use Rattle.its_plain.specs.Decide.{call_named}
-use Rattle.its_word.specs.declared.calls.Ask.{Ask}
-use Rattle.its_word.specs.declared.calls.Pace.{Pace}
-use Rattle.its_word.specs.declared.calls.Pace.TheVariants.{Step, Wait}
+use Rattle.its_records.specs.declared.calls.Ask.{Ask}
+use Rattle.its_records.specs.declared.calls.Pace.{Pace}
+use Rattle.its_records.specs.declared.calls.Pace.TheVariants.{Step, Wait}
 use Rattle.its_stepped.specs.Commit.{effect_on, effects_on, owed_parts, sleeps}
 use Rattle.its_stepped.specs.State.{State}
 use Rattle.its_calls.specs.declared.call.Next.{Next}

@@ -2,7 +2,7 @@
 -- No promise rests on this.
 use Rattle.std.specs.Prelude.{if◌then◌else◌, ◌≡◌, ◌≢◌, ◌≤◌, ◌<◌, ℕ, Bool, true, false, None, option_map}
 use Rattle.its_word.specs.Core.{no_core}
-use Rattle.its_word.specs.declared.jobs.Channel.TheVariants as channels
+use Rattle.its_records.specs.declared.jobs.Channel.TheVariants as channels
 use Rattle.its_core.specs.Cores.{core_at}
 use Rattle.its_core.specs.Frames.{frames_drop_all}
 use Rattle.its_word.specs.Limits.{slots}

@@ -1,12 +1,13 @@
 ghost use Rattle.std.specs.Prelude.{◌≡◌, ◌<◌, ◌≤◌, ◌+◌, ◌-◌, ◌∷◌, ◌++◌, [], ℕ, Bool, true, false, Some, None, is_some, length, map, if◌then◌else◌};
-ghost use Rattle.its_word.specs.declared.calls.Owed.TheVariants.{GiveBack, Leave};
+ghost use Rattle.its_records.specs.declared.calls.Owed.TheVariants.{GiveBack, Leave};
 ghost use Rattle.its_plain.specs.Arguments.{debts};
 ghost use Rattle.its_stepped.specs.Commit.{owed_store};
 ghost use Rattle.its_commit.specs.Built.{backed};
 
 use super::owed::first_owed;
 use arrayvec::ArrayVec;
-use its_word::{Ask, Exit, Owed, Store};
+use its_records::{Ask, Exit, Owed};
+use its_word::Store;
 
 /// The pending steps of a call that has ended: the parts of its close; its reserved page, if it has one; the last
 /// `owes` of its arguments; its own stores; and its registers.

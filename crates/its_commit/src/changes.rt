@@ -1,9 +1,9 @@
 ghost use Rattle.std.specs.Prelude.{◌≡◌, ◌<◌, ◌^◌, true, None, Some, [], ◌∷◌, is_some, length, option_map};
 ghost use Rattle.its_word.specs.Console.{most_waiting};
 ghost use Rattle.its_word.specs.Limits.{slots};
-ghost use Rattle.its_word.specs.Links.{most_links, most_linked};
+ghost use Rattle.its_records.specs.Links.{most_links, most_linked};
 ghost use Rattle.its_word.specs.Core.{can_store};
-ghost use Rattle.its_word.specs.Tree.{least_free};
+ghost use Rattle.its_records.specs.Tree.{least_free};
 ghost use Rattle.its_core.specs.Frames.{frames_map, frames_unmap};
 ghost use Rattle.its_plain.specs.CallLink.{words_in};
 ghost use Rattle.its_plain.specs.Change.{console_in, on_console, on_link, poke, with_protection, after_put, after_take, with_alarm, with_inf, with_page_at, with_received, with_sent};
@@ -23,7 +23,8 @@ use super::removal::remove_tree;
 use its_core::Full;
 use its_frame::{Change, Opened, Variable};
 use its_jobs::NoSlot;
-use its_word::{Channel, INF, Job, Word, flags_in};
+use its_records::{Channel, Job};
+use its_word::{INF, Word, flags_in};
 use its_world::World;
 
 /// Makes the changes of a call of slot's job, in their order.

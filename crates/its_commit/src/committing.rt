@@ -1,6 +1,6 @@
 //! The decision of a call carried out.
 ghost use Rattle.std.specs.Prelude.{◌≡◌, ◌<◌, ◌≤◌, ◌++◌, ◌∷◌, [], true, Some, is_some, IfSome, length, map};
-ghost use Rattle.its_word.specs.declared.calls.Owed.TheVariants.{Leave};
+ghost use Rattle.its_records.specs.declared.calls.Owed.TheVariants.{Leave};
 ghost use Rattle.its_word.specs.Limits.{slots};
 ghost use Rattle.its_jobs.specs.Table.{job_at};
 ghost use Rattle.its_plain.specs.Arguments.{debts, with_new_values};
@@ -20,7 +20,8 @@ use super::removal::remove_tree;
 use arrayvec::ArrayVec;
 use its_calls::{Next, View};
 use its_frame::{CallName, Decision, Held};
-use its_word::{Ask, Exit, Owed, Store, Word};
+use its_records::{Ask, Exit, Owed};
+use its_word::{Store, Word};
 use its_world::World;
 
 /// Carries out the decision of the call of a slot's job, which is in its frame: the changes at once, and the rest as

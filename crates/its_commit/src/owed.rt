@@ -5,7 +5,8 @@ ghost use Rattle.its_stepped.specs.Unwind.{first_debt};
 ghost use Rattle.its_stepped.specs.State.{mine};
 ghost use Rattle.its_world.specs.World.{state_of};
 
-use its_word::{Ask, Store};
+use its_records::Ask;
+use its_word::Store;
 use its_world::World;
 
 /// The first of the last n arguments of a call, all of which are words, as a store of its value.

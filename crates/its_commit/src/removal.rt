@@ -2,8 +2,8 @@
 ghost use Rattle.std.specs.Prelude.{◌≡◌, ◌<◌, ℕ, Bool, true, false, Some, None, is_some, length, slice_index_or};
 ghost use Rattle.its_word.specs.Core.{no_core};
 ghost use Rattle.its_word.specs.Limits.{slots};
-ghost use Rattle.its_word.specs.Tree.{is_below};
-ghost use Rattle.its_word.specs.declared.jobs.Channel.TheVariants.{Closed};
+ghost use Rattle.its_records.specs.Tree.{is_below};
+ghost use Rattle.its_records.specs.declared.jobs.Channel.TheVariants.{Closed};
 ghost use Rattle.its_core.specs.Cores.{core_at, clear_at};
 ghost use Rattle.its_core.specs.Frames.{frames_drop_all};
 ghost use Rattle.its_frame.specs.declared.change.Change.TheVariants.{Remove};
@@ -20,7 +20,8 @@ ghost use Rattle.its_world.specs.World.{state_of, in_raw, with_frames, CoreBecom
 mod tests;
 
 use its_jobs::Jobs;
-use its_word::{Channel, SLOTS};
+use its_records::Channel;
+use its_word::SLOTS;
 use its_world::{World, forget_removed};
 
 /// How many channels a job has.

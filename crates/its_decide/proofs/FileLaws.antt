@@ -1,7 +1,7 @@
 -- What a call sees of files and of the channels on them, by their numbers.
 use Rattle.std.specs.Prelude.{◌≡◌, ◌+◌, ℕ, true, is_some, length}
 use Rattle.std.proofs.Common.{sym, ◌∙◌, ap, arith}
-use Rattle.its_word.specs.declared.jobs.Channel.TheVariants.{Reading, Writing}
+use Rattle.its_records.specs.declared.jobs.Channel.TheVariants.{Reading, Writing}
 use Rattle.its_files.specs.Blocks.{blocks, free_blocks, is_full, blocks_used}
 use Rattle.its_files.specs.Files.{Store, IsStore, directory, entry_at, is_file, is_draft, words_at}
 use Rattle.its_files.proofs.EntryLaws.{file_stands}

@@ -4,8 +4,8 @@ use Rattle.std.proofs.Common.{◌∙◌, ap, subst, inl, inr}
 use Rattle.std.proofs.lemmas.Bool.{cases_lt}
 use Rattle.its_word.specs.Core.{can_store, word_at}
 use Rattle.its_word.specs.Limits.{slots}
-use Rattle.its_word.specs.Tree.{least_free}
-use Rattle.its_word.specs.declared.jobs.Channel.TheVariants.{Usr}
+use Rattle.its_records.specs.Tree.{least_free}
+use Rattle.its_records.specs.declared.jobs.Channel.TheVariants.{Usr}
 use Rattle.its_core.specs.Cores.{core_at}
 use Rattle.its_frame.specs.declared.name.CallName.{CallName}
 use Rattle.its_frame.specs.declared.name.CallName.TheVariants.{Corblk, Iot, Siot, Usrmem}

@@ -2,7 +2,7 @@
 use Rattle.std.specs.Prelude.{◌==◌, ◌&&◌, ◌≡◌, ◌≤◌, ℕ, Bool, true, false, not, [], ◌∷◌, nat_lt, unwrap_or, refl}
 use Rattle.std.proofs.Common.{sym, ◌∙◌, ap}
 use Rattle.std.proofs.lemmas.Bool.{le-ltb}
-use Rattle.its_word.specs.declared.calls.Ask.{Ask}
+use Rattle.its_records.specs.declared.calls.Ask.{Ask}
 use Rattle.its_frame.specs.Errors as error
 use Rattle.its_frame.specs.declared.decision.Decision.{Decision}
 use Rattle.its_plain.specs.Arguments.{input}

@@ -6,9 +6,9 @@ use Rattle.std.proofs.lemmas.Bool.{cases_eq, eq-eqb, ne_eqb}
 use Rattle.std.proofs.lemmas.List.Folds.{list_any-append}
 use Rattle.its_word.specs.Core.{Core}
 use Rattle.its_word.specs.Limits.{slots}
-use Rattle.its_word.specs.Tree.{is_below, slots_below}
-use Rattle.its_word.specs.declared.jobs.Job.{Job}
-use Rattle.its_word.proofs.TreeLaws.{and_false}
+use Rattle.its_records.specs.Tree.{is_below, slots_below}
+use Rattle.its_records.specs.declared.jobs.Job.{Job}
+use Rattle.its_records.proofs.TreeLaws.{and_false}
 use Rattle.its_core.specs.Cores.{core_at}
 use Rattle.its_files.specs.Files.{Store}
 use Rattle.its_jobs.specs.Table.{IsTree, job_at, superior_at}

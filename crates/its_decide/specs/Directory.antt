@@ -1,7 +1,7 @@
 -- Why a file is neither deleted nor renamed, in the form that code answers.
 -- No promise rests on this.
 use Rattle.std.specs.Prelude.{if◌then◌else◌, ◌==◌, ℕ, not, Option, Some, None}
-use Rattle.its_word.specs.declared.calls.Ask.{Ask}
+use Rattle.its_records.specs.declared.calls.Ask.{Ask}
 use Rattle.its_frame.specs.Errors as error
 use Rattle.its_plain.specs.Arguments.{input}
 use Rattle.its_plain.specs.CallFile.{channels_in, disk_device, has_file, is_read}

@@ -1,7 +1,7 @@
 -- The machine of which a caller sees the parts, and the raw job of a slot.
 -- No promise rests on this.
 use Rattle.std.specs.Prelude.{ℕ}
-use Rattle.its_word.specs.declared.jobs.Job.{Job}
+use Rattle.its_records.specs.declared.jobs.Job.{Job}
 use Rattle.its_core.specs.Cores.{core_at}
 use Rattle.its_jobs.specs.Table.{superior_at}
 use Rattle.its_plain.specs.Machine.{Machine, Whole}

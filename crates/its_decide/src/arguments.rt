@@ -7,7 +7,8 @@ ghost use Rattle.its_core.specs.Cores.{core_at};
 ghost use Rattle.its_machine.specs.Called.{channel_under};
 
 use super::caller::Caller;
-use its_word::{Ask, Channel, Job, Word};
+use its_records::{Ask, Channel, Job};
+use its_word::Word;
 
 /// The address field of -1 in the right half, which names oneself.
 const MINUS_ONE: u64 = 0o777777;

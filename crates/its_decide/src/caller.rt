@@ -11,7 +11,7 @@ use its_files::Files;
 use its_jobs::Jobs;
 use its_machine::SymbolTable;
 use its_pipes::Pipes;
-use its_word::{Ask, Job};
+use its_records::{Ask, Job};
 
 /// The parts of a machine, borrowed: cores, jobs, the consoles and for each of them the slot of the job that holds it, files and
 /// drafts, the clock in thirtieths, for each slot the alarm of its job if it has one (its period and its next time), the version of the

@@ -20,7 +20,7 @@ use super::caller::{Caller, Seen};
 use super::directory::DSK;
 use super::links::LNK;
 use its_frame::{CallName, Change, Decision, Wait, error};
-use its_word::{Ask, Channel, Job};
+use its_records::{Ask, Channel, Job};
 
 /// The device of jobs, in SIXBIT.
 const USR: u64 = 0o656362000000;

@@ -13,7 +13,8 @@ use super::ends::{ends, moves, store_at};
 use arrayvec::ArrayVec;
 use its_bytes::load;
 use its_frame::{Change, Decision, Held, Opened, Wait, error};
-use its_word::{Channel, Fault, Word};
+use its_records::Channel;
+use its_word::{Fault, Word};
 
 /// The device of consoles, in SIXBIT.
 const TTY: u64 = 0o646471000000;

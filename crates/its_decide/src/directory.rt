@@ -10,12 +10,13 @@ ghost use Rattle.its_machine.specs.Across.{channel_at};
 ghost use Rattle.its_decide.specs.Called.{looks};
 ghost use Rattle.its_decide.specs.Directory.{error_of_file};
 ghost use Rattle.its_decide.specs.Fits.{SeenFits};
-ghost use Rattle.its_word.specs.declared.jobs.Channel.TheVariants.{Writing};
+ghost use Rattle.its_records.specs.declared.jobs.Channel.TheVariants.{Writing};
 ghost use Rattle.its_machine.specs.Called.{channel_under};
 
 use super::caller::Caller;
 use its_frame::{Change, Decision, error};
-use its_word::{Channel, SLOTS, Word};
+use its_records::Channel;
+use its_word::{SLOTS, Word};
 
 /// The device of files, in SIXBIT.
 pub(crate) const DSK: u64 = 0o446353000000;

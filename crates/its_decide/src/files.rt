@@ -8,7 +8,7 @@ ghost use Rattle.its_plain.specs.CallFile.{access, access_to, file_named, fillen
 ghost use Rattle.its_plain.specs.Own.{with_advance, exit_of};
 ghost use Rattle.its_plain.specs.Tests.{out};
 ghost use Rattle.its_word.specs.Byte.{has_size};
-ghost use Rattle.its_word.specs.declared.jobs.Channel.TheVariants.{Reading, Writing};
+ghost use Rattle.its_records.specs.declared.jobs.Channel.TheVariants.{Reading, Writing};
 ghost use Rattle.its_machine.specs.Called.{channel_under};
 ghost use Rattle.its_decide.specs.Called.{looks};
 ghost use Rattle.its_decide.specs.Fits.{SeenFits};
@@ -19,7 +19,8 @@ use super::words::END_OF_FILE;
 use arrayvec::ArrayVec;
 use its_bytes::load;
 use its_frame::{Change, Decision, Opened, error};
-use its_word::{ADDRESSES, Channel, Fault, Word};
+use its_records::Channel;
+use its_word::{ADDRESSES, Fault, Word};
 
 impl Caller<'_> {
     /// OPEN channel, DSK, name 1, name 2, directory: a file for input, or a new draft with control 1. Errors 4, 22, 6.

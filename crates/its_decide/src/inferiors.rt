@@ -1,8 +1,8 @@
 //! Inferiors: OPEN of USR, `.IOT` and SIOT of whole words through a channel on one, USRMEM and UCLOSE.
 ghost use Rattle.std.specs.Prelude.{◌≡◌, ◌<◌, ◌+◌, ◌^◌, ◌∷◌, ◌&&◌, [], Some, true, slice_index_or};
 ghost use Rattle.its_word.specs.Byte.{has_size};
-ghost use Rattle.its_word.specs.Tree.{least_free};
-ghost use Rattle.its_word.specs.declared.jobs.Channel.TheVariants.{Usr};
+ghost use Rattle.its_records.specs.Tree.{least_free};
+ghost use Rattle.its_records.specs.declared.jobs.Channel.TheVariants.{Usr};
 ghost use Rattle.its_frame.specs.declared.change.Change.TheVariants.{Move, Poke};
 ghost use Rattle.its_frame.specs.declared.name.CallName.TheVariants.{Iot, Siot, Usrmem};
 ghost use Rattle.its_plain.specs.Arguments.{input};
@@ -21,7 +21,8 @@ use super::words::END_OF_FILE;
 use arrayvec::ArrayVec;
 use its_bytes::load;
 use its_frame::{Change, Decision, Opened, error};
-use its_word::{ADDRESSES, Channel, Fault, SLOTS, Word};
+use its_records::Channel;
+use its_word::{ADDRESSES, Fault, SLOTS, Word};
 
 impl Caller<'_> {
     /// OPEN channel, USR, user name, job name: the caller's inferior with these names, which is made with control 1 if there is none.

@@ -1,8 +1,8 @@
 //! Links between jobs: OPEN of LNK, CLOSE of an end, and `.IOT` and SIOT if their channel is on one.
 ghost use Rattle.std.specs.Prelude.{◌≡◌, ◌<◌, ◌∷◌, [], true, false, slice_index_or};
 ghost use Rattle.its_word.specs.Byte.{has_size};
-ghost use Rattle.its_word.specs.Tree.{least_free};
-ghost use Rattle.its_word.specs.Links.{most_links};
+ghost use Rattle.its_records.specs.Tree.{least_free};
+ghost use Rattle.its_records.specs.Links.{most_links};
 ghost use Rattle.its_frame.specs.declared.change.Change.TheVariants.{Part};
 ghost use Rattle.its_frame.specs.declared.decision.Decision.TheVariants.{Ends};
 ghost use Rattle.its_plain.specs.Arguments.{input};
@@ -16,7 +16,8 @@ use super::words::END_OF_FILE;
 use arrayvec::ArrayVec;
 use its_bytes::load;
 use its_frame::{Change, Decision, Held, Wait, error};
-use its_word::{End, Fault, Word};
+use its_records::End;
+use its_word::{Fault, Word};
 
 /// The device of links, in SIXBIT.
 pub(crate) const LNK: u64 = 0o545653000000;

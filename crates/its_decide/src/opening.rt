@@ -4,7 +4,8 @@ ghost use Rattle.its_plain.specs.CallBasic.{channel_at, is_shut};
 ghost use Rattle.its_decide.specs.Called.{looks};
 
 use super::caller::Caller;
-use its_word::{Channel, Word};
+use its_records::Channel;
+use its_word::Word;
 
 impl Caller<'_> {
     /// The control argument; 0 if there is none.

@@ -14,7 +14,8 @@ ghost use Rattle.its_decide.specs.Targets.{Targets};
 use super::arguments::is_oneself;
 use super::caller::Caller;
 use its_frame::{Change, Decision, error};
-use its_word::{Channel, MAPPED_PAGES};
+use its_records::Channel;
+use its_word::MAPPED_PAGES;
 
 /// The operation that makes a page of zeros.
 const MAKE: u64 = 1;

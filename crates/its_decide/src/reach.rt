@@ -1,7 +1,7 @@
 //! Whom the commit of a call disturbs.
 ghost use Rattle.std.specs.Prelude.{◌≡◌, ◌<◌};
 ghost use Rattle.its_word.specs.Limits.{slots};
-ghost use Rattle.its_word.specs.Tree.{slots_below};
+ghost use Rattle.its_records.specs.Tree.{slots_below};
 ghost use Rattle.its_plain.specs.Change.{superiors};
 ghost use Rattle.its_plain.specs.Decide.{reach};
 ghost use Rattle.its_plain.specs.Footprint.{among};
@@ -11,7 +11,7 @@ ghost use Rattle.its_decide.specs.Seen.{machine_seen, raw_with};
 use super::caller::Seen;
 use super::choice::target;
 use its_frame::CallName;
-use its_word::{Ask, Job};
+use its_records::{Ask, Job};
 
 /// Whether the commit of the call of a slot's job, whose registers these are, disturbs the job of slot k: the one into which it
 /// reaches; for LOGOUT those below the caller, and its superior; and for UCLOSE those below the one into which it reaches too.

@@ -12,7 +12,8 @@ use super::arguments::is_oneself;
 use super::caller::{Caller, Seen};
 use super::ends::ends;
 use its_frame::{Change, Decision, Exit, Variable, error};
-use its_word::{Channel, Job, Word, pc_word};
+use its_records::{Channel, Job};
+use its_word::{Word, pc_word};
 
 /// A word of ones, which means that there is no number.
 const ONES: u64 = 0o777777777777;

@@ -8,10 +8,10 @@ use Rattle.std.proofs.lemmas.List.FromFn.{map-range_with_len_more}
 use Rattle.std.proofs.Math.ListN.{drop_of_length-le}
 use Rattle.its_word.specs.Core.{Core}
 use Rattle.its_word.specs.declared.access.Fault.{Fault}
-use Rattle.its_word.specs.declared.calls.Arg.{Arg}
-use Rattle.its_word.specs.declared.calls.Ask.{Ask}
-use Rattle.its_word.specs.declared.calls.Kind.{Kind}
-use Rattle.its_word.specs.declared.calls.Placed.{Placed}
+use Rattle.its_records.specs.declared.calls.Arg.{Arg}
+use Rattle.its_records.specs.declared.calls.Ask.{Ask}
+use Rattle.its_records.specs.declared.calls.Kind.{Kind}
+use Rattle.its_records.specs.declared.calls.Placed.{Placed}
 use Rattle.its_word.specs.Address.{address}
 use Rattle.its_word.specs.declared.access.Address.{Address}
 use Rattle.its_plain.specs.Traced.{Located, also, gives, goes_on, located, located_by}

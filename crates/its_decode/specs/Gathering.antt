@@ -4,13 +4,13 @@ use Rattle.std.specs.Prelude.{◌≡◌, ◌<◌, ℕ, ◌+◌, List, [], ◌∷
 use Rattle.std.specs.List.{filter_map}
 use Rattle.std.specs.Option.{option_or}
 use Rattle.its_word.specs.Core.{Core}
-use Rattle.its_word.specs.declared.calls.Arg.{Arg}
-use Rattle.its_word.specs.declared.calls.Arg.TheVariants.{Input, Output, ErrorAt, Control}
-use Rattle.its_word.specs.declared.calls.Ask.{Ask}
-use Rattle.its_word.specs.declared.calls.Kind.{Kind}
-use Rattle.its_word.specs.declared.calls.Kind.TheVariants as kinds
-use Rattle.its_word.specs.declared.calls.Placed.{Placed}
-use Rattle.its_word.specs.declared.calls.Source.TheVariants.{Held, Immediate}
+use Rattle.its_records.specs.declared.calls.Arg.{Arg}
+use Rattle.its_records.specs.declared.calls.Arg.TheVariants.{Input, Output, ErrorAt, Control}
+use Rattle.its_records.specs.declared.calls.Ask.{Ask}
+use Rattle.its_records.specs.declared.calls.Kind.{Kind}
+use Rattle.its_records.specs.declared.calls.Kind.TheVariants as kinds
+use Rattle.its_records.specs.declared.calls.Placed.{Placed}
+use Rattle.its_records.specs.declared.calls.Source.TheVariants.{Held, Immediate}
 use Rattle.its_word.specs.Word.{pair_of}
 use Rattle.its_plain.specs.Decode.{argument, arguments, control_of, error_at_of, input_of, operand_of, output_of}
 use Rattle.its_decode.specs.declared.arguments.Progress.{Progress}

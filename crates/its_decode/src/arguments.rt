@@ -8,7 +8,8 @@ ghost use Rattle.its_decode.specs.Gathering.{Added, Fetched, Gathered, HasRoom, 
 
 use super::block::argument_type;
 use its_core::Core;
-use its_word::{Address, Ask, Fault, Kind, Operand, Word};
+use its_records::{Ask, Kind, Operand};
+use its_word::{Address, Fault, Word};
 
 /// How much of the budget of indirect words is used, and how many error addresses and controls are found.
 #[derive(Drop)]

@@ -12,7 +12,8 @@ use super::block::{has_bit_0, name_of, parse_block, words_of};
 use arrayvec::ArrayVec;
 use its_core::Core;
 use its_frame::{CallName, CallRow, error};
-use its_word::{ADDRESSES, Ask, Block, Fault, Operand, Site, Word};
+use its_records::{Ask, Block, Operand, Site};
+use its_word::{ADDRESSES, Fault, Word};
 
 /// The row of a call that a block can name: any but `.IOT`, which has none.
 #[tactic(auto, unfolding(its_plain::specs::Decode::row_named))]

@@ -7,7 +7,8 @@ ghost use Rattle.its_plain.specs.UnitPlan.{read_of};
 ghost use Rattle.its_plain.specs.Decode.{argument_words, block_at, checked, has_bit_0, is_legal, name_of, parsed, type_of, words_of};
 
 use its_core::Core;
-use its_word::{ADDRESSES, Block, Fault, Word};
+use its_records::Block;
+use its_word::{ADDRESSES, Fault, Word};
 
 /// How many argument words of a block are read.
 const ARGUMENTS: u32 = 8;

@@ -5,7 +5,8 @@ ghost use Rattle.its_plain.specs.Footprint.{SiteFits};
 use super::*;
 use arrayvec::ArrayVec;
 use its_core::Core;
-use its_word::{Ask, Block, Fault, Operand, Site, Word, read_octal};
+use its_records::{Ask, Block, Operand, Site};
+use its_word::{Fault, Word, read_octal};
 use std::process::Abort;
 use std::test::Fail;
 

@@ -11,11 +11,11 @@ use Rattle.its_word.specs.Core.{Core}
 use Rattle.its_word.specs.declared.access.Address.{Address}
 use Rattle.its_word.specs.declared.access.Fault.{Fault}
 use Rattle.its_word.specs.declared.access.Fault.TheVariants.{Ilo}
-use Rattle.its_word.specs.declared.calls.Arg.{Arg}
-use Rattle.its_word.specs.declared.calls.Arg.TheVariants.{Input, Output, ErrorAt, Control}
-use Rattle.its_word.specs.declared.calls.Ask.{Ask}
-use Rattle.its_word.specs.declared.calls.Placed.{Placed}
-use Rattle.its_word.specs.declared.calls.Site.{Site}
+use Rattle.its_records.specs.declared.calls.Arg.{Arg}
+use Rattle.its_records.specs.declared.calls.Arg.TheVariants.{Input, Output, ErrorAt, Control}
+use Rattle.its_records.specs.declared.calls.Ask.{Ask}
+use Rattle.its_records.specs.declared.calls.Placed.{Placed}
+use Rattle.its_records.specs.declared.calls.Site.{Site}
 use Rattle.its_plain.specs.UnitPlan.{given}
 use Rattle.its_plain.specs.Traced.{Traced, Located, also, gives, located, located_by, word}
 use Rattle.its_plain.specs.Decode.{Shape, argument, argument_at, argument_words, arguments, ask, ask_by, ask_of, block_at, checked, control_of, error_at_of, has_bit_0, input_of, is_legal, kind_of, operand_of, output_of, parsed, held_place, shaped, up_to_last, value_of, words_of}

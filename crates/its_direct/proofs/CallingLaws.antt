@@ -3,8 +3,8 @@
 use Rattle.std.specs.Prelude.{◌≡◌, ℕ, Bool, true, false, Option, Some, None, IfSome, List, [], ◌∷◌, length, refl}
 use Rattle.std.proofs.Common.{sym, ap, subst, arith}
 use Rattle.its_word.specs.Core.{zero_page}
-use Rattle.its_word.specs.declared.calls.Ask.{Ask}
-use Rattle.its_word.specs.declared.calls.Site.{Site}
+use Rattle.its_records.specs.declared.calls.Ask.{Ask}
+use Rattle.its_records.specs.declared.calls.Site.{Site}
 use Rattle.its_word.specs.declared.plan.Store.{Store}
 use Rattle.its_frame.specs.declared.change.Change.{Change}
 use Rattle.its_frame.specs.declared.change.Change.TheVariants as changes

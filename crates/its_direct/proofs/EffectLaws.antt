@@ -9,8 +9,8 @@ use Rattle.its_word.specs.Core.{Core, no_core, can_store, word_at, page_of, page
 use Rattle.its_word.specs.Limits.{most_pages}
 use Rattle.its_word.specs.Only.{Only}
 use Rattle.its_word.specs.Stores.{first_fault, refusal, stored}
-use Rattle.its_word.specs.declared.calls.Exit.{Exit}
-use Rattle.its_word.specs.declared.jobs.Job.{Job}
+use Rattle.its_records.specs.declared.calls.Exit.{Exit}
+use Rattle.its_records.specs.declared.jobs.Job.{Job}
 use Rattle.its_word.specs.declared.plan.Store.{Store}
 use Rattle.its_frame.specs.declared.variable.Variable.{Variable}
 use Rattle.its_core.specs.Cores.{Cores, Reserved, core_at, clear_at, clear_with, reserved_at}

@@ -2,13 +2,13 @@
 use Rattle.std.specs.Prelude.{◌≡◌, ◌+◌, ℕ, true, false, Option, Some, None, is_some, IsOk, List, [], ◌∷◌, take, Result, Ok, Err, OnOk, IfErr, refl}
 use Rattle.std.proofs.Common.{ap, sym, subst, ◌∙◌}
 use Rattle.its_word.specs.ArrayVec.{ArrayVec}
-use Rattle.its_word.specs.declared.session.Event.{Event}
-use Rattle.its_word.specs.declared.session.Event.TheVariants as events
-use Rattle.its_word.specs.declared.session.Place.TheVariants as places
-use Rattle.its_word.specs.declared.session.Reason.{Reason}
-use Rattle.its_word.specs.declared.session.Refusal.{Refusal}
-use Rattle.its_word.specs.declared.session.Refusal.TheVariants as refusals
-use Rattle.its_word.specs.declared.show.JobShow.{JobShow}
+use Rattle.its_records.specs.declared.session.Event.{Event}
+use Rattle.its_records.specs.declared.session.Event.TheVariants as events
+use Rattle.its_records.specs.declared.session.Place.TheVariants as places
+use Rattle.its_records.specs.declared.session.Reason.{Reason}
+use Rattle.its_records.specs.declared.session.Refusal.{Refusal}
+use Rattle.its_records.specs.declared.session.Refusal.TheVariants as refusals
+use Rattle.its_records.specs.declared.show.JobShow.{JobShow}
 use Rattle.its_print.specs.Printing.{Line}
 use Rattle.its_print.specs.Printing as printed
 use Rattle.its_session.specs.Events.{place_after}
@@ -26,7 +26,7 @@ use Rattle.its_plain.specs.Own.{names_of}
 use Rattle.its_direct.specs.Clock.{Clocks}
 use Rattle.its_direct.specs.Events.{spot_place, Speaks, Says, Told, answered}
 use Rattle.its_direct.specs.Filing.{Leads}
-use Rattle.its_word.specs.Refusals.{reason_of}
+use Rattle.its_records.specs.Refusals.{reason_of}
 use Rattle.its_direct.specs.Lines.{Operates, Looks, Loads, Stands, Keeps}
 use Rattle.its_direct.specs.Plain.{machine_of, is_touched, no_slots}
 use Rattle.its_direct.specs.declared.events.Answer.{Answer}

@@ -6,9 +6,9 @@ use Rattle.its_word.specs.Core.{Core, word_at, can_store, store, putting, put}
 use Rattle.its_word.specs.Limits.{slots}
 use Rattle.its_word.specs.declared.access.NoAccess.{NoAccess}
 use Rattle.its_word.specs.declared.access.NoAccess.TheVariants.{Absent, ReadOnly}
-use Rattle.its_word.specs.declared.jobs.Job.{Job}
-use Rattle.its_word.specs.declared.session.Reason.TheVariants as reasons
-use Rattle.its_word.specs.declared.session.Refusal.{Refusal}
+use Rattle.its_records.specs.declared.jobs.Job.{Job}
+use Rattle.its_records.specs.declared.session.Reason.TheVariants as reasons
+use Rattle.its_records.specs.declared.session.Refusal.{Refusal}
 use Rattle.its_core.specs.Cores.{core_at}
 use Rattle.its_jobs.specs.Table.{job_at, superior_at}
 use Rattle.its_plain.specs.Change.{in_job, on_slot}
@@ -21,7 +21,7 @@ use Rattle.its_plain.proofs.MachineLaws.{machine_is}
 use Rattle.its_machine.specs.Parts.{bare, alarm_at}
 use Rattle.its_machine.proofs.PartLaws.{raw_job, changed_only, on_slot_here, on_slot_other}
 use Rattle.its_direct.specs.Plain.{machine_of, is_touched, no_slots, Tidy, CoreBecomes, JobBecomes}
-use Rattle.its_word.specs.Refusals.{reason_of}
+use Rattle.its_records.specs.Refusals.{reason_of}
 use Rattle.its_direct.specs.Lines.{refusal_of, one_slot, Operates, Looks, Rewritten}
 use Rattle.its_direct.specs.declared.plain.Plain.{Plain}
 use Rattle.its_direct.proofs.SlotLaws.{placed_at, core_machine, core_tidy, slot_machine, slot_tidy, touched_machine, touched_tidy}

@@ -1,9 +1,9 @@
 -- Ends of links opened and closed, and words sent and received: the machine after it, and what holds of that machine.
 use Rattle.std.specs.Prelude.{◌≡◌, ◌<◌, ℕ, Bool, true, Option, Some, is_some, length, option_map}
 use Rattle.std.proofs.Common.{ap, sym, subst, ◌∙◌}
-use Rattle.its_word.specs.Links.{most_linked}
-use Rattle.its_word.specs.declared.jobs.Channel.{Channel}
-use Rattle.its_word.specs.declared.jobs.Channel.TheVariants.{Link}
+use Rattle.its_records.specs.Links.{most_linked}
+use Rattle.its_records.specs.declared.jobs.Channel.{Channel}
+use Rattle.its_records.specs.declared.jobs.Channel.TheVariants.{Link}
 use Rattle.its_frame.specs.declared.change.Change.TheVariants as changes
 use Rattle.its_core.specs.Cores.{core_at, clear_at}
 use Rattle.its_files.specs.Files.{Store, directory}

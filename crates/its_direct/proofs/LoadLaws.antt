@@ -8,10 +8,10 @@ use Rattle.its_stepped.proofs.FrameLaws.{changed_same}
 use Rattle.its_word.specs.Core.{no_core}
 use Rattle.its_word.specs.Limits.{slots}
 use Rattle.its_word.specs.Only.{Only}
-use Rattle.its_word.specs.Tree.{least_free, fresh_job, no_job}
-use Rattle.its_word.proofs.FreeLaws.{least_alike, least_empty, no_job_alike}
-use Rattle.its_word.specs.declared.jobs.Job.{Job}
-use Rattle.its_word.specs.declared.session.Reason.TheVariants as reasons
+use Rattle.its_records.specs.Tree.{least_free, fresh_job, no_job}
+use Rattle.its_records.proofs.FreeLaws.{least_alike, least_empty, no_job_alike}
+use Rattle.its_records.specs.declared.jobs.Job.{Job}
+use Rattle.its_records.specs.declared.session.Reason.TheVariants as reasons
 use Rattle.its_core.specs.Cores.{core_at, clear_at}
 use Rattle.its_files.specs.Files.{Store, directory}
 use Rattle.its_jobs.specs.Table.{job_at, superior_at}

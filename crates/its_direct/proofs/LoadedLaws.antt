@@ -9,9 +9,9 @@ use Rattle.its_word.specs.Core.{Core, IsWhole, no_core, page_of, word_at, can_st
 use Rattle.its_word.specs.Limits.{slots, most_pages}
 use Rattle.its_word.specs.Only.{Only, Same}
 use Rattle.its_word.specs.declared.access.NoAccess.TheVariants.{ReadOnly}
-use Rattle.its_word.specs.declared.jobs.Job.{Job}
-use Rattle.its_word.specs.declared.session.Reason.{Reason}
-use Rattle.its_word.specs.declared.session.Reason.TheVariants as reasons
+use Rattle.its_records.specs.declared.jobs.Job.{Job}
+use Rattle.its_records.specs.declared.session.Reason.{Reason}
+use Rattle.its_records.specs.declared.session.Reason.TheVariants as reasons
 use Rattle.its_word.proofs.PageLaws.{pages_mapped-same}
 use Rattle.its_core.specs.Cores.{Cores, Reserved, core_at, reserved_at, clear_at}
 use Rattle.its_files.specs.Files.{Store}

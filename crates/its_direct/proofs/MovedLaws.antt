@@ -6,8 +6,8 @@ use Rattle.std.proofs.lemmas.List.{length-take, length-drop, length-append, drop
 use Rattle.its_word.specs.Core.{Core}
 use Rattle.its_word.specs.Limits.{slots}
 use Rattle.its_word.specs.Stores.{first_fault}
-use Rattle.its_word.specs.declared.calls.Ask.{Ask}
-use Rattle.its_word.specs.declared.calls.Operand.{Operand}
+use Rattle.its_records.specs.declared.calls.Ask.{Ask}
+use Rattle.its_records.specs.declared.calls.Operand.{Operand}
 use Rattle.its_word.specs.declared.plan.Store.{Store}
 use Rattle.its_frame.specs.declared.decision.Held.{Held}
 use Rattle.its_core.specs.Cores.{core_at}

@@ -3,13 +3,13 @@ use Rattle.std.specs.Prelude.{◌≡◌, ◌<◌, ℕ, Bool, true, false, cond, 
 use Rattle.std.proofs.Common.{ap, sym, subst, ◌∙◌, arith, eq-eqb}
 use Rattle.its_word.specs.Directory.{changed_if, longer, same_names, with_changed}
 use Rattle.its_word.specs.Limits.{slots}
-use Rattle.its_word.specs.Tree.{least_free}
-use Rattle.its_word.specs.declared.session.Event.{Event}
-use Rattle.its_word.specs.declared.session.Event.TheVariants as events
-use Rattle.its_word.specs.declared.session.Place.{Place}
-use Rattle.its_word.specs.declared.session.Place.TheVariants as places
-use Rattle.its_word.specs.declared.session.Reason.{Reason}
-use Rattle.its_word.proofs.FreeLaws.{least_below, limit_few}
+use Rattle.its_records.specs.Tree.{least_free}
+use Rattle.its_records.specs.declared.session.Event.{Event}
+use Rattle.its_records.specs.declared.session.Event.TheVariants as events
+use Rattle.its_records.specs.declared.session.Place.{Place}
+use Rattle.its_records.specs.declared.session.Place.TheVariants as places
+use Rattle.its_records.specs.declared.session.Reason.{Reason}
+use Rattle.its_records.proofs.FreeLaws.{least_below, limit_few}
 use Rattle.its_word.proofs.NamesLaws.{same_refl}
 use Rattle.its_session.specs.Events.{place_after}
 use Rattle.its_plain.specs.CallFile.{has_file, is_full, file_named, most_files}

@@ -5,8 +5,8 @@ use Rattle.std.proofs.lemmas.Bool.{cases_Bool, cases_eq, cases_lt, both_ways, or
 use Rattle.std.proofs.lemmas.List.{length-set}
 use Rattle.its_word.specs.Core.{Core, Page, IsWhole, page_of, word_in, page_stored, word_at, can_store, store, with_page, zero_page, pages_present}
 use Rattle.its_word.specs.Limits.{slots, most_pages}
-use Rattle.its_word.specs.declared.session.Reason.{Reason}
-use Rattle.its_word.specs.declared.session.Reason.TheVariants.{Full}
+use Rattle.its_records.specs.declared.session.Reason.{Reason}
+use Rattle.its_records.specs.declared.session.Reason.TheVariants.{Full}
 use Rattle.its_word.proofs.CoreLaws.{page_alike, is_some-store, can_store-store, word_at-can_store, in_accs, in_page, store_acc, store_page}
 use Rattle.its_word.proofs.PageLaws.{page_of-with_page, page_of-with_page_other, word_at-with_page_other, can_store-with_page_other, pages_present-with_page, pages_present-store, pages_mapped-only, one_if, zero_stores}
 use Rattle.its_core.specs.Cores.{mark_of}

@@ -3,7 +3,7 @@ use Rattle.std.specs.Prelude.{◌≡◌, ◌≢◌, ◌<◌, ◌≤◌, ◌^◌,
 use Rattle.std.proofs.Common.{arith, ap, sym, subst, ◌∙◌, inl, inr}
 use Rattle.std.proofs.lemmas.Bool.{cases_eq, and_right}
 use Rattle.its_word.specs.Core.{Core}
-use Rattle.its_word.specs.declared.jobs.Job.{Job}
+use Rattle.its_records.specs.declared.jobs.Job.{Job}
 use Rattle.its_plain.specs.CallStep.{quiet_step, with_core_and_job, with_fault, step, transition}
 use Rattle.its_plain.specs.Change.{in_job, on_slot}
 use Rattle.its_plain.specs.Interrupt.{deliverable}

@@ -3,11 +3,11 @@ use Rattle.std.specs.Prelude.{◌≡◌, ◌≢◌, ◌<◌, ◌++◌, ◌∷◌
 use Rattle.std.proofs.Common.{ap, sym, subst, ◌∙◌}
 use Rattle.its_pipes.specs.Pipes.{piped}
 use Rattle.its_direct.proofs.LoadLaws.{empty_is}
-use Rattle.its_word.specs.Tree.{no_job}
+use Rattle.its_records.specs.Tree.{no_job}
 use Rattle.its_word.specs.Core.{Page, page_of, with_page, marked}
 use Rattle.its_word.specs.Limits.{slots, most_symbols}
-use Rattle.its_word.specs.declared.jobs.Job.{Job}
-use Rattle.its_word.specs.declared.session.Reason.TheVariants as reasons
+use Rattle.its_records.specs.declared.jobs.Job.{Job}
+use Rattle.its_records.specs.declared.session.Reason.TheVariants as reasons
 use Rattle.its_core.specs.Cores.{core_at, clear_at, mark_of}
 use Rattle.its_files.specs.Files.{Store, directory}
 use Rattle.its_jobs.specs.Table.{job_at, superior_in}

@@ -7,8 +7,8 @@ use Rattle.std.proofs.Math.Nat.{ℕ_set}
 use Rattle.its_word.specs.Core.{Core}
 use Rattle.its_word.specs.Limits.{slots, limit_of}
 use Rattle.its_word.specs.Only.{Only}
-use Rattle.its_word.specs.declared.jobs.Channel.TheVariants.{Closed}
-use Rattle.its_word.specs.declared.jobs.Job.{Job}
+use Rattle.its_records.specs.declared.jobs.Channel.TheVariants.{Closed}
+use Rattle.its_records.specs.declared.jobs.Job.{Job}
 use Rattle.its_core.specs.Cores.{Cores, core_at, clear_at}
 use Rattle.its_files.specs.Files.{Store, directory}
 use Rattle.its_jobs.specs.Table.{job_at, superior_at}

@@ -2,7 +2,7 @@
 use Rattle.std.specs.Prelude.{◌≡◌, ◌<◌, ◌^◌, ℕ, Option, None, IfSome, [], option_map}
 use Rattle.std.proofs.Common.{ap, sym, subst, lit<}
 use Rattle.its_word.specs.Console.{quiet_console}
-use Rattle.its_word.specs.declared.jobs.Job.{Job}
+use Rattle.its_records.specs.declared.jobs.Job.{Job}
 use Rattle.its_core.specs.Cores.{Reserved, core_at, IsEmpty}
 use Rattle.its_files.specs.Files.{Store, directory, no_files}
 use Rattle.its_jobs.specs.Table.{superior_at, NoJobs}

@@ -1,8 +1,8 @@
 -- What an event that was obeyed leaves: what holds between two events, the place of the next line, and the jobs that there were.
 use Rattle.std.specs.Prelude.{◌≡◌, Option, Some, None, IfOk, OnErr, Result, Ok, Err, refl}
 use Rattle.std.proofs.Common.{ap, sym, subst, ◌∙◌}
-use Rattle.its_word.specs.declared.session.Event.{Event}
-use Rattle.its_word.specs.declared.session.Refusal.{Refusal}
+use Rattle.its_records.specs.declared.session.Event.{Event}
+use Rattle.its_records.specs.declared.session.Refusal.{Refusal}
 use Rattle.its_session.specs.Events.{place_after}
 use Rattle.its_session.specs.Fits.{EventFits}
 use Rattle.its_plain.specs.Machine.{Whole, Machine, no_machine}

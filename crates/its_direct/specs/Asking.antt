@@ -5,9 +5,9 @@ use Rattle.std.specs.List.{cons_option, filter_map}
 use Rattle.its_word.specs.ArrayVec.{ArrayVec}
 use Rattle.its_word.specs.Core.{Core}
 use Rattle.its_word.specs.declared.access.Fault.{Fault}
-use Rattle.its_word.specs.declared.calls.Arg.{Arg}
-use Rattle.its_word.specs.declared.calls.Arg.TheVariants.{Input, Output, ErrorAt, Control}
-use Rattle.its_word.specs.declared.calls.Ask.{Ask}
+use Rattle.its_records.specs.declared.calls.Arg.{Arg}
+use Rattle.its_records.specs.declared.calls.Arg.TheVariants.{Input, Output, ErrorAt, Control}
+use Rattle.its_records.specs.declared.calls.Ask.{Ask}
 use Rattle.its_plain.specs.Decode.{input_of, output_of, error_at_of, control_of, operand_of, value_of, held_place, row_named, error_by, exceeds, name_of, words_of}
 use Rattle.its_plain.specs.Traced.{Traced}
 use Rattle.its_direct.specs.declared.sorting.Parts.{Parts}

@@ -2,7 +2,7 @@
 -- No promise rests on this.
 use Rattle.std.specs.Prelude.{◌≡◌, ◌==◌, ◌+◌, ◌&&◌, ◌||◌, ℕ, Bool, false, Option, IfSome, Result, Ok, nat_lt}
 use Rattle.its_word.specs.Only.{Only}
-use Rattle.its_word.specs.declared.session.Reason.{Reason}
+use Rattle.its_records.specs.declared.session.Reason.{Reason}
 use Rattle.its_plain.specs.Alarm.{is_due}
 use Rattle.its_plain.specs.Machine.{Machine}
 use Rattle.its_plain.specs.OperatorClock.{due, after_alarm_if}

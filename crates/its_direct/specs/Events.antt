@@ -4,11 +4,11 @@ use Rattle.std.specs.Prelude.{◌≡◌, ◌<◌, ℕ, false, None, List, [], �
 use Rattle.its_plain.specs.CallFile.{has_file}
 use Rattle.its_plain.specs.Machine.{Machine}
 use Rattle.its_word.specs.Limits.{slots}
-use Rattle.its_word.specs.declared.session.Event.{Event}
-use Rattle.its_word.specs.declared.session.Event.TheVariants as events
-use Rattle.its_word.specs.declared.session.Place.{Place}
-use Rattle.its_word.specs.declared.session.Place.TheVariants as places
-use Rattle.its_word.specs.declared.session.Refusal.{Refusal}
+use Rattle.its_records.specs.declared.session.Event.{Event}
+use Rattle.its_records.specs.declared.session.Event.TheVariants as events
+use Rattle.its_records.specs.declared.session.Place.{Place}
+use Rattle.its_records.specs.declared.session.Place.TheVariants as places
+use Rattle.its_records.specs.declared.session.Refusal.{Refusal}
 use Rattle.its_print.specs.Printing.{Line}
 use Rattle.its_print.specs.Printing as printed
 use Rattle.its_session.specs.Events.{place_after}
@@ -19,7 +19,7 @@ use Rattle.its_stepped.specs.Forest.{Forest}
 use Rattle.its_plain.specs.Operator.{Block, Does, Refuses}
 use Rattle.its_plain.specs.OperatorLines.{Lined, Done, Peeks, lined}
 use Rattle.its_direct.specs.Plain.{machine_of, is_touched, Tidy}
-use Rattle.its_word.specs.Refusals.{reason_of}
+use Rattle.its_records.specs.Refusals.{reason_of}
 use Rattle.its_direct.specs.declared.plain.Plain.{Plain}
 use Rattle.its_direct.specs.declared.plain.Spot.{Spot}
 use Rattle.its_direct.specs.declared.plain.Spot.TheVariants as spots

@@ -1,7 +1,7 @@
 -- The effect of the lines on files on the machine in running form.
 -- No promise rests on this.
 use Rattle.std.specs.Prelude.{◌≡◌, ℕ, Result, Ok}
-use Rattle.its_word.specs.declared.session.Reason.{Reason}
+use Rattle.its_records.specs.declared.session.Reason.{Reason}
 use Rattle.its_files.specs.Files.{Store}
 use Rattle.its_plain.specs.Machine.{Machine}
 use Rattle.its_plain.specs.Operator.{nobody}

@@ -3,8 +3,8 @@
 use Rattle.std.specs.Prelude.{◌≡◌, ℕ, zero, suc, ◌+◌, ◌-◌, ◌/◌, Bool, true, false, List, IsOk, is_some, nat_lt, Result, Ok, slice_set}
 use Rattle.its_word.specs.Core.{Core, page_of}
 use Rattle.its_word.specs.Only.{Only, Same}
-use Rattle.its_word.specs.declared.jobs.Job.{Job}
-use Rattle.its_word.specs.declared.session.Reason.{Reason}
+use Rattle.its_records.specs.declared.jobs.Job.{Job}
+use Rattle.its_records.specs.declared.session.Reason.{Reason}
 use Rattle.its_jobs.specs.Table.{job_at}
 use Rattle.its_plain.specs.Change.{in_job}
 use Rattle.its_plain.specs.Machine.{Console, Symbol, Machine}

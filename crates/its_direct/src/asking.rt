@@ -13,7 +13,8 @@ use super::sorting::Parts;
 use arrayvec::ArrayVec;
 use its_core::Core;
 use its_frame::{CallName, CallRow, error};
-use its_word::{ADDRESSES, Arg, Ask, Block, Fault, Location, Operand, Placed, Site, Source, Word};
+use its_records::{Arg, Ask, Block, Operand, Placed, Site, Source};
+use its_word::{ADDRESSES, Fault, Location, Word};
 
 /// How many argument words of a block are read.
 const ARGUMENTS: u32 = 8;

@@ -8,11 +8,12 @@ ghost use Rattle.its_plain.specs.OperatorClock.{after_clock, clock_end};
 ghost use Rattle.its_stepped.specs.Alarmed.{Alarmed};
 ghost use Rattle.its_machine.specs.Parts.{alarm_at};
 ghost use Rattle.its_direct.specs.Plain.{machine_of, no_slots, Tidy};
-ghost use Rattle.its_word.specs.Refusals.{reason_of};
+ghost use Rattle.its_records.specs.Refusals.{reason_of};
 ghost use Rattle.its_direct.specs.Clock.{Clocks, Periods, RangAt, RangBelow};
 
 use super::plain::Plain;
-use its_word::{ALR, Job, Refusal, SLOTS, Word};
+use its_records::{Job, Refusal};
+use its_word::{ALR, SLOTS, Word};
 
 /// The clock stays below this many thirtieths.
 const CLOCK_END: u64 = 0o200000000000;

@@ -10,7 +10,8 @@ ghost use Rattle.its_direct.specs.Plain.{machine_of};
 use super::plain::Plain;
 use arrayvec::ArrayVec;
 use its_files::Files;
-use its_word::{FileShow, Word};
+use its_records::FileShow;
+use its_word::Word;
 
 /// How many words a line of SHOW has at most.
 const ROW: u32 = 8;

@@ -4,7 +4,7 @@ ghost use Rattle.its_word.specs.Console.{most_waiting};
 ghost use Rattle.its_word.specs.Core.{page_of, pages_mapped, with_page, zero_page};
 ghost use Rattle.its_word.specs.Limits.{slots, most_pages};
 ghost use Rattle.its_word.specs.Only.{Only};
-ghost use Rattle.its_word.specs.Tree.{least_free};
+ghost use Rattle.its_records.specs.Tree.{least_free};
 ghost use Rattle.its_word.specs.Stores.{first_fault, stored};
 ghost use Rattle.its_core.specs.Cores.{core_at, clear_at};
 ghost use Rattle.its_jobs.specs.Table.{job_at};
@@ -23,7 +23,8 @@ use super::users::with_bits;
 use its_core::{Core, Full};
 use its_frame::Variable;
 use its_jobs::NoSlot;
-use its_word::{Exit, INF, Job, Store, Word, flags_in};
+use its_records::{Exit, Job};
+use its_word::{INF, Store, Word, flags_in};
 
 impl Plain {
     /// Makes stores into the core of a slot's job, in their order.

@@ -14,7 +14,8 @@ ghost use Rattle.its_direct.specs.Plain.{machine_of, Tidy};
 
 use super::plain::Plain;
 use its_frame::Opened;
-use its_word::{Channel, Job, Word};
+use its_records::{Channel, Job};
+use its_word::Word;
 
 impl Plain {
     /// What a channel of a slot's job is on; closed if the slot is empty.

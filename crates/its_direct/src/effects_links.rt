@@ -1,7 +1,7 @@
 //! What calls change in links between jobs: ends opened and closed, and words sent and received.
 ghost use Rattle.std.specs.Prelude.{◌≡◌, ◌<◌, true, Some, is_some, length, option_map};
 ghost use Rattle.its_word.specs.Limits.{slots};
-ghost use Rattle.its_word.specs.Links.{most_links, most_linked};
+ghost use Rattle.its_records.specs.Links.{most_links, most_linked};
 ghost use Rattle.its_frame.specs.declared.change.Change.TheVariants.{Join, Part};
 ghost use Rattle.its_plain.specs.CallLink.{words_in};
 ghost use Rattle.its_plain.specs.Change.{effect, after_end_close, link_or_new, on_link, with_end_opened, with_received, with_sent};
@@ -12,7 +12,8 @@ ghost use Rattle.its_direct.specs.Effects.{Becomes, LinkBecomes};
 ghost use Rattle.its_direct.specs.Plain.{machine_of, Tidy};
 
 use super::plain::Plain;
-use its_word::{Channel, Word};
+use its_records::Channel;
+use its_word::Word;
 
 impl Plain {
     /// Opens an end of a link on a closed channel of a slot's job, which is made with these names if the number has none.

@@ -1,8 +1,8 @@
 //! The events of a session, each by its line.
 ghost use Rattle.std.specs.Prelude.{◌≡◌, ◌<◌, ◌≤◌, ◌+◌, ◌^◌, IfSome, IfOk, OnErr, length};
 ghost use Rattle.its_word.specs.Limits.{slots};
-ghost use Rattle.its_word.specs.declared.session.Event.TheVariants as told;
-ghost use Rattle.its_word.specs.declared.session.Place.TheVariants as places;
+ghost use Rattle.its_records.specs.declared.session.Event.TheVariants as told;
+ghost use Rattle.its_records.specs.declared.session.Place.TheVariants as places;
 ghost use Rattle.its_session.specs.Events.{place_after};
 ghost use Rattle.its_session.specs.Fits.{EventFits};
 ghost use Rattle.its_plain.specs.Own.{names_of};
@@ -12,7 +12,8 @@ ghost use Rattle.its_direct.specs.Events.{answered, spot_place, IsTold, JobsStay
 
 use super::plain::{Plain, Spot};
 use arrayvec::ArrayVec;
-use its_word::{Event, Refusal, Word};
+use its_records::{Event, Refusal};
+use its_word::Word;
 
 /// What an event shows that cannot be read from the machine after it.
 #[derive(Debug, Drop)]

@@ -5,12 +5,13 @@ ghost use Rattle.its_plain.specs.OperatorFiles.{with_file_made, with_word_added,
 ghost use Rattle.its_plain.specs.Own.{names_of};
 ghost use Rattle.its_direct.specs.Plain.{machine_of, Tidy};
 ghost use Rattle.its_direct.specs.declared.plain.Spot.TheVariants.{Plain as Outside, File as InFile};
-ghost use Rattle.its_word.specs.Refusals.{reason_of};
+ghost use Rattle.its_records.specs.Refusals.{reason_of};
 ghost use Rattle.its_direct.specs.Lines.{Keeps};
 ghost use Rattle.its_direct.specs.Filing.{Leads};
 
 use super::plain::{Plain, Spot};
-use its_word::{Refusal, Word};
+use its_records::Refusal;
+use its_word::Word;
 
 /// How many files there are at most.
 const FILES: u32 = 256;

@@ -46,6 +46,7 @@ mod users;
 mod words;
 
 pub use events::Answer;
-pub use its_word::{NoMemory, Refusal};
+pub use its_records::Refusal;
+pub use its_word::NoMemory;
 pub use plain::{Plain, Spot};
 pub use users::Begun;

@@ -7,11 +7,12 @@ ghost use Rattle.its_plain.specs.Machine.{words_at};
 ghost use Rattle.its_plain.specs.OperatorJobs.{on_registers, after_go, after_stop, after_cont, after_int, examined, state_shown, after_deposit};
 ghost use Rattle.its_machine.specs.Refusals.{refusal_of};
 ghost use Rattle.its_direct.specs.Plain.{machine_of, Tidy};
-ghost use Rattle.its_word.specs.Refusals.{reason_of};
+ghost use Rattle.its_records.specs.Refusals.{reason_of};
 ghost use Rattle.its_direct.specs.Lines.{one_slot, Operates, Looks, Rewritten};
 
 use super::plain::Plain;
-use its_word::{ADDRESSES, FATAL, Job, NoAccess, Refusal, Word};
+use its_records::{Job, Refusal};
+use its_word::{ADDRESSES, FATAL, NoAccess, Word};
 
 impl Plain {
     /// GO: the job of a slot runs from an address, with no flags. NoJob if the slot is empty.

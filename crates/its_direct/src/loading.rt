@@ -1,17 +1,18 @@
 //! LOAD: a new job, and its console.
 ghost use Rattle.std.specs.Prelude.{◌≡◌, ◌<◌, Some, None, Ok, Err, IfOk, IfSome, IfErr, OnErr, length, slice_set};
 ghost use Rattle.its_word.specs.Limits.{slots};
-ghost use Rattle.its_word.specs.Tree.{least_free};
+ghost use Rattle.its_records.specs.Tree.{least_free};
 ghost use Rattle.its_plain.specs.Machine.{limit, with_new};
 ghost use Rattle.its_plain.specs.OperatorJobs.{after_load, new_job, with_holder};
 ghost use Rattle.its_machine.specs.Parts.{holder_at};
 ghost use Rattle.its_direct.specs.Plain.{machine_of, Tidy};
-ghost use Rattle.its_word.specs.Refusals.{reason_of};
+ghost use Rattle.its_records.specs.Refusals.{reason_of};
 ghost use Rattle.its_direct.specs.Lines.{Loads};
 
 use super::plain::{Plain, Spot};
 use its_jobs::NoSlot;
-use its_word::{Refusal, Word};
+use its_records::Refusal;
+use its_word::Word;
 
 impl Plain {
     /// LOAD: makes a stopped job with these names and this console in the least empty slot, which it answers and whose LOAD block

@@ -7,7 +7,8 @@ use its_files::Files;
 use its_jobs::Jobs;
 use its_machine::{SymbolTable, no_alarms, no_symbols, quiet_consoles};
 use its_pipes::Pipes;
-use its_word::{Job, NoMemory, SLOTS, Word};
+use its_records::Job;
+use its_word::{NoMemory, SLOTS, Word};
 use std::alloc::Global;
 
 /// How many consoles there are.
@@ -55,7 +56,7 @@ impl Plain {
 
     /// The machine at the start of a session, at a place outside any block; no slot is touched. Takes all the memory that it
     /// needs.
-    #[tactic(auto, using(its_word::proofs::FreeLaws::limit_first, crate::proofs::StartLaws::open_machine, crate::proofs::StartLaws::open_tidy), unfolding(crate::specs::Plain::no_slots))]
+    #[tactic(auto, using(its_records::proofs::FreeLaws::limit_first, crate::proofs::StartLaws::open_machine, crate::proofs::StartLaws::open_tidy), unfolding(crate::specs::Plain::no_slots))]
     pub fn open(alloc: Global) -> Result<Plain, NoMemory>
         ensures machine { IfOk result (λ p. machine_of p ≡ no_machine) }
         ensures tidy { IfOk result Tidy }

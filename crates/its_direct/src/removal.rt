@@ -1,7 +1,7 @@
 //! The removal of a job with all jobs below it: their channels, ends of links, pages, alarms, symbols and consoles go with them.
 ghost use Rattle.std.specs.Prelude.{◌≡◌, ◌<◌, [], ℕ, true, false, None, slice_index_or};
 ghost use Rattle.its_word.specs.Limits.{slots};
-ghost use Rattle.its_word.specs.declared.jobs.Channel.TheVariants.{Closed};
+ghost use Rattle.its_records.specs.declared.jobs.Channel.TheVariants.{Closed};
 ghost use Rattle.its_jobs.specs.Table.{superior_at, in_tree};
 ghost use Rattle.its_plain.specs.Change.{holder_after_removal, after_removal, superiors};
 ghost use Rattle.its_machine.specs.Across.{channel_at};
@@ -12,7 +12,8 @@ ghost use Rattle.its_direct.specs.Removal.{channel_left, Bares, Closes, ClosesTr
 
 use super::plain::Plain;
 use its_jobs::Jobs;
-use its_word::{Channel, SLOTS};
+use its_records::Channel;
+use its_word::SLOTS;
 
 /// How many channels a job has.
 const CHANNELS: u8 = 16;

@@ -9,7 +9,7 @@ ghost use Rattle.its_direct.specs.Events.{Kept};
 ghost use Rattle.its_direct.specs.Series.{Series, unit_due};
 
 use super::plain::{Plain, Spot};
-use its_word::Job;
+use its_records::Job;
 use pdp_exec::run_units;
 
 impl Plain {

@@ -9,13 +9,14 @@ ghost use Rattle.its_plain.specs.OperatorSymbols.{with_symbol_kept};
 ghost use Rattle.its_plain.specs.OperatorVersion.{with_version};
 ghost use Rattle.its_machine.specs.Parts.{symbols_at};
 ghost use Rattle.its_direct.specs.Plain.{machine_of, Tidy};
-ghost use Rattle.its_word.specs.Refusals.{reason_of};
+ghost use Rattle.its_records.specs.Refusals.{reason_of};
 ghost use Rattle.its_direct.specs.Lines.{Operates, Stands, Keeps, SymbolsBecome, VersionBecomes};
 
 use super::plain::Plain;
 use its_jobs::limit_of;
 use its_machine::MOST_SYMBOLS;
-use its_word::{Refusal, Word};
+use its_records::Refusal;
+use its_word::Word;
 
 impl Plain {
     /// VERSION: if no slot has a job, the machine becomes one of this version, which can have 64 jobs, or 96 in version

@@ -8,13 +8,14 @@ ghost use Rattle.its_plain.specs.OperatorJobs.{examined, shown, state_shown};
 ghost use Rattle.its_plain.specs.OperatorSymbols.{symbol_shown};
 ghost use Rattle.its_machine.specs.Parts.{symbols_at};
 ghost use Rattle.its_direct.specs.Plain.{machine_of};
-ghost use Rattle.its_word.specs.Refusals.{reason_of};
+ghost use Rattle.its_records.specs.Refusals.{reason_of};
 
 use super::plain::Plain;
 use arrayvec::ArrayVec;
 use its_core::Core;
 use its_machine::nearest;
-use its_word::{ADDRESSES, Job, JobShow, Refusal, Word, pc_word};
+use its_records::{Job, JobShow, Refusal};
+use its_word::{ADDRESSES, Word, pc_word};
 
 impl Plain {
     /// EXAM and LIST: up to eight words of a slot, from an address on. NoJob if the slot is empty, NoPage if one of their pages is

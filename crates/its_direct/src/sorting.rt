@@ -8,7 +8,8 @@ ghost use Rattle.its_direct.specs.Asking.{first_error, no_parts, with_argument};
 
 use arrayvec::ArrayVec;
 use its_core::Core;
-use its_word::{Arg, Operand, Source, Word};
+use its_records::{Arg, Operand, Source};
+use its_word::Word;
 
 /// Arguments by what they are: inputs and outputs, how many error addresses and controls there are and the first of each, and
 /// the places of the words of inputs and controls.

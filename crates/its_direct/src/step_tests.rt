@@ -4,7 +4,8 @@ ghost use Rattle.its_session.specs.Fits.{EventFits};
 ghost use Rattle.its_direct.specs.Events.{IsTold, Kept, MayStand, spot_place};
 
 use super::Plain;
-use its_word::{Event, Word};
+use its_records::Event;
+use its_word::Word;
 use std::process::Abort;
 use std::test::Fail;
 

@@ -13,7 +13,8 @@ ghost use Rattle.its_direct.specs.Plain.{machine_of, Tidy};
 
 use super::plain::Plain;
 use its_frame::Change;
-use its_word::{Exit, Store};
+use its_records::Exit;
+use its_word::Store;
 
 impl Plain {
     /// Makes the changes of a call of slot's job, in their order.

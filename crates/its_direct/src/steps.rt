@@ -26,7 +26,8 @@ use its_bytes::deposit;
 use its_core::Core;
 use its_decide::{Seen, decide, disturbs};
 use its_frame::{Change, Decision, Held};
-use its_word::{Ask, Fault, Job, SLOTS, Site, Store, Word};
+use its_records::{Ask, Job, Site};
+use its_word::{Fault, SLOTS, Store, Word};
 
 /// For each slot whether something holds.
 type Marks = [bool; 96];

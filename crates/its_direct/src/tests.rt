@@ -4,7 +4,8 @@ ghost use Rattle.std.specs.Prelude.{◌<◌};
 
 use super::{Begun, Plain, Spot};
 use its_machine::{MOST_SYMBOLS, SymbolTable};
-use its_word::{Event, ILO, Refusal, Word};
+use its_records::{Event, Refusal};
+use its_word::{ILO, Word};
 use std::process::Abort;
 use std::test::Fail;
 

@@ -11,7 +11,8 @@ ghost use Rattle.its_direct.specs.Steps.{StepBegins, SteppedBy};
 
 use super::plain::Plain;
 use its_ints::{deliver, deliverable};
-use its_word::{INF, Job, Site, Word};
+use its_records::{Job, Site};
+use its_word::{INF, Word};
 use pdp_exec::site;
 
 /// What the step of a slot's job begins with.

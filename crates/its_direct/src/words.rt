@@ -7,12 +7,13 @@ ghost use Rattle.its_core.specs.Cores.{clear_at, core_at};
 ghost use Rattle.its_jobs.specs.Table.{job_at};
 ghost use Rattle.its_plain.specs.OperatorJobs.{any_barred, is_barred, with_word_loaded, with_words_loaded, with_words_stored};
 ghost use Rattle.its_direct.specs.Plain.{machine_of, CoreBecomes, Tidy};
-ghost use Rattle.its_word.specs.Refusals.{reason_of};
+ghost use Rattle.its_records.specs.Refusals.{reason_of};
 ghost use Rattle.its_direct.specs.Lines.{Operates, pages_absent, pages_made};
 
 use super::plain::Plain;
 use its_core::Core;
-use its_word::{MAPPED_PAGES, NoAccess, Refusal, Word};
+use its_records::Refusal;
+use its_word::{MAPPED_PAGES, NoAccess, Word};
 
 impl Plain {
     /// The words of an a/ line of the job of a slot, from an address on: absent pages are made, writable and of zeros. NoJob if the

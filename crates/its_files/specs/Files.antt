@@ -2,8 +2,8 @@
 -- No promise rests on this.
 use Rattle.std.specs.Prelude.{◌≡◌, ◌<◌, ◌≤◌, ◌≢◌, ℕ, suc, zero, ◌+◌, Bool, true, false, cond, eqb, nat_lt, Option, Some, None, Result, Ok, Err, List, [], ◌∷◌, ◌++◌, length, map, count_by, slice_set, slice_index_or}
 use Rattle.its_links.specs.Lists.{count, without}
-use Rattle.its_word.specs.declared.calls.Owed.{Owed}
-use Rattle.its_word.specs.declared.calls.Owed.TheVariants.{Unlink as Unlinks, Link as Links, Free as Frees}
+use Rattle.its_records.specs.declared.calls.Owed.{Owed}
+use Rattle.its_records.specs.declared.calls.Owed.TheVariants.{Unlink as Unlinks, Link as Links, Free as Frees}
 use Rattle.its_word.specs.Only.{Only}
 use Rattle.its_word.specs.Directory.{File as PlainFile, same_names}
 use Rattle.its_files.specs.declared.entry.Entry.{Entry}

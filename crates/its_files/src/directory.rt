@@ -7,7 +7,8 @@ ghost use Rattle.its_files.specs.Files.{names_by, readers_by, is_file as stands_
 use super::blocks::NUMBERS;
 use super::entry::{Entry, Mark, Parts};
 use arrayvec::ArrayVec;
-use its_word::{Owed, Word};
+use its_records::Owed;
+use its_word::Word;
 
 /// The entry of a number.
 pub(crate) fn entry_in(entries: &[Option<Entry>], id: u32) -> Option<Entry>

@@ -13,7 +13,8 @@ use super::directory::{
 };
 use super::entry::{CloseFault, Entry, Locked, Mark, Parts, RenameFault};
 use arrayvec::ArrayVec;
-use its_word::{NoMemory, Owed, Word, filled};
+use its_records::Owed;
+use its_word::{NoMemory, Word, filled};
 use std::alloc::Global;
 use std::marker::Model;
 

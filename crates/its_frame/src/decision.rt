@@ -1,6 +1,7 @@
 use super::change::Change;
 use arrayvec::ArrayVec;
-use its_word::{Exit, Store, Word};
+use its_records::Exit;
+use its_word::{Store, Word};
 
 /// Why a call cannot go on: it is HANG; its time has not come; the input of a console is empty or
 /// held by another; 64 bytes wait in its output, or another holds it; output bytes wait that have

@@ -1,5 +1,6 @@
 use arrayvec::ArrayVec;
-use its_word::{Ask, Owed, Site, Word};
+use its_records::{Ask, Owed, Site};
+use its_word::Word;
 
 /// The job has entered the monitor at a site.
 #[derive(Drop)]

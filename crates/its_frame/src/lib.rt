@@ -16,6 +16,7 @@ mod variable;
 pub use change::{Change, Opened};
 pub use decision::{Decision, Held, Wait};
 pub use frame::{Asked, Ending, Entered, Frame, Holding, Moving, Parsed, Waiting};
-pub use its_word::{Ask, Exit, Owed, Site, Store};
+pub use its_records::{Ask, Exit, Owed, Site};
+pub use its_word::Store;
 pub use name::{CallName, CallRow, OnFiles};
 pub use variable::Variable;

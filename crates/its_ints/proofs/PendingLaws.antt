@@ -3,7 +3,7 @@ use Rattle.std.specs.Prelude.{◌≡◌, ◌==◌, ◌||◌, not, ℕ, false, bi
 use Rattle.std.specs.Int.Bits.{and_zero_l}
 use Rattle.std.proofs.Common.{◌∙◌, ap}
 use Rattle.its_word.specs.Word.{complement_of}
-use Rattle.its_word.specs.declared.jobs.Job.{Job}
+use Rattle.its_records.specs.declared.jobs.Job.{Job}
 use Rattle.its_word.specs.Flags.{FATAL, TBL}
 use Rattle.its_plain.specs.Interrupt.{deliverable, enabled_1, enabled_2, unguarded}
 

@@ -8,7 +8,8 @@ ghost use Rattle.its_plain.specs.Interrupt.{unguarded, deliverable, pushed, at_h
 
 use super::table::{Found, TableEntry, enabled_1, enabled_2, look_up};
 use its_core::Core;
-use its_word::{ADDRESSES, Exit, FATAL, Fault, Job, Store, TBL, Word, flags_in, pc_word};
+use its_records::{Exit, Job};
+use its_word::{ADDRESSES, FATAL, Fault, Store, TBL, Word, flags_in, pc_word};
 
 /// How much is taken from each half of the stack pointer word, modulo 1000000 (octal).
 const FIVE_LESS: u32 = 0o1000000 - 5;

@@ -6,7 +6,8 @@ ghost use Rattle.its_word.specs.Stores.{first_fault};
 ghost use Rattle.its_plain.specs.Interrupt.{enabled_1, enabled_2, entry_at, meets, first_entry, entries_of, pushed, undelivered, by_stores, through_table};
 
 use its_core::Core;
-use its_word::{ADDRESSES, Job, TBL, Word};
+use its_records::Job;
+use its_word::{ADDRESSES, TBL, Word};
 use std::marker::Model;
 
 /// An entry of the interrupt table: the pending bits that it takes, the deferrals of its handler, and

@@ -3,7 +3,8 @@ ghost use Rattle.its_core.specs.Cores.{reserved_at};
 
 use super::{deliver, deliverable, dismiss};
 use its_core::Core;
-use its_word::{BYTE_HALF, Channel, Exit, Fault, Job, OVERFLOW, Word};
+use its_records::{Channel, Exit, Job};
+use its_word::{BYTE_HALF, Fault, OVERFLOW, Word};
 use std::alloc::Global;
 use std::process::Abort;
 use std::test::Fail;

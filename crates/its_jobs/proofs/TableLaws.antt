@@ -4,12 +4,12 @@ use Rattle.std.proofs.Common.{sym, ◌∙◌, ap, arith, inl, inr, length-set}
 use Rattle.std.proofs.lemmas.Bool.{cases_eq, cases_lt, eq-eqb, ne_eqb}
 use Rattle.std.proofs.lemmas.List.{get_or-set_same, get_or-set_other, get_or_past}
 use Rattle.its_word.specs.Limits.{slots}
-use Rattle.its_word.specs.Tree.{no_job, is_below, slots_below}
-use Rattle.its_word.specs.declared.jobs.Job.{Job}
-use Rattle.its_word.proofs.FreeLaws.{no_job_there}
-use Rattle.its_word.proofs.TreeLaws.{below_superior, below_none, none_below}
+use Rattle.its_records.specs.Tree.{no_job, is_below, slots_below}
+use Rattle.its_records.specs.declared.jobs.Job.{Job}
+use Rattle.its_records.proofs.FreeLaws.{no_job_there}
+use Rattle.its_records.proofs.TreeLaws.{below_superior, below_none, none_below}
 use Rattle.its_jobs.specs.Table.{IsTree, superior_in}
-use Rattle.its_word.proofs.ClimbLaws.{circle_cut}
+use Rattle.its_records.proofs.ClimbLaws.{circle_cut}
 
 -- one place of the two lists is emptied
 emptied : {X : Type 0} (xs : List (Option X)) (s : ℕ) → s < length xs → slice_index_or (slice_set xs s None) s None ≡ None

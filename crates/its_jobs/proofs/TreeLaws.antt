@@ -4,11 +4,11 @@ use Rattle.std.proofs.Common.{sym, ◌∙◌, ap, arith, inl, inr, length-set, e
 use Rattle.std.proofs.lemmas.Bool.{cases_Bool, cases_eq, ne_eqb}
 use Rattle.std.proofs.lemmas.List.{get_or-set_same, get_or-set_other, get_or_past}
 use Rattle.its_word.specs.Limits.{slots}
-use Rattle.its_word.specs.Tree.{climbs_to, is_below}
-use Rattle.its_word.specs.declared.jobs.Job.{Job}
-use Rattle.its_word.proofs.TreeLaws.{climb_end, below_none}
+use Rattle.its_records.specs.Tree.{climbs_to, is_below}
+use Rattle.its_records.specs.declared.jobs.Job.{Job}
+use Rattle.its_records.proofs.TreeLaws.{climb_end, below_none}
 use Rattle.its_jobs.specs.Table.{IsTree, Without, superior_in, in_tree}
-use Rattle.its_word.proofs.ClimbLaws.{circle_cut, never, unpassed, below_through}
+use Rattle.its_records.proofs.ClimbLaws.{circle_cut, never, unpassed, below_through}
 
 -- no slot has a job
 pub no_tree : (jobs : List (Option Job)) (superiors : List (Option ℕ)) → length jobs ≡ slots → length superiors ≡ slots

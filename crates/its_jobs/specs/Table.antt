@@ -2,8 +2,8 @@
 -- No promise rests on this.
 use Rattle.std.specs.Prelude.{if◌then◌else◌, ◌≡◌, ◌≤◌, ◌<◌, ◌==◌, ◌||◌, ℕ, Bool, true, false, Option, None, List, length, slice_index_or, is_some, IfSome}
 use Rattle.its_word.specs.Limits.{slots}
-use Rattle.its_word.specs.Tree.{climbs_to, is_below}
-use Rattle.its_word.specs.declared.jobs.Job.{Job}
+use Rattle.its_records.specs.Tree.{climbs_to, is_below}
+use Rattle.its_records.specs.declared.jobs.Job.{Job}
 
 pub record Table : Type 0 where
   pub jobs : List (Option Job)

@@ -12,5 +12,6 @@ mod table;
 #[cfg(test)]
 mod tests;
 
-pub use its_word::{Channel, Job, NoMemory};
+pub use its_records::{Channel, Job};
+pub use its_word::NoMemory;
 pub use table::{Jobs, NoSlot, limit_of};

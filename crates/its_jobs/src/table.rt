@@ -1,14 +1,15 @@
 ghost use Rattle.std.specs.Prelude.{◌≡◌, ◌≢◌, ◌≤◌, ◌<◌, ◌+◌, ◌⊎◌, ◌||◌, ◌==◌, ◌↔◌, ℕ, true, Some, None, IfOk, OnOk, OnErr, IfSome, IsErr, is_some, length, slice_set, slice_index_or, slice_get, false, is_none, option_copied};
 ghost use Rattle.std.specs.Option.{option_copied_mut};
 ghost use Rattle.std.specs.Borrow.{LendsIf, sem};
-ghost use Rattle.its_word.specs.contracts.jobs.Job.{the_row as job_row};
+ghost use Rattle.its_records.specs.contracts.jobs.Job.{the_row as job_row};
 ghost use Rattle.its_jobs.specs.contracts.table.Jobs.{the_row};
 ghost use Rattle.its_word.specs.Limits.{slots, limit_of};
 ghost use Rattle.its_word.specs.Only.{Only};
-ghost use Rattle.its_word.specs.Tree.{least_free, no_job, fresh_job, is_below, slots_below};
+ghost use Rattle.its_records.specs.Tree.{least_free, no_job, fresh_job, is_below, slots_below};
 ghost use Rattle.its_jobs.specs.Table.{job_at, superior_at, superior_in, in_tree, IsTree, Without, NoJobs};
 
-use its_word::{Channel, Job, NoMemory, SLOTS, Word};
+use its_records::{Channel, Job};
+use its_word::{NoMemory, SLOTS, Word};
 use std::alloc::Global;
 use std::marker::Model;
 
@@ -196,7 +197,7 @@ fn no_superiors(alloc: Global) -> Result<Vec<Option<u8>>, NoMemory>
 }
 
 /// The least slot below a limit that is empty.
-#[tactic(auto, using(its_word::proofs::TreeLaws::least_start, its_word::proofs::TreeLaws::least_next, its_word::proofs::TreeLaws::least_found, its_word::proofs::TreeLaws::least_end))]
+#[tactic(auto, using(its_records::proofs::TreeLaws::least_start, its_records::proofs::TreeLaws::least_next, its_records::proofs::TreeLaws::least_found, its_records::proofs::TreeLaws::least_end))]
 fn free_slot(jobs: &[Option<Job>], limit: u8) -> Option<u8>
     requires jobs { length jobs.now ≡ slots }
     requires limit { limit ≤ slots }
@@ -221,7 +222,7 @@ pub fn limit_of(version: u8) -> u8
 }
 
 /// Whether none of the slots has a job.
-#[tactic(auto, using(its_word::proofs::TreeLaws::none_start, its_word::proofs::TreeLaws::none_full, its_word::proofs::TreeLaws::none_next, its_word::proofs::TreeLaws::none_end))]
+#[tactic(auto, using(its_records::proofs::TreeLaws::none_start, its_records::proofs::TreeLaws::none_full, its_records::proofs::TreeLaws::none_next, its_records::proofs::TreeLaws::none_end))]
 fn has_none(jobs: &[Option<Job>]) -> bool
     requires { length jobs.now ≡ slots }
     ensures { result ≡ no_job (λ k. slice_index_or jobs.now k None) }
@@ -236,7 +237,7 @@ fn has_none(jobs: &[Option<Job>]) -> bool
 
 /// Whether the job of a slot is below that of another: it is climbed from job to superior, at most
 /// as many times as there are slots.
-#[tactic(auto, using(its_word::proofs::TreeLaws::climb_spent, its_word::proofs::TreeLaws::climb_end, its_word::proofs::TreeLaws::climb_turn), unfolding(its_word::specs::Tree::is_below))]
+#[tactic(auto, using(its_records::proofs::TreeLaws::climb_spent, its_records::proofs::TreeLaws::climb_end, its_records::proofs::TreeLaws::climb_turn), unfolding(its_records::specs::Tree::is_below))]
 fn is_below(superiors: &[Option<u8>], slot: u8, job: u8) -> bool
     requires job { job < slots }
     requires length { length superiors.now ≡ slots }
@@ -287,7 +288,7 @@ fn clear_superiors(superiors: &mut Vec<Option<u8>>, jobs: &[Option<Job>])
 }
 
 /// The k-th slot, from 0, of those below another.
-#[tactic(auto, using(its_word::proofs::TreeLaws::rest_start, its_word::proofs::TreeLaws::nth_skip, its_word::proofs::TreeLaws::nth_here, its_word::proofs::TreeLaws::nth_next, its_word::proofs::TreeLaws::nth_end))]
+#[tactic(auto, using(its_records::proofs::TreeLaws::rest_start, its_records::proofs::TreeLaws::nth_skip, its_records::proofs::TreeLaws::nth_here, its_records::proofs::TreeLaws::nth_next, its_records::proofs::TreeLaws::nth_end))]
 fn nth_below(superiors: &[Option<u8>], slot: u8, k: u32) -> Option<u8>
     requires length { length superiors.now ≡ slots }
     requires slots { (k : ℕ) → IfSome (slice_index_or superiors.now k None) (λ s. s < slots) }
@@ -309,7 +310,7 @@ fn nth_below(superiors: &[Option<u8>], slot: u8, k: u32) -> Option<u8>
 }
 
 /// A job as it is made.
-#[tactic(auto, unfolding(its_word::specs::Tree::fresh_job))]
+#[tactic(auto, unfolding(its_records::specs::Tree::fresh_job))]
 fn fresh_job(uname: Word, jname: Word, console: Option<u8>) -> Job
     ensures { result ≡ fresh_job uname jname console }
 {

@@ -1,5 +1,6 @@
 use super::{Job, Jobs, NoSlot, limit_of};
-use its_word::{Channel, SLOTS, Word};
+use its_records::Channel;
+use its_word::{SLOTS, Word};
 use std::process::Abort;
 use std::test::Fail;
 

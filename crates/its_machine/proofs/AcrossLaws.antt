@@ -2,8 +2,8 @@
 use Rattle.std.specs.Prelude.{◌≡◌, ℕ, false, None}
 use Rattle.std.proofs.Common.{sym, ◌∙◌, ap}
 use Rattle.its_word.proofs.TableLaws.{get_or-filled}
-use Rattle.its_word.specs.declared.jobs.Channel.{Channel}
-use Rattle.its_word.specs.declared.jobs.Channel.TheVariants.{Closed}
+use Rattle.its_records.specs.declared.jobs.Channel.{Channel}
+use Rattle.its_records.specs.declared.jobs.Channel.TheVariants.{Closed}
 use Rattle.its_jobs.specs.Table.{Table, NoJobs}
 use Rattle.its_files.specs.Blocks.{numbers}
 use Rattle.its_files.specs.Files.{Store, readers_by, no_files}

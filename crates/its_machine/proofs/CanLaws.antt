@@ -2,16 +2,16 @@
 use Rattle.std.specs.Prelude.{if◌then◌else◌, ◌||◌, ◌&&◌, ◌==◌, ◌≡◌, ◌<◌, ℕ, ◌+◌, ◌-◌, Bool, true, false, not, Option, Some, None, IfSome, is_some, List, [], option_map, ◌∷◌, ◌++◌, length, unwrap_or, Result, Ok, Err, nat_lt, refl}
 use Rattle.std.proofs.Common.{sym, ◌∙◌, ap, subst, arith}
 use Rattle.std.proofs.lemmas.Bool.{ltb-true}
-use Rattle.its_word.proofs.FreeLaws.{least_below}
+use Rattle.its_records.proofs.FreeLaws.{least_below}
 use Rattle.its_word.specs.Byte.{load_of}
 use Rattle.its_word.specs.Console.{most_waiting}
 use Rattle.its_word.specs.Limits.{slots}
-use Rattle.its_word.specs.Links.{most_links, most_linked}
-use Rattle.its_word.specs.Tree.{least_free}
+use Rattle.its_records.specs.Links.{most_links, most_linked}
+use Rattle.its_records.specs.Tree.{least_free}
 use Rattle.its_word.specs.Word.{right_of}
 use Rattle.its_word.specs.declared.access.Fault.{Fault}
-use Rattle.its_word.specs.declared.calls.Ask.{Ask}
-use Rattle.its_word.specs.declared.calls.Exit.{Exit}
+use Rattle.its_records.specs.declared.calls.Ask.{Ask}
+use Rattle.its_records.specs.declared.calls.Exit.{Exit}
 use Rattle.its_frame.specs.declared.change.Change.{Change}
 use Rattle.its_frame.specs.declared.change.Change.TheVariants as changes
 use Rattle.its_frame.specs.declared.change.Opened.{Opened}

@@ -4,7 +4,7 @@ use Rattle.std.proofs.Common.{◌∙◌, ap, subst, arith}
 use Rattle.std.proofs.lemmas.Bool.{not-false, ltb-true, eqb-true, ne_eqb}
 use Rattle.its_word.specs.Core.{Core, Page, page_of}
 use Rattle.its_word.specs.Limits.{slots, most_pages}
-use Rattle.its_word.specs.declared.calls.Ask.{Ask}
+use Rattle.its_records.specs.declared.calls.Ask.{Ask}
 use Rattle.its_frame.specs.declared.change.Change.TheVariants as changes
 use Rattle.its_plain.specs.Arguments.{input}
 use Rattle.its_plain.specs.CallBasic.{Oneself, is_oneself, channel_at, party_on, party}

@@ -2,7 +2,7 @@
 -- their names.
 use Rattle.std.specs.Prelude.{◌==◌, ◌≡◌, ℕ, Bool, true, false, not, Option, Some, None, is_some, [], ◌∷◌, ◌++◌, slice_get, slice_index_or, unwrap_or, refl}
 use Rattle.its_word.specs.Core.{word_at}
-use Rattle.its_word.specs.declared.calls.Ask.{Ask}
+use Rattle.its_records.specs.declared.calls.Ask.{Ask}
 use Rattle.its_frame.specs.declared.change.Change.TheVariants as changes
 use Rattle.its_frame.specs.declared.name.CallName.{CallName}
 use Rattle.its_frame.specs.declared.name.CallName.TheVariants.{Hang, Sleep, Dismis, Usrvar, Logout, Open, Close, Iot, Siot, Ttylnd, Access, Delete, Rename, Usrmem, Uclose, Corblk, Realt}

@@ -4,9 +4,9 @@ use Rattle.std.proofs.Common.{ap, ◌∙◌, sym, inl, inr}
 use Rattle.std.proofs.lemmas.Bool.{cases_eq, eq-eqb, ne_eqb}
 use Rattle.its_word.specs.Core.{Core, no_core}
 use Rattle.its_word.specs.Only.{Only}
-use Rattle.its_word.specs.Tree.{fresh_job}
-use Rattle.its_word.specs.declared.jobs.Channel.TheVariants.{Closed}
-use Rattle.its_word.specs.declared.jobs.Job.{Job}
+use Rattle.its_records.specs.Tree.{fresh_job}
+use Rattle.its_records.specs.declared.jobs.Channel.TheVariants.{Closed}
+use Rattle.its_records.specs.declared.jobs.Job.{Job}
 use Rattle.its_core.specs.Cores.{Cores, core_at}
 use Rattle.its_files.specs.Files.{Store}
 use Rattle.its_jobs.specs.Table.{Table, job_at, superior_at}

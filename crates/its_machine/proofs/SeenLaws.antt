@@ -6,9 +6,9 @@ use Rattle.std.proofs.lemmas.Option.{slice_get_within}
 use Rattle.std.proofs.lemmas.List.{get_or_past, length-map}
 use Rattle.std.proofs.lemmas.List.Sums.{get_or-le-sum_by}
 use Rattle.its_word.specs.Core.{Core, no_core, pages_mapped}
-use Rattle.its_word.specs.Tree.{least_free}
-use Rattle.its_word.specs.declared.jobs.Job.{Job}
-use Rattle.its_word.proofs.FreeLaws.{least_alike}
+use Rattle.its_records.specs.Tree.{least_free}
+use Rattle.its_records.specs.declared.jobs.Job.{Job}
+use Rattle.its_records.proofs.FreeLaws.{least_alike}
 use Rattle.its_word.proofs.PageLaws.{pages_mapped-same}
 use Rattle.its_core.specs.Cores.{Cores, core_at}
 use Rattle.its_files.specs.Blocks.{Stored, blocks, free_blocks, blocks_for, blocks_used, text_at}

@@ -3,7 +3,7 @@ use Rattle.std.specs.Prelude.{◌≡◌, ◌≤◌, ◌||◌, ℕ, true, false, 
 use Rattle.std.proofs.Common.{sym, ◌∙◌, ap}
 use Rattle.std.proofs.lemmas.Bool.{both_ways}
 use Rattle.std.proofs.lemmas.List.{length-map}
-use Rattle.its_word.proofs.FreeLaws.{none_is}
+use Rattle.its_records.proofs.FreeLaws.{none_is}
 use Rattle.its_files.specs.Blocks.{blocks_used as stored_blocks, is_full as store_is_full}
 use Rattle.its_files.specs.Files.{Store, IsStore, names_at, words_at, readers_at, file_at, found, close, close_by, close_new, delete, delete_by, rename, rename_by, rename_free, new_names}
 use Rattle.its_files.specs.declared.entry.CloseFault.{CloseFault}

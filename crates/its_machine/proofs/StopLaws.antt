@@ -4,7 +4,7 @@ use Rattle.std.proofs.Common.{sym, ◌∙◌, ap, arith}
 use Rattle.std.proofs.Math.Nat.{mod-le, div-le_self}
 use Rattle.std.proofs.lemmas.Bool.{not-false, or_parts}
 use Rattle.its_word.specs.Byte.{has_size, load_of, position, size}
-use Rattle.its_word.specs.declared.calls.Ask.{Ask}
+use Rattle.its_records.specs.declared.calls.Ask.{Ask}
 use Rattle.its_frame.specs.declared.decision.Decision.{Decision}
 use Rattle.its_plain.specs.Arguments.{input}
 use Rattle.its_plain.specs.Transfer.{is_indexed, next_pointer, siot_by, siot_tests}

@@ -7,8 +7,8 @@ use Rattle.std.proofs.lemmas.List.Elements.{All-from_get_or}
 use Rattle.std.proofs.lemmas.List.FromFn.{length-range_with_len, get_or-range_with_len}
 use Rattle.std.proofs.lemmas.List.Sums.{sum_by-cons, sum_by-set, sum_by-le, get_or-le-sum_by, sum-map}
 use Rattle.its_word.specs.Limits.{slots}
-use Rattle.its_word.specs.declared.jobs.Channel.{Channel}
-use Rattle.its_word.specs.declared.jobs.Channel.TheVariants.{Closed, TtyIn, TtyOut, Reading, Writing, Usr, Link}
+use Rattle.its_records.specs.declared.jobs.Channel.{Channel}
+use Rattle.its_records.specs.declared.jobs.Channel.TheVariants.{Closed, TtyIn, TtyOut, Reading, Writing, Usr, Link}
 use Rattle.its_files.specs.Opening.{up_to}
 use Rattle.its_files.proofs.RoomLaws.{sum_same, sum_plus, sum_times, sum_nothing, sum_one, sum_none}
 use Rattle.its_machine.specs.Across.{of_slot, tally, reads_file, writes_draft}

@@ -6,10 +6,10 @@ use Rattle.std.proofs.lemmas.Bool.{not-false, ltb-true, ltb-false}
 use Rattle.its_word.specs.Byte.{load_of}
 use Rattle.its_word.specs.Core.{word_at, can_store}
 use Rattle.its_word.specs.Limits.{slots}
-use Rattle.its_word.specs.Tree.{least_free}
+use Rattle.its_records.specs.Tree.{least_free}
 use Rattle.its_word.specs.Word.{right_of}
-use Rattle.its_word.specs.declared.calls.Ask.{Ask}
-use Rattle.its_word.proofs.FreeLaws.{least_alike, least_empty}
+use Rattle.its_records.specs.declared.calls.Ask.{Ask}
+use Rattle.its_records.proofs.FreeLaws.{least_alike, least_empty}
 use Rattle.its_frame.specs.declared.change.Change.TheVariants as changes
 use Rattle.its_frame.specs.declared.change.Opened.TheVariants as opened
 use Rattle.its_frame.specs.declared.name.CallName.{CallName}

@@ -1,7 +1,7 @@
 -- VERSION: if no slot has a job it sets the version, and else it changes nothing.
 use Rattle.std.specs.Prelude.{if◌then◌else◌, ◌≡◌, ℕ, true, false}
 use Rattle.std.proofs.Common.{ap}
-use Rattle.its_word.specs.Tree.{no_job}
+use Rattle.its_records.specs.Tree.{no_job}
 use Rattle.its_plain.specs.Machine.{Machine}
 use Rattle.its_plain.specs.OperatorVersion.{with_version}
 

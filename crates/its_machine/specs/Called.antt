@@ -4,9 +4,9 @@ use Rattle.std.specs.Prelude.{if◌then◌else◌, ℕ, not, Option, Some, None,
 use Rattle.its_word.specs.Core.{Core, can_store}
 use Rattle.its_word.specs.declared.access.Fault.{Fault}
 use Rattle.its_word.specs.declared.access.Fault.TheVariants.{Mpv, Wro}
-use Rattle.its_word.specs.declared.jobs.Channel.{Channel}
-use Rattle.its_word.specs.declared.jobs.Channel.TheVariants.{Closed}
-use Rattle.its_word.specs.declared.jobs.Job.{Job}
+use Rattle.its_records.specs.declared.jobs.Channel.{Channel}
+use Rattle.its_records.specs.declared.jobs.Channel.TheVariants.{Closed}
+use Rattle.its_records.specs.declared.jobs.Job.{Job}
 use Rattle.its_frame.specs.declared.decision.Decision.{Decision}
 use Rattle.its_plain.specs.Transfer.{is_absent}
 use Rattle.its_plain.specs.Tests.{Test}

@@ -1,7 +1,7 @@
 -- One channel of one job is another; and what a machine shows of files and channels.
 -- No promise rests on this.
 use Rattle.std.specs.Prelude.{◌≡◌, ◌≢◌, ℕ, true, is_some, option_map}
-use Rattle.its_word.specs.declared.jobs.Channel.{Channel}
+use Rattle.its_records.specs.declared.jobs.Channel.{Channel}
 use Rattle.its_files.specs.Files.{Store, directory}
 use Rattle.its_jobs.specs.Table.{Table, job_at}
 use Rattle.its_plain.specs.Machine.{Machine}

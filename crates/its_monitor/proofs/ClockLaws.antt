@@ -2,8 +2,8 @@
 use Rattle.std.specs.Prelude.{◌≡◌, ◌<◌, ◌+◌, ◌^◌, ℕ, Bool, true, false, Option, Some, None, IfSome, [], Ok, nat_lt, refl}
 use Rattle.std.proofs.Common.{sym, ◌∙◌, ap, subst}
 use Rattle.its_word.specs.Limits.{slots}
-use Rattle.its_word.specs.declared.session.Event.TheVariants as events
-use Rattle.its_word.specs.declared.session.Refusal.TheVariants as refusals
+use Rattle.its_records.specs.declared.session.Event.TheVariants as events
+use Rattle.its_records.specs.declared.session.Refusal.TheVariants as refusals
 use Rattle.its_plain.specs.Machine.{Whole, Machine}
 use Rattle.its_plain.specs.Operator.{no_block}
 use Rattle.its_plain.specs.OperatorLines.{by_clock, operate, Done, lined}

@@ -1,7 +1,7 @@
 -- The console of a LOAD.
 use Rattle.std.specs.Prelude.{◌≡◌, ◌<◌, ℕ, false, Option, Some, None, IfSome, refl}
 use Rattle.std.proofs.lemmas.Bool.{leb-false, lt-leb}
-use Rattle.its_word.specs.declared.session.Refusal.{Refusal}
+use Rattle.its_records.specs.declared.session.Refusal.{Refusal}
 use Rattle.its_plain.specs.OperatorJobs.{after_load}
 use Rattle.its_stepped.specs.State.{State}
 use Rattle.its_monitor.specs.Kept.{Refused}

@@ -1,7 +1,7 @@
 -- DIR: the files of a directory, one by one in the order of all files.
 use Rattle.std.specs.Prelude.{◌≡◌, ◌≢◌, ◌≤◌, ℕ, zero, suc, ◌+◌, ◌-◌, Bool, true, false, cond, Option, Some, None, List, ◌∷◌, option_map, length, slice_get, refl}
 use Rattle.std.proofs.Common.{sym, ◌∙◌, ap, arith}
-use Rattle.its_word.specs.declared.show.FileShow.{FileShow}
+use Rattle.its_records.specs.declared.show.FileShow.{FileShow}
 use Rattle.its_files.specs.Files.{Store, file_at, directory}
 use Rattle.its_plain.specs.Machine.{File}
 use Rattle.its_plain.specs.OperatorFiles.{is_in, files_in, show_of}

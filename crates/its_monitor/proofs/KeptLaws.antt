@@ -1,10 +1,10 @@
 -- What holds between calls, through unwinding and through a line.
 use Rattle.std.specs.Prelude.{if◌then◌else◌, ◌==◌, ◌≡◌, ◌<◌, ◌^◌, ℕ, Bool, true, false, Option, Some, None, IfSome, List, Result, Ok, Err, option_map, is_some, refl}
 use Rattle.std.proofs.Common.{sym, ◌∙◌, ap, subst}
-use Rattle.its_word.specs.declared.session.Event.{Event}
-use Rattle.its_word.specs.declared.session.Reason.{Reason}
-use Rattle.its_word.specs.declared.session.Refusal.{Refusal}
-use Rattle.its_word.specs.declared.jobs.Job.{Job}
+use Rattle.its_records.specs.declared.session.Event.{Event}
+use Rattle.its_records.specs.declared.session.Reason.{Reason}
+use Rattle.its_records.specs.declared.session.Refusal.{Refusal}
+use Rattle.its_records.specs.declared.jobs.Job.{Job}
 use Rattle.its_frame.specs.declared.frame.Frame.{Frame}
 use Rattle.its_print.specs.Printing.{Line}
 use Rattle.its_word.specs.Core.{Core}
@@ -31,14 +31,14 @@ use Rattle.its_stepped.proofs.WrittenLaws.{line_forest}
 use Rattle.its_world.specs.World.{state_of, with_frames, CoreBecomes, JobBecomes}
 use Rattle.its_world.specs.Tidy.{Tidy}
 use Rattle.its_world.specs.declared.world.World.{World}
-use Rattle.its_word.specs.Refusals.{reason_of}
+use Rattle.its_records.specs.Refusals.{reason_of}
 use Rattle.its_monitor.specs.Kept.{Kept, Refused, Calm, Calmed}
 use Rattle.its_world.proofs.StateLaws.{job_of, frames_state}
 use Rattle.its_world.proofs.MappedLaws.{frames_tidy}
 use Rattle.its_pclsr.specs.Apart.{CoresOff}
 use Rattle.its_pclsr.proofs.ApartLaws.{off_one, off_then}
 use Rattle.its_world.proofs.StorageLaws.{raw_has}
-use Rattle.its_word.proofs.FreeLaws.{none_is}
+use Rattle.its_records.proofs.FreeLaws.{none_is}
 use Rattle.its_tick.proofs.WaitsLaws.{kept_is}
 
 some_seen : (f : Option Frame) (o : Option Whole) → is_some (option_map (seen f) o) ≡ is_some o

@@ -6,11 +6,11 @@ use Rattle.std.proofs.lemmas.Bool.Decides.{nat_tests}
 use Rattle.its_word.specs.Limits.{most_pages}
 use Rattle.its_word.specs.Core.{Core, page_of, word_at, can_store, store, putting, put, with_page, zero_page, pages_mapped}
 use Rattle.its_word.specs.declared.access.NoAccess.TheVariants.{ReadOnly}
-use Rattle.its_word.specs.declared.jobs.Job.{Job}
-use Rattle.its_word.specs.declared.session.Event.TheVariants as events
-use Rattle.its_word.specs.declared.session.Reason.{Reason}
-use Rattle.its_word.specs.declared.session.Refusal.{Refusal}
-use Rattle.its_word.specs.declared.session.Refusal.TheVariants as refusals
+use Rattle.its_records.specs.declared.jobs.Job.{Job}
+use Rattle.its_records.specs.declared.session.Event.TheVariants as events
+use Rattle.its_records.specs.declared.session.Reason.{Reason}
+use Rattle.its_records.specs.declared.session.Refusal.{Refusal}
+use Rattle.its_records.specs.declared.session.Refusal.TheVariants as refusals
 use Rattle.its_word.proofs.CoreLaws.{word_at-can_store}
 use Rattle.its_core.specs.Cores.{core_at, clear_at}
 use Rattle.its_core.specs.Frames.{frames_map, frames_reserve}
@@ -29,7 +29,7 @@ use Rattle.its_world.specs.declared.world.World.{World}
 use Rattle.its_world.proofs.MappedLaws.{core_raw, mapped_raw}
 use Rattle.its_world.proofs.StateLaws.{raw_job, job_of, frames_state}
 use Rattle.its_world.proofs.WorldLaws.{frames_still}
-use Rattle.its_word.specs.Refusals.{reason_of}
+use Rattle.its_records.specs.Refusals.{reason_of}
 use Rattle.its_monitor.specs.Kept.{Kept, Lands, Refused, Calmed, unloadable, frames_loaded}
 use Rattle.its_monitor.proofs.KeptLaws.{refused_by, frames_kept, Made, made_plain, Lasts, kept_lasts}
 use Rattle.its_tick.proofs.WaitsLaws.{raw_is, raw_is_none}

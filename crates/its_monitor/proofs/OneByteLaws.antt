@@ -1,8 +1,8 @@
 -- Each byte once: what a tick with the letter of a step does (docs/CALLS.md, "Each byte once").
 use Rattle.std.specs.Prelude.{◌≡◌, ℕ}
 use Rattle.std.proofs.Common.{subst}
-use Rattle.its_word.specs.declared.calls.Pace.{Pace}
-use Rattle.its_word.specs.declared.calls.Pace.TheVariants.{Step}
+use Rattle.its_records.specs.declared.calls.Pace.{Pace}
+use Rattle.its_records.specs.declared.calls.Pace.TheVariants.{Step}
 use Rattle.its_plain.specs.Machine.{Machine}
 use Rattle.its_plain.specs.OneByte.{EachByte}
 use Rattle.its_stepped.specs.Forest.{Forest}

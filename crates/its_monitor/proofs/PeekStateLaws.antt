@@ -3,7 +3,7 @@ use Rattle.std.specs.Prelude.{◌≡◌, ◌<◌, ℕ, true, false, Option, Some
 use Rattle.std.proofs.Common.{sym, ◌∙◌, ap}
 use Rattle.std.proofs.lemmas.List.{get_or_read_under}
 use Rattle.its_word.specs.Core.{Core}
-use Rattle.its_word.specs.declared.show.Peek.{Peek}
+use Rattle.its_records.specs.declared.show.Peek.{Peek}
 use Rattle.its_frame.specs.Left.{Few}
 use Rattle.its_frame.specs.declared.frame.Frame.{Frame}
 use Rattle.its_core.specs.Cores.{core_at}
@@ -21,7 +21,7 @@ use Rattle.its_monitor.specs.Peeking.{Shows}
 use Rattle.its_monitor.proofs.KeptLaws.{plain_has}
 use Rattle.its_world.proofs.StorageLaws.{raw_has}
 use Rattle.its_word.specs.Limits.{slots}
-use Rattle.its_word.proofs.FreeLaws.{none_is}
+use Rattle.its_records.proofs.FreeLaws.{none_is}
 
 pub peek_absent : (w : World) (s : ℕ) → is_some (job_at w.jobs s) ≡ false → ((state_of w).raw.jobs s ≡ None) × ((plain (state_of w)).jobs s ≡ None)
 peek_absent w s h = (none_is ((state_of w).raw.jobs s) (raw_has w s ∙ h), none_is ((plain (state_of w)).jobs s) (plain_has w s ∙ h))

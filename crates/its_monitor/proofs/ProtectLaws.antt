@@ -5,11 +5,11 @@ use Rattle.its_word.specs.Core.{Core, Page, word_at, can_store, page_of, with_pa
 use Rattle.its_word.specs.Stores.{refusal, refused}
 use Rattle.its_word.specs.declared.access.Fault.{Fault}
 use Rattle.its_word.specs.declared.access.Fault.TheVariants.{Wro}
-use Rattle.its_word.specs.declared.jobs.Job.{Job}
-use Rattle.its_word.specs.declared.session.Event.TheVariants as events
-use Rattle.its_word.specs.declared.session.Reason.TheVariants as reasons
-use Rattle.its_word.specs.declared.session.Refusal.{Refusal}
-use Rattle.its_word.specs.declared.session.Refusal.TheVariants as refusals
+use Rattle.its_records.specs.declared.jobs.Job.{Job}
+use Rattle.its_records.specs.declared.session.Event.TheVariants as events
+use Rattle.its_records.specs.declared.session.Reason.TheVariants as reasons
+use Rattle.its_records.specs.declared.session.Refusal.{Refusal}
+use Rattle.its_records.specs.declared.session.Refusal.TheVariants as refusals
 use Rattle.its_core.specs.Cores.{core_at, mark_of}
 use Rattle.its_jobs.specs.Table.{job_at, superior_at}
 use Rattle.its_plain.specs.Machine.{Whole, Machine}
@@ -24,7 +24,7 @@ use Rattle.its_stepped.proofs.UnwindLaws.{unwound_plain}
 use Rattle.its_world.specs.World.{alarm_at, state_of, CoreBecomes}
 use Rattle.its_world.specs.declared.world.World.{World}
 use Rattle.its_world.proofs.StateLaws.{raw_job, job_of}
-use Rattle.its_word.specs.Refusals.{reason_of}
+use Rattle.its_records.specs.Refusals.{reason_of}
 use Rattle.its_monitor.specs.Kept.{Kept, Lands, Refused, Calmed}
 use Rattle.its_monitor.proofs.KeptLaws.{refused_by, Made, made_plain, Lasts, kept_lasts}
 use Rattle.its_tick.proofs.WaitsLaws.{raw_is, raw_is_none}

@@ -4,11 +4,11 @@ use Rattle.std.proofs.Common.{sym, ◌∙◌, ap, subst, inl, inr, lit<}
 use Rattle.std.proofs.lemmas.Bool.{cases_eq}
 use Rattle.its_word.specs.Console.{quiet_console}
 use Rattle.its_word.specs.Core.{no_core}
-use Rattle.its_word.specs.Tree.{least_free, fresh_job}
-use Rattle.its_word.proofs.FreeLaws.{least_empty}
-use Rattle.its_word.specs.declared.session.Event.TheVariants as events
-use Rattle.its_word.specs.declared.session.Reason.{Reason}
-use Rattle.its_word.specs.declared.session.Refusal.TheVariants as refusals
+use Rattle.its_records.specs.Tree.{least_free, fresh_job}
+use Rattle.its_records.proofs.FreeLaws.{least_empty}
+use Rattle.its_records.specs.declared.session.Event.TheVariants as events
+use Rattle.its_records.specs.declared.session.Reason.{Reason}
+use Rattle.its_records.specs.declared.session.Refusal.TheVariants as refusals
 use Rattle.its_print.specs.Printing.{Line}
 use Rattle.its_print.specs.Printing as printed
 use Rattle.its_core.specs.Cores.{Reserved, core_at, IsEmpty}

@@ -3,11 +3,11 @@ use Rattle.std.specs.Prelude.{◌≡◌, ◌<◌, ◌^◌, ℕ, Bool, true, fals
 use Rattle.std.proofs.Common.{sym, ◌∙◌, ap, subst, inl, inr}
 use Rattle.std.proofs.lemmas.Bool.{cases_eq}
 use Rattle.its_world.proofs.MadeLaws.{empty_raw}
-use Rattle.its_word.specs.Tree.{no_job}
+use Rattle.its_records.specs.Tree.{no_job}
 use Rattle.its_word.specs.Limits.{most_symbols}
-use Rattle.its_word.specs.declared.session.Event.TheVariants as events
-use Rattle.its_word.specs.declared.session.Refusal.{Refusal}
-use Rattle.its_word.specs.declared.session.Refusal.TheVariants as refusals
+use Rattle.its_records.specs.declared.session.Event.TheVariants as events
+use Rattle.its_records.specs.declared.session.Refusal.{Refusal}
+use Rattle.its_records.specs.declared.session.Refusal.TheVariants as refusals
 use Rattle.its_core.specs.Cores.{core_at, clear_at}
 use Rattle.its_jobs.specs.Table.{job_at, superior_at}
 use Rattle.its_files.specs.Files.{directory}
@@ -30,7 +30,7 @@ use Rattle.its_world.specs.declared.world.World.{World}
 use Rattle.its_machine.proofs.AcrossLaws.{across_table}
 use Rattle.its_machine.proofs.VersionLaws.{version_set, same_version}
 use Rattle.its_world.proofs.StateLaws.{state_is, job_of, changed_at, raw_same}
-use Rattle.its_word.specs.Refusals.{reason_of}
+use Rattle.its_records.specs.Refusals.{reason_of}
 use Rattle.its_monitor.specs.Kept.{Kept, Lands, Refused}
 use Rattle.its_monitor.proofs.KeptLaws.{error_is, Made, made_sound, made_plain, made_forest, made_timed, made_alarmed}
 use Rattle.its_monitor.proofs.RegisterLaws.{block_of}

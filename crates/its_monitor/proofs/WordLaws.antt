@@ -7,12 +7,12 @@ use Rattle.its_word.specs.declared.access.Fault.{Fault}
 use Rattle.its_word.specs.declared.access.Fault.TheVariants.{Wro}
 use Rattle.its_word.specs.declared.access.NoAccess.{NoAccess}
 use Rattle.its_word.specs.declared.access.NoAccess.TheVariants.{Absent}
-use Rattle.its_word.specs.declared.jobs.Job.{Job}
-use Rattle.its_word.specs.declared.session.Event.{Event}
-use Rattle.its_word.specs.declared.session.Event.TheVariants as events
-use Rattle.its_word.specs.declared.session.Reason.{Reason}
-use Rattle.its_word.specs.declared.session.Refusal.{Refusal}
-use Rattle.its_word.specs.declared.session.Refusal.TheVariants as refusals
+use Rattle.its_records.specs.declared.jobs.Job.{Job}
+use Rattle.its_records.specs.declared.session.Event.{Event}
+use Rattle.its_records.specs.declared.session.Event.TheVariants as events
+use Rattle.its_records.specs.declared.session.Reason.{Reason}
+use Rattle.its_records.specs.declared.session.Refusal.{Refusal}
+use Rattle.its_records.specs.declared.session.Refusal.TheVariants as refusals
 use Rattle.its_frame.specs.declared.frame.Frame.{Frame}
 use Rattle.its_core.specs.Cores.{core_at, clear_at}
 use Rattle.its_jobs.specs.Table.{job_at, superior_at}
@@ -31,7 +31,7 @@ use Rattle.its_world.specs.World.{alarm_at, state_of, in_raw, frame_at, Becomes,
 use Rattle.its_world.specs.declared.world.World.{World}
 use Rattle.its_world.proofs.StateLaws.{raw_job, job_of, changed_state}
 use Rattle.its_commit.proofs.TidyLaws.{tidy_core}
-use Rattle.its_word.specs.Refusals.{reason_of}
+use Rattle.its_records.specs.Refusals.{reason_of}
 use Rattle.its_monitor.specs.Kept.{Kept, Lands, Refused, Calm, Calmed, refusal_of, undepositable}
 use Rattle.its_monitor.proofs.KeptLaws.{refused_by, Made, made_sound, made_plain, made_forest, made_timed, made_alarmed, Lasts, kept_lasts, put_lasts, lasts_address, lasts_console}
 use Rattle.its_monitor.proofs.RegisterLaws.{placed_lands, disturbed}

@@ -1,10 +1,10 @@
 -- The effect of a call of the operator on the state of a world.
 -- No promise rests on this.
 use Rattle.std.specs.Prelude.{if◌then◌else◌, ◌≡◌, ℕ, Bool, true, false, Option, Some, None, Result, Ok, Err}
-use Rattle.its_word.specs.declared.session.Reason.{Reason}
-use Rattle.its_word.specs.declared.session.Refusal.{Refusal}
-use Rattle.its_word.specs.declared.session.Refusal.TheVariants as refusals
-use Rattle.its_word.specs.declared.jobs.Job.{Job}
+use Rattle.its_records.specs.declared.session.Reason.{Reason}
+use Rattle.its_records.specs.declared.session.Refusal.{Refusal}
+use Rattle.its_records.specs.declared.session.Refusal.TheVariants as refusals
+use Rattle.its_records.specs.declared.jobs.Job.{Job}
 use Rattle.its_files.specs.Files.{after_help}
 use Rattle.its_core.specs.Frames.{Frames, frames_map, frames_reserve}
 use Rattle.its_jobs.specs.Table.{job_at}
@@ -12,7 +12,7 @@ use Rattle.its_plain.specs.Machine.{Machine}
 use Rattle.its_stepped.specs.State.{State, plain}
 use Rattle.its_stepped.specs.Lines.{with_raw}
 use Rattle.its_stepped.specs.Unwind.{unwound, help}
-use Rattle.its_word.specs.Refusals.{reason_of}
+use Rattle.its_records.specs.Refusals.{reason_of}
 pub use Rattle.its_machine.specs.Refusals.{refusal_of}
 use Rattle.its_world.specs.Filed.{Ringed}
 use Rattle.its_world.specs.World.{state_of}

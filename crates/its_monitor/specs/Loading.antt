@@ -1,8 +1,8 @@
 -- Why LOAD is refused.
 -- No promise rests on this.
 use Rattle.std.specs.Prelude.{◌≡◌, ℕ, Bool, true, false, Option, Some, None, nat_le}
-use Rattle.its_word.specs.declared.session.Refusal.{Refusal}
-use Rattle.its_word.specs.declared.session.Refusal.TheVariants as refusals
+use Rattle.its_records.specs.declared.session.Refusal.{Refusal}
+use Rattle.its_records.specs.declared.session.Refusal.TheVariants as refusals
 use Rattle.its_plain.specs.OperatorJobs.{after_load}
 use Rattle.its_stepped.specs.State.{State}
 use Rattle.its_monitor.specs.Kept.{Refused}

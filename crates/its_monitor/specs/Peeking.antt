@@ -2,7 +2,7 @@
 -- No promise rests on this.
 use Rattle.std.specs.Prelude.{◌≡◌, ℕ, Option}
 use Rattle.its_word.specs.Core.{Core}
-use Rattle.its_word.specs.declared.show.Peek.{Peek}
+use Rattle.its_records.specs.declared.show.Peek.{Peek}
 use Rattle.its_frame.specs.declared.frame.Frame.{Frame}
 use Rattle.its_stepped.specs.Lines.{state_shown, name_shown, first_shown, second_shown, word_shown, ask_in, byte_shown}
 

@@ -20,7 +20,8 @@ ghost use Rattle.its_monitor.specs.Rung.{roused, RangAt, RangBelow};
 
 use super::monitor::Monitor;
 use its_pclsr::unwind;
-use its_word::{ALR, Job, Refusal, SLOTS, Word};
+use its_records::{Job, Refusal};
+use its_word::{ALR, SLOTS, Word};
 use its_world::World;
 
 /// The clock stays below this many thirtieths.

@@ -7,12 +7,13 @@ ghost use Rattle.its_stepped.specs.State.{plain};
 ghost use Rattle.its_stepped.specs.Unwind.{help};
 ghost use Rattle.its_world.specs.World.{state_of};
 ghost use Rattle.its_world.specs.Tidy.{Tidy};
-ghost use Rattle.its_word.specs.Refusals.{reason_of};
+ghost use Rattle.its_records.specs.Refusals.{reason_of};
 ghost use Rattle.its_monitor.specs.Kept.{Kept, Lands, Helped, FileRefused, CloseMade};
 ghost use Rattle.its_monitor.specs.Filing.{word_if, length_if};
 
 use super::monitor::Monitor;
-use its_word::{FileShow, Refusal, Word};
+use its_records::{FileShow, Refusal};
+use its_word::Word;
 use its_world::World;
 
 /// How many files there are at most.

@@ -36,7 +36,8 @@ mod tests;
 mod typing;
 mod words;
 
+pub use its_records::{FileShow, JobShow, Pace, Peek, Refusal};
 pub use its_tick::tick;
-pub use its_word::{FileShow, JobShow, NoMemory, Pace, Peek, Refusal};
+pub use its_word::NoMemory;
 pub use its_world::World;
 pub use monitor::Monitor;

@@ -1,6 +1,6 @@
 ghost use Rattle.std.specs.Prelude.{◌≡◌, ◌<◌, false, Some, None, Ok, IfSome, IfOk, OnOk, OnErr, IfErr};
 ghost use Rattle.its_word.specs.Limits.{slots};
-ghost use Rattle.its_word.specs.Tree.{least_free};
+ghost use Rattle.its_records.specs.Tree.{least_free};
 ghost use Rattle.its_jobs.specs.Table.{job_at};
 ghost use Rattle.its_plain.specs.OperatorJobs.{after_load, with_holder};
 ghost use Rattle.its_stepped.specs.State.{plain};
@@ -11,7 +11,8 @@ ghost use Rattle.its_world.specs.Made.{JobMade};
 
 use super::monitor::Monitor;
 use its_jobs::NoSlot;
-use its_word::{Refusal, Word};
+use its_records::Refusal;
+use its_word::Word;
 use its_world::World;
 
 /// How many consoles there are.

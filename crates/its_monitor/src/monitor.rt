@@ -14,7 +14,8 @@ ghost use Rattle.its_tick.specs.Beside.{AllBeside};
 ghost use Rattle.its_tick.specs.Pages.{pages_ticked};
 ghost use Rattle.its_tick.specs.Ticks.{InRing, is_waiting, unit_due};
 
-use its_word::{NoMemory, Pace};
+use its_records::Pace;
+use its_word::NoMemory;
 use its_world::World;
 use std::alloc::Global;
 

@@ -11,7 +11,8 @@ ghost use Rattle.its_monitor.specs.Kept.{Kept, Lands, Refused};
 
 use super::monitor::Monitor;
 use super::words::{calm, present};
-use its_word::{Fault, Refusal};
+use its_records::Refusal;
+use its_word::Fault;
 use its_world::World;
 
 impl Monitor {

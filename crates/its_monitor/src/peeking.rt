@@ -16,7 +16,8 @@ mod tests;
 use super::monitor::Monitor;
 use its_calls::View;
 use its_frame::CallName;
-use its_word::{Ask, Peek, PeekState, Refusal, Site, Word};
+use its_records::{Ask, Peek, PeekState, Refusal, Site};
+use its_word::Word;
 use its_world::World;
 
 impl Monitor {

@@ -12,7 +12,8 @@ ghost use Rattle.its_monitor.specs.Kept.{Kept, Lands, Refused, Calm};
 use super::monitor::Monitor;
 use super::symbols::near;
 use its_pclsr::unwind;
-use its_word::{FATAL, Job, JobShow, Refusal, Word, pc_word};
+use its_records::{Job, JobShow, Refusal};
+use its_word::{FATAL, Word, pc_word};
 use its_world::World;
 
 impl Monitor {

@@ -9,7 +9,8 @@ ghost use Rattle.its_monitor.specs.Kept.{Kept, Lands, Refused};
 use super::monitor::Monitor;
 use super::words::present;
 use its_machine::{MOST_SYMBOLS, nearest};
-use its_word::{Refusal, Word};
+use its_records::Refusal;
+use its_word::Word;
 use its_world::World;
 
 impl Monitor {

@@ -3,7 +3,8 @@ ghost use Rattle.its_word.specs.Limits.{slots};
 ghost use Rattle.its_monitor.specs.Kept.{Kept};
 
 use super::Monitor;
-use its_word::{FileShow, JobShow, Peek, PeekState, Refusal, SLOTS, Word};
+use its_records::{FileShow, JobShow, Peek, PeekState, Refusal};
+use its_word::{SLOTS, Word};
 use std::process::Abort;
 use std::test::Fail;
 

@@ -6,7 +6,7 @@ ghost use Rattle.its_world.specs.World.{state_of};
 ghost use Rattle.its_monitor.specs.Kept.{Kept, Lands};
 
 use super::monitor::Monitor;
-use its_word::Refusal;
+use its_records::Refusal;
 
 impl Monitor {
     /// One byte of a TYPE line, typed at a console. False if 64 typed bytes wait; the byte is then dropped. NoConsole

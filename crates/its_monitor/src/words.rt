@@ -15,7 +15,8 @@ ghost use Rattle.its_monitor.specs.Kept.{Kept, Lands, Refused, Calmed, undeposit
 
 use super::monitor::Monitor;
 use its_pclsr::unwind;
-use its_word::{Fault, MAPPED_PAGES, NoAccess, Refusal, Word};
+use its_records::Refusal;
+use its_word::{Fault, MAPPED_PAGES, NoAccess, Word};
 use its_world::World;
 
 impl Monitor {

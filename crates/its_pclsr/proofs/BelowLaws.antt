@@ -5,7 +5,7 @@ use Rattle.std.proofs.Common.{sym, ◌∙◌, ap, arith}
 use Rattle.std.proofs.lemmas.List.Sums.{length-filter, count_by-le-length}
 use Rattle.std.proofs.lemmas.List.FromFn.{length-range_with_len}
 use Rattle.its_word.specs.Limits.{slots}
-use Rattle.its_word.specs.Tree.{is_below, slots_below}
+use Rattle.its_records.specs.Tree.{is_below, slots_below}
 use Rattle.its_jobs.specs.Table.{superior_at, IsTree}
 use Rattle.its_plain.specs.Change.{superiors}
 use Rattle.its_plain.specs.Machine.{Machine}

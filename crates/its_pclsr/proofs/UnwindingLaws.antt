@@ -5,10 +5,10 @@ use Rattle.std.proofs.Common.{arith, sym, ap, ◌∙◌, subst}
 use Rattle.its_word.specs.ArrayVec.{ArrayVec}
 use Rattle.its_word.specs.Core.{Core}
 use Rattle.its_word.specs.Stores.{stored}
-use Rattle.its_word.specs.declared.calls.Ask.{Ask}
-use Rattle.its_word.specs.declared.calls.Owed.{Owed}
-use Rattle.its_word.specs.declared.calls.Site.{Site}
-use Rattle.its_word.specs.declared.jobs.Job.{Job}
+use Rattle.its_records.specs.declared.calls.Ask.{Ask}
+use Rattle.its_records.specs.declared.calls.Owed.{Owed}
+use Rattle.its_records.specs.declared.calls.Site.{Site}
+use Rattle.its_records.specs.declared.jobs.Job.{Job}
 use Rattle.its_word.specs.declared.plan.Store as stores
 use Rattle.its_core.specs.Cores.{core_at, clear_at}
 use Rattle.its_files.specs.Files.{Store as Files}

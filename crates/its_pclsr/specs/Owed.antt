@@ -1,7 +1,7 @@
 -- The head of the parts of a close.
 -- No promise rests on this.
 use Rattle.std.specs.Prelude.{◌≡◌, ℕ, Option, Some, None, List, [], ◌∷◌}
-use Rattle.its_word.specs.declared.calls.Owed.{Owed}
+use Rattle.its_records.specs.declared.calls.Owed.{Owed}
 use Rattle.its_stepped.specs.Sound.{file_parts}
 use Rattle.its_stepped.specs.State.{Part, Mark}
 

@@ -1,9 +1,9 @@
 -- The next part of a marked close, made; and the first pending step of a call, taken.
 -- No promise rests on this.
 use Rattle.std.specs.Prelude.{◌≡◌, ℕ, Some, List, ◌∷◌}
-use Rattle.its_word.specs.declared.calls.Ask.{Ask}
-use Rattle.its_word.specs.declared.calls.Owed.{Owed}
-use Rattle.its_word.specs.declared.calls.Site.{Site}
+use Rattle.its_records.specs.declared.calls.Ask.{Ask}
+use Rattle.its_records.specs.declared.calls.Owed.{Owed}
+use Rattle.its_records.specs.declared.calls.Site.{Site}
 use Rattle.its_stepped.specs.State.{ending, mine}
 use Rattle.its_stepped.specs.Unwind.{due, with_part}
 use Rattle.its_world.specs.World.{state_of, frame_at, FrameBecomes}

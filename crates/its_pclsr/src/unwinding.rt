@@ -23,7 +23,8 @@ use its_bytes::deposit;
 use its_calls::{Next, View};
 use its_commit::{first_owed, owns_mark};
 use its_core::Core;
-use its_word::{ADDRESSES, Ask, Exit, Job, Owed, Store, Word};
+use its_records::{Ask, Exit, Job, Owed};
+use its_word::{ADDRESSES, Store, Word};
 use its_world::World;
 
 /// One step of unwinding of a slot's job, which is inside a call: at most one word of core, one page's

@@ -3,9 +3,9 @@ use Rattle.std.specs.Prelude.{◌≡◌, ◌≤◌, ℕ, Option, Some, None, Lis
 use Rattle.std.proofs.Common.{ap, sym, arith}
 use Rattle.std.proofs.lemmas.List.{get_or_past}
 use Rattle.circular_buffer.specs.Buffer.{Buffer}
-use Rattle.its_word.specs.Links.{most_linked, most_links}
-use Rattle.its_word.specs.Tree.{free_from, least_free}
-use Rattle.its_word.specs.declared.link.Link.{Link}
+use Rattle.its_records.specs.Links.{most_linked, most_links}
+use Rattle.its_records.specs.Tree.{free_from, least_free}
+use Rattle.its_records.specs.declared.link.Link.{Link}
 use Rattle.its_plain.specs.CallLink.{words_in}
 use Rattle.its_plain.specs.Machine.{Pipe}
 use Rattle.its_pipes.specs.Pipes.{IsPipes, link_at, pipe_by, queue_at}

@@ -2,7 +2,7 @@
 use Rattle.std.specs.Prelude.{◌≡◌, ◌≤◌, ◌<◌, ◌+◌, ℕ, Bool, Option, None, refl}
 use Rattle.std.proofs.Common.{◌∙◌, ap, sym, arith, inl, inr}
 use Rattle.std.proofs.lemmas.Bool.{cases_eq, cases_lt}
-use Rattle.its_word.specs.Links.{most_links}
+use Rattle.its_records.specs.Links.{most_links}
 use Rattle.its_word.specs.Only.{Only}
 use Rattle.its_plain.specs.Change.{ends_after_removal}
 use Rattle.its_plain.specs.Machine.{Pipe}

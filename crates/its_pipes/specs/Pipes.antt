@@ -2,8 +2,8 @@
 -- No promise rests on this.
 use Rattle.std.specs.Prelude.{◌≡◌, ◌≤◌, ℕ, Option, Some, None, List, [], length, slice_index_or}
 use Rattle.circular_buffer.specs.Buffer.{Buffer, buffer}
-use Rattle.its_word.specs.Links.{most_linked}
-use Rattle.its_word.specs.declared.link.Link.{Link}
+use Rattle.its_records.specs.Links.{most_linked}
+use Rattle.its_records.specs.declared.link.Link.{Link}
 use Rattle.its_plain.specs.Machine.{Pipe}
 
 pub record Piping : Type 0 where

@@ -1,10 +1,11 @@
 //! Links and their ends, without their words.
 ghost use Rattle.std.specs.Prelude.{◌≡◌, ◌==◌, ◌||◌};
-ghost use Rattle.its_word.specs.Links.{end_left, is_alive, is_closed, is_link_named, is_open, link_left, new_link, with_end};
+ghost use Rattle.its_records.specs.Links.{end_left, is_alive, is_closed, is_link_named, is_open, link_left, new_link, with_end};
 ghost use Rattle.its_jobs.specs.Table.{in_tree, superior_at};
 
 use its_jobs::Jobs;
-use its_word::{End, Link, Word};
+use its_records::{End, Link};
+use its_word::Word;
 
 /// A link as it is made, before the first of its ends is opened.
 pub(crate) fn new_link(x: Word, y: Word) -> Link

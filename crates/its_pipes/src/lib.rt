@@ -22,5 +22,6 @@ mod pipes;
 #[cfg(test)]
 mod tests;
 
-pub use its_word::{End, Link, NoMemory};
+pub use its_records::{End, Link};
+pub use its_word::NoMemory;
 pub use pipes::Pipes;

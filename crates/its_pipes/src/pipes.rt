@@ -1,8 +1,8 @@
 //! The store of links, and of the words in them.
 ghost use Rattle.std.specs.Prelude.{◌≡◌, ◌<◌, ◌≤◌, ℕ, true, false, Some, None, IfOk, IfSome, is_some, length, option_map, slice_get, vec_len};
-ghost use Rattle.its_word.specs.Links.{most_linked, most_links};
+ghost use Rattle.its_records.specs.Links.{most_linked, most_links};
 ghost use Rattle.its_word.specs.Only.{Only};
-ghost use Rattle.its_word.specs.Tree.{least_free};
+ghost use Rattle.its_records.specs.Tree.{least_free};
 ghost use Rattle.its_jobs.specs.Table.{in_tree, superior_at};
 ghost use Rattle.its_plain.specs.CallLink.{has_link_names, is_crowded, is_dry, is_end_closed, is_ended, is_unread, link_named, words_in};
 ghost use Rattle.its_plain.specs.Change.{after_end_close, ends_after_removal, if_alive, link_or_new, with_end_opened, with_received, with_sent};
@@ -11,7 +11,8 @@ ghost use Rattle.its_pipes.specs.Pipes.{link_in, no_queue, piped, queue_at};
 use super::ends::{is_alive, is_closed, is_named, link_left, new_link, with_end};
 use circular_buffer::HeapCircularBuffer;
 use its_jobs::Jobs;
-use its_word::{End, LINK_WORDS, LINKS, Link, NoMemory, Word};
+use its_records::{End, LINK_WORDS, LINKS, Link};
+use its_word::{NoMemory, Word};
 use std::alloc::Global;
 use std::marker::Model;
 
@@ -131,7 +132,7 @@ impl Pipes {
     }
 
     /// The least number without a link; None if there are as many links as there can be.
-    #[tactic(auto, using(crate::proofs::PipeLaws::least_start, its_word::proofs::TreeLaws::least_next, its_word::proofs::TreeLaws::least_found, its_word::proofs::TreeLaws::least_end))]
+    #[tactic(auto, using(crate::proofs::PipeLaws::least_start, its_records::proofs::TreeLaws::least_next, its_records::proofs::TreeLaws::least_found, its_records::proofs::TreeLaws::least_end))]
     pub fn free_link(&self) -> Option<u8>
         ensures number { result ≡ least_free most_links (piped self.now) }
         ensures below { IfSome result (λ l. l < most_links) }

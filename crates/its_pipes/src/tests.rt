@@ -1,6 +1,7 @@
 use super::{End, Link, Pipes};
 use its_jobs::{Jobs, NoSlot};
-use its_word::{LINKS, Word};
+use its_records::LINKS;
+use its_word::Word;
 use std::process::Abort;
 use std::test::Fail;
 

@@ -9,23 +9,23 @@ use Rattle.its_word.specs.Core.{Core, word_at, can_store}
 use Rattle.its_word.specs.Limits.{budget}
 use Rattle.its_word.specs.Stores.{refusal}
 use Rattle.its_word.specs.Word.{pair_of}
-use Rattle.its_word.specs.declared.calls.Arg.{Arg}
-use Rattle.its_word.specs.declared.calls.Arg.TheVariants.{Input, Output, ErrorAt, Control}
-use Rattle.its_word.specs.declared.calls.Ask.{Ask}
-use Rattle.its_word.specs.declared.calls.Kind.{Kind}
-use Rattle.its_word.specs.declared.calls.Kind.TheVariants as kinds
-use Rattle.its_word.specs.declared.calls.Operand.{Operand}
-use Rattle.its_word.specs.declared.calls.Placed.{Placed}
-use Rattle.its_word.specs.declared.calls.Site.{Site}
-use Rattle.its_word.specs.declared.calls.Source.{Source}
-use Rattle.its_word.specs.declared.calls.Source.TheVariants.{Held, Immediate}
+use Rattle.its_records.specs.declared.calls.Arg.{Arg}
+use Rattle.its_records.specs.declared.calls.Arg.TheVariants.{Input, Output, ErrorAt, Control}
+use Rattle.its_records.specs.declared.calls.Ask.{Ask}
+use Rattle.its_records.specs.declared.calls.Kind.{Kind}
+use Rattle.its_records.specs.declared.calls.Kind.TheVariants as kinds
+use Rattle.its_records.specs.declared.calls.Operand.{Operand}
+use Rattle.its_records.specs.declared.calls.Placed.{Placed}
+use Rattle.its_records.specs.declared.calls.Site.{Site}
+use Rattle.its_records.specs.declared.calls.Source.{Source}
+use Rattle.its_records.specs.declared.calls.Source.TheVariants.{Held, Immediate}
 use Rattle.its_frame.specs.declared.name.CallRow.{CallRow}
 use Rattle.its_plain.specs.Traced.{Located, also, gives, located}
 use Rattle.its_plain.specs.Decode.{Shape, allowed, argument, argument_at, arguments, ask, ask_of, control_of, error_at_of, error_by, exceeds, held, input_of, iot_ask, kind_of, name_of, output_of, parsed, held_place, row_named, shaped, storable, there, value_of, words_of}
 use Rattle.its_plain.proofs.AskLaws.{decoded_of, iot_of}
 use Rattle.its_plain.proofs.FitsLaws.{located_finds}
 use Rattle.its_plain.proofs.ReadLaws.{went}
-use Rattle.its_word.proofs.ClimbLaws.{or_none}
+use Rattle.its_records.proofs.ClimbLaws.{or_none}
 
 -- a place that is an address at which a word can be stored, or one that has a word
 pub record Storable (c : Core) (p : ℕ) : Type 0 where

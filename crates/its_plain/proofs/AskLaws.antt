@@ -4,12 +4,12 @@ use Rattle.std.specs.List.{Contains, filter_map}
 use Rattle.std.proofs.lemmas.List.Elements.{Contains-append_right}
 use Rattle.its_word.specs.Core.{Core, word_at}
 use Rattle.its_word.specs.declared.access.Fault.{Fault}
-use Rattle.its_word.specs.declared.calls.Arg.{Arg}
-use Rattle.its_word.specs.declared.calls.Arg.TheVariants.{Input, Output, ErrorAt, Control}
-use Rattle.its_word.specs.declared.calls.Ask.{Ask}
-use Rattle.its_word.specs.declared.calls.Operand.{Operand}
-use Rattle.its_word.specs.declared.calls.Site.{Site}
-use Rattle.its_word.specs.declared.calls.Source.TheVariants.{Held, Immediate}
+use Rattle.its_records.specs.declared.calls.Arg.{Arg}
+use Rattle.its_records.specs.declared.calls.Arg.TheVariants.{Input, Output, ErrorAt, Control}
+use Rattle.its_records.specs.declared.calls.Ask.{Ask}
+use Rattle.its_records.specs.declared.calls.Operand.{Operand}
+use Rattle.its_records.specs.declared.calls.Site.{Site}
+use Rattle.its_records.specs.declared.calls.Source.TheVariants.{Held, Immediate}
 use Rattle.its_plain.specs.UnitPlan.{given}
 use Rattle.its_plain.specs.Decode.{Shape, ask, ask_by, ask_of, control_of, error_at_of, error_by, exceeds, input_of, iot_ask, name_of, operand_of, output_of, row_named, shaped, words_of}
 use Rattle.its_plain.proofs.Locality.{Agree, Words}

@@ -6,13 +6,13 @@ use Rattle.std.proofs.lemmas.Bool.{cases_Bool, cases_eq, eq-eqb, ne_eqb, ltb-tru
 use Rattle.its_word.specs.Console.{most_waiting}
 use Rattle.its_word.specs.Core.{Core, Page, page_of, word_at, can_store}
 use Rattle.its_word.specs.Limits.{slots, most_symbols}
-use Rattle.its_word.specs.Tree.{least_free, no_job}
-use Rattle.its_word.specs.declared.jobs.Job.{Job}
-use Rattle.its_word.specs.declared.session.Event.{Event}
-use Rattle.its_word.specs.declared.session.Event.TheVariants as events
-use Rattle.its_word.specs.declared.session.Reason.{Reason}
-use Rattle.its_word.specs.declared.show.JobShow.{JobShow}
-use Rattle.its_word.proofs.FreeLaws.{least_empty, least_below, no_job_there}
+use Rattle.its_records.specs.Tree.{least_free, no_job}
+use Rattle.its_records.specs.declared.jobs.Job.{Job}
+use Rattle.its_records.specs.declared.session.Event.{Event}
+use Rattle.its_records.specs.declared.session.Event.TheVariants as events
+use Rattle.its_records.specs.declared.session.Reason.{Reason}
+use Rattle.its_records.specs.declared.show.JobShow.{JobShow}
+use Rattle.its_records.proofs.FreeLaws.{least_empty, least_below, no_job_there}
 use Rattle.its_plain.specs.Machine.{Names, File, Chan, Console, Whole, Machine, changed, with_job, mapped, limit}
 use Rattle.its_plain.specs.Operator.{Block, Refuses, Does, Ticks, Quits, and_then, disturbs, quietly}
 use Rattle.its_plain.specs.OperatorJobs.{new_job, held_by, after_load_in, after_load, with_stored, with_core, with_word_loaded_of, with_word_loaded, with_words_stored, words_barred, with_words_loaded_if, with_words_loaded, with_page_protected_in, with_page_protected, on_job, with_registers, on_registers, after_go, after_int, after_stop, after_cont, examined, state_shown, after_deposit_in, after_deposit}

@@ -6,15 +6,15 @@ use Rattle.its_word.specs.Word.{pair_of}
 use Rattle.its_word.specs.Core.{Core}
 use Rattle.its_word.specs.Limits.{budget}
 use Rattle.its_word.specs.declared.access.Fault.TheVariants.{Ilo}
-use Rattle.its_word.specs.declared.calls.Arg.{Arg}
-use Rattle.its_word.specs.declared.calls.Arg.TheVariants.{Input, Output, ErrorAt, Control}
-use Rattle.its_word.specs.declared.calls.Kind.{Kind}
-use Rattle.its_word.specs.declared.calls.Kind.TheVariants as kinds
-use Rattle.its_word.specs.declared.calls.Site.{Site}
-use Rattle.its_word.specs.declared.calls.Source.TheVariants.{Held, Immediate}
+use Rattle.its_records.specs.declared.calls.Arg.{Arg}
+use Rattle.its_records.specs.declared.calls.Arg.TheVariants.{Input, Output, ErrorAt, Control}
+use Rattle.its_records.specs.declared.calls.Kind.{Kind}
+use Rattle.its_records.specs.declared.calls.Kind.TheVariants as kinds
+use Rattle.its_records.specs.declared.calls.Site.{Site}
+use Rattle.its_records.specs.declared.calls.Source.TheVariants.{Held, Immediate}
 use Rattle.its_word.specs.declared.instruction.Instruction.{Instruction}
 use Rattle.its_word.specs.declared.instruction.Instruction.TheVariants.{Xct}
-use Rattle.its_word.specs.declared.jobs.Job.{Job}
+use Rattle.its_records.specs.declared.jobs.Job.{Job}
 use Rattle.its_word.specs.declared.plan.Context.{Context}
 use Rattle.its_word.specs.declared.plan.ChainStep.{ChainStep}
 use Rattle.its_word.specs.declared.plan.ChainStep.TheVariants.{Found, Target}

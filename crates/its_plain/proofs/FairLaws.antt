@@ -5,10 +5,10 @@ use Rattle.std.proofs.Common.{sym, ◌∙◌, ap, subst, arith, inl, inr, append
 use Rattle.std.proofs.lemmas.Bool.{cases_eq, cases_order, eq-eqb, ne_eqb}
 use Rattle.its_robin.specs.Robin.{robin, between, IsNext}
 use Rattle.its_robin.proofs.RobinLaws.{robin_same, robin_next, way_on, as_far, farthest}
-use Rattle.its_word.specs.Item.{Item, Read, Unread, Beyond}
+use Rattle.its_records.specs.Item.{Item, Read, Unread, Beyond}
 use Rattle.its_word.specs.Limits.{slots}
-use Rattle.its_word.specs.declared.calls.Pace.{Pace}
-use Rattle.its_word.specs.declared.session.Event.{Event}
+use Rattle.its_records.specs.declared.calls.Pace.{Pace}
+use Rattle.its_records.specs.declared.session.Event.{Event}
 use Rattle.its_print.specs.Printing.{Line}
 use Rattle.its_plain.specs.Course.{Course, onward, rests, Lines, Letter, Moment, machine_after, paced, letters, turned_by, turned, past, course, run_of}
 use Rattle.its_plain.specs.Course as courses

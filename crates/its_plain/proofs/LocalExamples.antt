@@ -7,10 +7,10 @@ use Rattle.its_word.specs.Opcode.{branch_opcode, full_word_opcode, instruction_o
 use Rattle.its_word.specs.Text.{sixbit_of}
 use Rattle.its_word.specs.declared.access.Fault.{Fault}
 use Rattle.its_word.specs.declared.access.Fault.TheVariants.{Mpv, Wro, Ilo}
-use Rattle.its_word.specs.declared.calls.Ask.{Ask}
-use Rattle.its_word.specs.declared.calls.Site.{Site}
-use Rattle.its_word.specs.declared.jobs.Channel.TheVariants.{Closed}
-use Rattle.its_word.specs.declared.jobs.Job.{Job}
+use Rattle.its_records.specs.declared.calls.Ask.{Ask}
+use Rattle.its_records.specs.declared.calls.Site.{Site}
+use Rattle.its_records.specs.declared.jobs.Channel.TheVariants.{Closed}
+use Rattle.its_records.specs.declared.jobs.Job.{Job}
 use Rattle.its_frame.specs.declared.name.CallName.TheVariants.{Access, Close, Corblk, Delete, Dismis, Fillen, Finish, Hang, Iot, Listen, Logout, Open, Rename, Siot, Sleep, Ttylnd, Uclose, Usrmem, Usrvar}
 use Rattle.its_frame.specs.Calls.{sixbit, call_named}
 use Rattle.its_plain.specs.UnitPlan.{read_of}

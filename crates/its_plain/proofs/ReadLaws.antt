@@ -2,8 +2,8 @@
 use Rattle.std.proofs.Common.{◌≡◌, ◌++◌, ℕ, [], Result, Ok, Err, refl, sym, ◌∙◌, ap}
 use Rattle.its_word.specs.Core.{Core}
 use Rattle.its_word.specs.declared.access.Fault.{Fault}
-use Rattle.its_word.specs.declared.calls.Kind.{Kind}
-use Rattle.its_word.specs.declared.calls.Kind.TheVariants as kinds
+use Rattle.its_records.specs.declared.calls.Kind.{Kind}
+use Rattle.its_records.specs.declared.calls.Kind.TheVariants as kinds
 use Rattle.its_plain.specs.Decode.{argument_at, held, storable}
 use Rattle.its_plain.specs.Traced.{Traced, also, goes_on}
 

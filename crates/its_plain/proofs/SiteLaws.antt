@@ -6,10 +6,10 @@ use Rattle.its_word.specs.Core.{Core}
 use Rattle.its_word.specs.Limits.{budget}
 use Rattle.its_word.specs.Stores.{first_fault}
 use Rattle.its_word.specs.declared.access.Fault.{Fault}
-use Rattle.its_word.specs.declared.calls.Site.{Site}
+use Rattle.its_records.specs.declared.calls.Site.{Site}
 use Rattle.its_word.specs.declared.instruction.Instruction.{Instruction}
 use Rattle.its_word.specs.declared.instruction.Instruction.TheVariants.{Call, Iot, Xct}
-use Rattle.its_word.specs.declared.jobs.Job.{Job}
+use Rattle.its_records.specs.declared.jobs.Job.{Job}
 use Rattle.its_word.specs.declared.plan.Context.{Context}
 use Rattle.its_word.specs.declared.plan.Plan.{Plan}
 use Rattle.its_word.specs.declared.plan.Reached.{Reached}

@@ -7,13 +7,13 @@ use Rattle.std.proofs.lemmas.List.{length-map}
 use Rattle.std.proofs.lemmas.List.Sums.{sum_by-append, sum_by-cons}
 use Rattle.its_word.specs.Core.{Core, word_at, can_store, store}
 use Rattle.its_word.proofs.CoreLaws.{word_at-store_same, word_at-store_other, is_some-store, can_store-store}
-use Rattle.its_word.specs.declared.calls.Arg.{Arg}
-use Rattle.its_word.specs.declared.calls.Arg.TheVariants.{Input, Output, ErrorAt, Control}
-use Rattle.its_word.specs.declared.calls.Ask.{Ask}
-use Rattle.its_word.specs.declared.calls.Operand.{Operand}
-use Rattle.its_word.specs.declared.calls.Site.{Site}
-use Rattle.its_word.specs.declared.calls.Source.TheVariants.{Held, Immediate}
-use Rattle.its_word.specs.declared.jobs.Job.{Job}
+use Rattle.its_records.specs.declared.calls.Arg.{Arg}
+use Rattle.its_records.specs.declared.calls.Arg.TheVariants.{Input, Output, ErrorAt, Control}
+use Rattle.its_records.specs.declared.calls.Ask.{Ask}
+use Rattle.its_records.specs.declared.calls.Operand.{Operand}
+use Rattle.its_records.specs.declared.calls.Site.{Site}
+use Rattle.its_records.specs.declared.calls.Source.TheVariants.{Held, Immediate}
+use Rattle.its_records.specs.declared.jobs.Job.{Job}
 use Rattle.its_plain.specs.Decode.{Shape, ask, ask_of, control_of, input_of, iot_ask, operand_of, held_place, shaped}
 use Rattle.its_plain.specs.Footprint.{Stands, times, with_inputs}
 use Rattle.its_plain.proofs.Locality.{Agree, Alike, Words}

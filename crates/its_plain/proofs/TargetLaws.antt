@@ -2,7 +2,7 @@
 use Rattle.std.specs.Prelude.{if◌then◌else◌, ◌==◌, ◌≡◌, ℕ, Bool, false, Option, Some, None, []}
 use Rattle.std.proofs.Common.{◌∙◌, ap, arith, inl, inr}
 use Rattle.std.proofs.lemmas.Bool.{cases_lt, le-ltb, eq-eqb, ne_eqb, or_from}
-use Rattle.its_word.specs.declared.calls.Ask.{Ask}
+use Rattle.its_records.specs.declared.calls.Ask.{Ask}
 use Rattle.its_frame.specs.declared.name.CallName.{CallName}
 use Rattle.its_plain.specs.Arguments.{input}
 use Rattle.its_plain.specs.CallBasic.{is_oneself, channel_at}

@@ -5,14 +5,14 @@ use Rattle.std.proofs.lemmas.Bool.Decides.{nat_tests}
 use Rattle.std.proofs.lemmas.List.{map-append}
 use Rattle.its_word.specs.Core.{Core, can_store, store}
 use Rattle.its_word.proofs.CoreLaws.{can_store-store}
-use Rattle.its_word.specs.declared.calls.Ask.{Ask}
-use Rattle.its_word.specs.declared.calls.Operand.{Operand}
-use Rattle.its_word.specs.declared.calls.Site.{Site}
-use Rattle.its_word.specs.declared.jobs.Job.{Job}
+use Rattle.its_records.specs.declared.calls.Ask.{Ask}
+use Rattle.its_records.specs.declared.calls.Operand.{Operand}
+use Rattle.its_records.specs.declared.calls.Site.{Site}
+use Rattle.its_records.specs.declared.jobs.Job.{Job}
 use Rattle.its_plain.specs.Decode.{ask}
 use Rattle.its_plain.specs.Footprint.{Stands, among, in_footprint, is_shared, times, variable, with_inputs}
 use Rattle.its_plain.proofs.StandLaws.{Free, Once, Outside, inputs_at, inputs_at_append, inputs_at_cons, inputs_few, is_at, once_inputs, renew, renewed_value, stands_stored, times_cons, times_none}
-use Rattle.its_word.proofs.ClimbLaws.{or_none}
+use Rattle.its_records.proofs.ClimbLaws.{or_none}
 
 -- the tests of a call give the premises of these laws
 among_none : (p : ℕ) (ps : List ℕ) → among p ps ≡ false → times p ps ≡ 0

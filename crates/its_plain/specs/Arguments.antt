@@ -1,8 +1,8 @@
 -- The arguments of a decoded call: values, places, and the words that it must not write into.
 -- A promise rests on this.
 use Rattle.std.specs.Prelude.{ℕ, ◌-◌, Bool, Option, Some, None, List, [], ◌∷◌, ◌++◌, length, take, drop, slice_get, is_some}
-use Rattle.its_word.specs.declared.calls.Ask.{Ask}
-use Rattle.its_word.specs.declared.calls.Operand.{Operand}
+use Rattle.its_records.specs.declared.calls.Ask.{Ask}
+use Rattle.its_records.specs.declared.calls.Operand.{Operand}
 use Rattle.its_word.specs.declared.plan.Store.{Store}
 pub use Rattle.its_plain.specs.Footprint.{times, in_footprint, is_shared}
 

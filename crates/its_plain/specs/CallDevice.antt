@@ -1,7 +1,7 @@
 -- The calls that devices share: OPEN by its device; CLOSE, `.IOT` and SIOT by what the channel is on (docs/CALLS.md).
 -- A promise rests on this.
 use Rattle.std.specs.Prelude.{◌==◌, ℕ, Bool, true, false, [], ◌∷◌, slice_get, slice_index_or}
-use Rattle.its_word.specs.declared.calls.Ask.{Ask}
+use Rattle.its_records.specs.declared.calls.Ask.{Ask}
 use Rattle.its_frame.specs.declared.change.Change.TheVariants as changes
 use Rattle.its_frame.specs.declared.decision.Decision.{Decision}
 use Rattle.its_frame.specs.Errors as error

@@ -4,9 +4,9 @@ use Rattle.std.specs.Prelude.{◌==◌, ◌&&◌, ℕ, ◌-◌, Bool, true, fals
 use Rattle.std.specs.List.{range_with_len}
 use Rattle.its_word.specs.Word.{right_of}
 use Rattle.its_word.specs.Byte.{load_of}
-use Rattle.its_word.specs.Links.{most_links, most_linked, link_end, is_unopened, is_closed, is_link_named}
-use Rattle.its_word.specs.Tree.{least_free}
-use Rattle.its_word.specs.declared.calls.Ask.{Ask}
+use Rattle.its_records.specs.Links.{most_links, most_linked, link_end, is_unopened, is_closed, is_link_named}
+use Rattle.its_records.specs.Tree.{least_free}
+use Rattle.its_records.specs.declared.calls.Ask.{Ask}
 use Rattle.its_frame.specs.declared.change.Change.TheVariants as changes
 use Rattle.its_frame.specs.declared.decision.Decision.{Decision}
 use Rattle.its_frame.specs.declared.decision.Decision.TheVariants.{Waits}

@@ -4,7 +4,7 @@ use Rattle.std.specs.Prelude.{if◌then◌else◌, ◌==◌, ◌||◌, ◌&&◌,
 use Rattle.its_word.specs.Word.{right_of}
 use Rattle.its_word.specs.Byte.{load_of}
 use Rattle.its_word.specs.Console.{most_waiting}
-use Rattle.its_word.specs.declared.calls.Ask.{Ask}
+use Rattle.its_records.specs.declared.calls.Ask.{Ask}
 use Rattle.its_frame.specs.declared.change.Change.TheVariants as changes
 use Rattle.its_frame.specs.declared.change.Opened.{Opened}
 use Rattle.its_frame.specs.declared.change.Opened.TheVariants as opened

@@ -7,8 +7,8 @@ use Rattle.its_word.specs.Word.{right_of}
 use Rattle.its_word.specs.Byte.{load_of}
 use Rattle.its_word.specs.Core.{Core, word_at, can_store}
 use Rattle.its_word.specs.Limits.{slots}
-use Rattle.its_word.specs.Tree.{least_free}
-use Rattle.its_word.specs.declared.calls.Ask.{Ask}
+use Rattle.its_records.specs.Tree.{least_free}
+use Rattle.its_records.specs.declared.calls.Ask.{Ask}
 use Rattle.its_frame.specs.declared.change.Change.{Change}
 use Rattle.its_frame.specs.declared.change.Change.TheVariants as changes
 use Rattle.its_frame.specs.declared.change.Opened.TheVariants as opened

@@ -5,9 +5,9 @@ use Rattle.std.specs.Prelude.{if◌then◌else◌, ◌==◌, ◌||◌, ℕ, Bool
 use Rattle.its_word.specs.Core.{Page, no_core, zero_page, page_of, with_page, marked}
 pub use Rattle.its_word.specs.Directory.{same_names}
 use Rattle.its_word.specs.Directory.{without_names, with_changed, named}
-use Rattle.its_word.specs.Links.{with_end, is_alive, new_link, link_left}
-use Rattle.its_word.specs.declared.link.End.TheVariants.{Opened, Closed}
-use Rattle.its_word.specs.Tree.{fresh_job, is_below}
+use Rattle.its_records.specs.Links.{with_end, is_alive, new_link, link_left}
+use Rattle.its_records.specs.declared.link.End.TheVariants.{Opened, Closed}
+use Rattle.its_records.specs.Tree.{fresh_job, is_below}
 use Rattle.its_word.specs.declared.plan.Store.{Store}
 use Rattle.its_frame.specs.declared.change.Change.{Change}
 use Rattle.its_frame.specs.declared.change.Change.TheVariants as changes

@@ -1,10 +1,10 @@
 -- The one run of a session's lines along the plain machine, as the list of its moments (docs/MACHINE.md, "The ledger").
 -- A promise rests on this.
 use Rattle.std.specs.Prelude.{ℕ, zero, suc, Option, Some, None, List, [], ◌∷◌, length, drop, unwrap_or}
-use Rattle.its_word.specs.Item.{Item, Read, Unread, Beyond}
-use Rattle.its_word.specs.declared.calls.Pace.{Pace}
-use Rattle.its_word.specs.declared.calls.Pace.TheVariants.{Step, Work, Wait, Off}
-use Rattle.its_word.specs.declared.session.Event.{Event}
+use Rattle.its_records.specs.Item.{Item, Read, Unread, Beyond}
+use Rattle.its_records.specs.declared.calls.Pace.{Pace}
+use Rattle.its_records.specs.declared.calls.Pace.TheVariants.{Step, Work, Wait, Off}
+use Rattle.its_records.specs.declared.session.Event.{Event}
 use Rattle.its_print.specs.Printing.{Line}
 use Rattle.its_print.specs.Printing as printed
 use Rattle.its_plain.specs.CallStep.{step}

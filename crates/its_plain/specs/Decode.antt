@@ -8,16 +8,16 @@ use Rattle.its_word.specs.Core.{Core, word_at}
 use Rattle.its_word.specs.Stores.{refused}
 use Rattle.its_word.specs.declared.access.Fault.{Fault}
 use Rattle.its_word.specs.declared.access.Fault.TheVariants.{Mpv, Ilo}
-use Rattle.its_word.specs.declared.calls.Arg.{Arg}
-use Rattle.its_word.specs.declared.calls.Arg.TheVariants.{Input, Output, ErrorAt, Control}
-use Rattle.its_word.specs.declared.calls.Ask.{Ask}
-use Rattle.its_word.specs.declared.calls.Kind.{Kind}
-use Rattle.its_word.specs.declared.calls.Kind.TheVariants as kinds
-use Rattle.its_word.specs.declared.calls.Operand.{Operand}
-use Rattle.its_word.specs.declared.calls.Placed.{Placed}
-use Rattle.its_word.specs.declared.calls.Site.{Site}
-use Rattle.its_word.specs.declared.calls.Source.{Source}
-use Rattle.its_word.specs.declared.calls.Source.TheVariants.{Held, Immediate}
+use Rattle.its_records.specs.declared.calls.Arg.{Arg}
+use Rattle.its_records.specs.declared.calls.Arg.TheVariants.{Input, Output, ErrorAt, Control}
+use Rattle.its_records.specs.declared.calls.Ask.{Ask}
+use Rattle.its_records.specs.declared.calls.Kind.{Kind}
+use Rattle.its_records.specs.declared.calls.Kind.TheVariants as kinds
+use Rattle.its_records.specs.declared.calls.Operand.{Operand}
+use Rattle.its_records.specs.declared.calls.Placed.{Placed}
+use Rattle.its_records.specs.declared.calls.Site.{Site}
+use Rattle.its_records.specs.declared.calls.Source.{Source}
+use Rattle.its_records.specs.declared.calls.Source.TheVariants.{Held, Immediate}
 use Rattle.its_frame.specs.declared.name.CallName.{CallName}
 use Rattle.its_frame.specs.declared.name.CallName.TheVariants.{Iot}
 use Rattle.its_frame.specs.declared.name.CallRow.{CallRow}

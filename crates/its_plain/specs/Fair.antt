@@ -2,7 +2,7 @@
 -- A promise rests on this.
 use Rattle.std.specs.Prelude.{◌≡◌, ◌≢◌, ◌<◌, ◌==◌, ℕ, Bool, true, false, List, [], ◌∷◌, ◌++◌}
 use Rattle.std.specs.List.{list_any}
-use Rattle.its_word.specs.Item.{Item}
+use Rattle.its_records.specs.Item.{Item}
 use Rattle.its_word.specs.Limits.{slots}
 use Rattle.its_print.specs.Printing.{Line}
 use Rattle.its_plain.specs.Course.{Deed, Lines, Turns, Letter, Moment, run_of}

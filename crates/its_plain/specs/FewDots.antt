@@ -2,8 +2,8 @@
 -- A promise rests on this.
 use Rattle.std.specs.Prelude.{◌<◌, ℕ, List}
 use Rattle.std.specs.List.{AllByRecursion}
-use Rattle.its_word.specs.Item.{Item}
-use Rattle.its_word.specs.declared.calls.Pace.TheVariants.{Work}
+use Rattle.its_records.specs.Item.{Item}
+use Rattle.its_records.specs.declared.calls.Pace.TheVariants.{Work}
 use Rattle.its_print.specs.Printing.{Line}
 use Rattle.its_plain.specs.Course.{Deed, Letter, Moment, run_of}
 use Rattle.its_plain.specs.Licence.{Dots}

@@ -4,9 +4,9 @@
 -- A promise rests on this.
 use Rattle.std.specs.Prelude.{◌≡◌, ◌≢◌, ◌+◌, ◌==◌, ℕ, Bool, true, false, Option, Some, None, is_none, option_map, [], ◌∷◌}
 use Rattle.its_word.specs.Core.{Page}
-use Rattle.its_word.specs.Tree.{is_below}
-use Rattle.its_word.specs.declared.session.Event.{Event}
-use Rattle.its_word.specs.declared.session.Event.TheVariants as events
+use Rattle.its_records.specs.Tree.{is_below}
+use Rattle.its_records.specs.declared.session.Event.{Event}
+use Rattle.its_records.specs.declared.session.Event.TheVariants as events
 use Rattle.its_frame.specs.declared.variable.Variable.{Variable}
 use Rattle.its_plain.specs.CallBasic.{by_superior}
 use Rattle.its_plain.specs.CallFile.{has_file, is_read}

@@ -2,10 +2,10 @@
 -- A promise rests on this.
 use Rattle.std.specs.Prelude.{if◌then◌else◌, ◌≡◌, ◌==◌, ◌&&◌, ℕ, ◌-◌, Bool, true, false, List, [], ◌∷◌, ◌++◌, length, take, flat_map}
 use Rattle.its_word.specs.Console.{most_waiting}
-use Rattle.its_word.specs.Item.{Item}
-use Rattle.its_word.specs.declared.calls.Pace.TheVariants.{Step}
-use Rattle.its_word.specs.declared.session.Event.{Event}
-use Rattle.its_word.specs.declared.session.Event.TheVariants as events
+use Rattle.its_records.specs.Item.{Item}
+use Rattle.its_records.specs.declared.calls.Pace.TheVariants.{Step}
+use Rattle.its_records.specs.declared.session.Event.{Event}
+use Rattle.its_records.specs.declared.session.Event.TheVariants as events
 use Rattle.its_print.specs.Printing.{Line}
 use Rattle.its_print.specs.Printing as printed
 use Rattle.its_plain.specs.Machine.{Console, Machine}

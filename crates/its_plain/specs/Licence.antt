@@ -1,8 +1,8 @@
 -- The letters of ticks: when each is licensed, and the dots after it (docs/MACHINE.md, "Ticks and letters").
 -- A promise rests on this.
 use Rattle.std.specs.Prelude.{if◌then◌else◌, ◌≡◌, ◌==◌, ℕ, ◌+◌, Bool, true, false, ◌||◌, Option, Some, None}
-use Rattle.its_word.specs.declared.calls.Pace.{Pace}
-use Rattle.its_word.specs.declared.calls.Pace.TheVariants.{Step, Work, Wait, Off}
+use Rattle.its_records.specs.declared.calls.Pace.{Pace}
+use Rattle.its_records.specs.declared.calls.Pace.TheVariants.{Step, Work, Wait, Off}
 use Rattle.its_plain.specs.CallStep.{step, disturbed, makes}
 use Rattle.its_plain.specs.Machine.{Whole, Machine}
 

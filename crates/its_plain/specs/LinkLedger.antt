@@ -1,8 +1,8 @@
 -- The ledger of the links: no word is lost, doubled or out of its order (docs/MACHINE.md, "The ledger").
 -- A promise rests on this.
 use Rattle.std.specs.Prelude.{if◌then◌else◌, ◌≡◌, ◌==◌, ◌&&◌, ℕ, Bool, true, false, is_some, List, [], ◌∷◌, ◌++◌, flat_map}
-use Rattle.its_word.specs.Item.{Item}
-use Rattle.its_word.specs.declared.calls.Pace.TheVariants.{Step}
+use Rattle.its_records.specs.Item.{Item}
+use Rattle.its_records.specs.declared.calls.Pace.TheVariants.{Step}
 use Rattle.its_print.specs.Printing.{Line}
 use Rattle.its_plain.specs.Machine.{Machine}
 use Rattle.its_plain.specs.CallLink.{words_in}

@@ -4,11 +4,11 @@
 use Rattle.std.specs.Prelude.{if◌then◌else◌, ◌==◌, ℕ, zero, suc, ◌+◌, ◌%◌, ◌^◌, Bool, Option, Some, None, List, [], ◌∷◌}
 use Rattle.its_word.specs.Core.{Core, no_core, word_at, pages_mapped}
 use Rattle.its_word.specs.Limits.{limit_of}
-use Rattle.its_word.specs.declared.jobs.Job.{Job}
+use Rattle.its_records.specs.declared.jobs.Job.{Job}
 pub use Rattle.its_word.specs.Console.{Console}
 -- the names of a file: its directory, name 1 and name 2, in this order. A file or a draft has its names and its words
 pub use Rattle.its_word.specs.Directory.{File}
-use Rattle.its_word.specs.declared.link.Link.{Link}
+use Rattle.its_records.specs.declared.link.Link.{Link}
 
 abbrev pub Names : Type 0
 Names = List ℕ

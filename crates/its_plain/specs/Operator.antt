@@ -2,7 +2,7 @@
 -- A promise rests on this.
 use Rattle.std.specs.Prelude.{◌==◌, ℕ, Bool, false, List, [], Result, Ok, Err}
 use Rattle.its_print.specs.Printing.{Line}
-use Rattle.its_word.specs.declared.session.Reason.{Reason}
+use Rattle.its_records.specs.declared.session.Reason.{Reason}
 use Rattle.its_plain.specs.Machine.{Names, Machine}
 use Rattle.its_plain.specs.Own.{names_of}
 

@@ -2,9 +2,9 @@
 -- A promise rests on this.
 use Rattle.std.specs.Prelude.{◌==◌, ℕ, zero, suc, ◌+◌, ◌/◌, Bool, true, false, Option, Some, None, List, [], ◌∷◌, ◌++◌, Result, Ok, Err, length, map, filter, take, drop, nat_lt, slice_index_or}
 use Rattle.its_word.specs.Directory.{with_changed, longer}
-use Rattle.its_word.specs.declared.session.Reason.{Reason}
-use Rattle.its_word.specs.declared.session.Reason.TheVariants.{NoFile, Exists, Full}
-use Rattle.its_word.specs.declared.show.FileShow.{FileShow}
+use Rattle.its_records.specs.declared.session.Reason.{Reason}
+use Rattle.its_records.specs.declared.session.Reason.TheVariants.{NoFile, Exists, Full}
+use Rattle.its_records.specs.declared.show.FileShow.{FileShow}
 use Rattle.its_print.specs.Printing.{Line}
 use Rattle.its_print.specs.Printing as printed
 use Rattle.its_plain.specs.Machine.{Names, File, Machine}

@@ -5,11 +5,11 @@ use Rattle.std.specs.Prelude.{if◌then◌else◌, ℕ, zero, suc, ◌/◌, ◌+
 use Rattle.its_word.specs.Word.{complement_of}
 use Rattle.its_word.specs.Limits.{most_pages}
 use Rattle.its_word.specs.Core.{Core, Page, no_core, word_at, can_store, store, page_of, with_page, zero_page}
-use Rattle.its_word.specs.Tree.{least_free, fresh_job}
-use Rattle.its_word.specs.declared.jobs.Job.{Job}
-use Rattle.its_word.specs.declared.show.JobShow.{JobShow}
-use Rattle.its_word.specs.declared.session.Reason.{Reason}
-use Rattle.its_word.specs.declared.session.Reason.TheVariants.{NoJob, NoPage, ReadOnly, Full}
+use Rattle.its_records.specs.Tree.{least_free, fresh_job}
+use Rattle.its_records.specs.declared.jobs.Job.{Job}
+use Rattle.its_records.specs.declared.show.JobShow.{JobShow}
+use Rattle.its_records.specs.declared.session.Reason.{Reason}
+use Rattle.its_records.specs.declared.session.Reason.TheVariants.{NoJob, NoPage, ReadOnly, Full}
 use Rattle.its_plain.specs.Job.{pc_word, FATAL}
 use Rattle.its_plain.specs.Change.{with_protection}
 use Rattle.its_plain.specs.Machine.{Symbol, Whole, Machine, whole, with_job, with_new, changed, mapped, limit, words_at}

@@ -1,12 +1,12 @@
 -- Each line of a session, and its effect on the plain machine (docs/SESSION.md, "The lines").
 -- A promise rests on this.
 use Rattle.std.specs.Prelude.{ℕ, ◌+◌, Option, Some, None, List, [], ◌∷◌, Result, Ok, Err, take}
-use Rattle.its_word.specs.declared.session.Event.{Event}
-use Rattle.its_word.specs.declared.session.Event.TheVariants as events
-use Rattle.its_word.specs.declared.session.Event.TheVariants.{Nothing, Version, Load, Words, ReadOnly, Symbol, Go, File, Append, EndFile, Tick, Run, TypeIn, Drain, Clock, Int, Exam, State, Deposit, Stop, Cont, Peek, Dir, Show, End}
-use Rattle.its_word.specs.declared.session.Reason.{Reason}
-use Rattle.its_word.specs.declared.session.Reason.TheVariants.{NoJob}
-use Rattle.its_word.specs.declared.show.JobShow.{JobShow}
+use Rattle.its_records.specs.declared.session.Event.{Event}
+use Rattle.its_records.specs.declared.session.Event.TheVariants as events
+use Rattle.its_records.specs.declared.session.Event.TheVariants.{Nothing, Version, Load, Words, ReadOnly, Symbol, Go, File, Append, EndFile, Tick, Run, TypeIn, Drain, Clock, Int, Exam, State, Deposit, Stop, Cont, Peek, Dir, Show, End}
+use Rattle.its_records.specs.declared.session.Reason.{Reason}
+use Rattle.its_records.specs.declared.session.Reason.TheVariants.{NoJob}
+use Rattle.its_records.specs.declared.show.JobShow.{JobShow}
 use Rattle.its_print.specs.Printing.{Line}
 use Rattle.its_print.specs.Printing as printed
 use Rattle.its_plain.specs.Machine.{Whole, Machine}

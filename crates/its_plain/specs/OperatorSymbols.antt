@@ -3,8 +3,8 @@
 -- A promise rests on this.
 use Rattle.std.specs.Prelude.{◌≤◌, ◌<◌, ℕ, ◌-◌, ◌&&◌, Bool, true, false, not, Option, Some, None, List, [], ◌∷◌, ◌++◌, Result, Ok, Err, cond, length, nat_lt}
 use Rattle.its_word.specs.Limits.{most_symbols}
-use Rattle.its_word.specs.declared.session.Reason.{Reason}
-use Rattle.its_word.specs.declared.session.Reason.TheVariants.{NoJob, Full}
+use Rattle.its_records.specs.declared.session.Reason.{Reason}
+use Rattle.its_records.specs.declared.session.Reason.TheVariants.{NoJob, Full}
 use Rattle.its_plain.specs.Machine.{Symbol, Whole, Machine, changed}
 
 abbrev pub address_of : Symbol → ℕ

@@ -1,7 +1,7 @@
 -- The line VERSION (docs/SESSION.md, "The lines").
 -- A promise rests on this.
 use Rattle.std.specs.Prelude.{if◌then◌else◌, ℕ}
-use Rattle.its_word.specs.Tree.{no_job}
+use Rattle.its_records.specs.Tree.{no_job}
 use Rattle.its_plain.specs.Machine.{Machine}
 
 -- if no slot has a job, the machine becomes one of this version, 1 or 2; else it is unchanged. (In a session VERSION is

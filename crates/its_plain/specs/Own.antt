@@ -3,8 +3,8 @@
 use Rattle.std.specs.Prelude.{if◌then◌else◌, ◌==◌, ℕ, ◌+◌, ◌%◌, ◌^◌, not, Option, List, [], ◌∷◌, ◌++◌, unwrap_or}
 use Rattle.its_word.specs.Word.{right_of}
 use Rattle.its_word.specs.Core.{pages_present}
-use Rattle.its_word.specs.declared.calls.Exit.{Exit}
-use Rattle.its_word.specs.declared.jobs.Job.{Job}
+use Rattle.its_records.specs.declared.calls.Exit.{Exit}
+use Rattle.its_records.specs.declared.jobs.Job.{Job}
 use Rattle.its_word.specs.declared.plan.Store.{Store}
 use Rattle.its_word.specs.Flags.{BYTE_HALF}
 use Rattle.its_frame.specs.declared.change.Opened.{Opened}

@@ -3,7 +3,7 @@
 -- No promise rests on this.
 use Rattle.std.specs.Prelude.{◌&&◌, ◌||◌, ℕ, ◌-◌, ◌^◌, Bool, true, false, not, Option, Some, None, nat_lt, length, unwrap_or}
 use Rattle.its_word.specs.Console.{most_waiting}
-use Rattle.its_word.specs.declared.calls.Ask.{Ask}
+use Rattle.its_records.specs.declared.calls.Ask.{Ask}
 use Rattle.its_frame.specs.declared.decision.Wait.{Wait}
 use Rattle.its_frame.specs.declared.decision.Wait.TheVariants.{Hang, Clock, Input, Output, Drained, Empty, Room}
 use Rattle.its_frame.specs.declared.name.CallName.{CallName}

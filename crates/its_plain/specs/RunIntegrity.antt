@@ -2,10 +2,10 @@
 -- reader reads stays (docs/MACHINE.md, "Who may touch what").
 -- A promise rests on this.
 use Rattle.std.specs.Prelude.{◌≡◌, ◌≢◌, ◌<◌, ℕ, Bool, true, false, Option, Some, None, List, [], ◌∷◌}
-use Rattle.its_word.specs.Item.{Item}
-use Rattle.its_word.specs.declared.calls.Pace.TheVariants.{Step}
-use Rattle.its_word.specs.declared.session.Event.{Event}
-use Rattle.its_word.specs.declared.session.Event.TheVariants as events
+use Rattle.its_records.specs.Item.{Item}
+use Rattle.its_records.specs.declared.calls.Pace.TheVariants.{Step}
+use Rattle.its_records.specs.declared.session.Event.{Event}
+use Rattle.its_records.specs.declared.session.Event.TheVariants as events
 use Rattle.its_print.specs.Printing.{Line}
 use Rattle.its_plain.specs.CallFile.{file_named}
 use Rattle.its_plain.specs.Change.{channel_in, same_names}

@@ -2,10 +2,10 @@
 -- A promise rests on this.
 use Rattle.std.specs.Prelude.{◌≡◌, ◌==◌, ℕ, zero, suc, ◌+◌, Bool, true, false, Option, Some, None, List, [], ◌∷◌, ◌++◌}
 use Rattle.its_word.specs.Core.{word_at}
-use Rattle.its_word.specs.Item.{Item}
-use Rattle.its_word.specs.declared.calls.Ask.{Ask}
-use Rattle.its_word.specs.declared.calls.Pace.TheVariants.{Step}
-use Rattle.its_word.specs.declared.calls.Site.{Site}
+use Rattle.its_records.specs.Item.{Item}
+use Rattle.its_records.specs.declared.calls.Ask.{Ask}
+use Rattle.its_records.specs.declared.calls.Pace.TheVariants.{Step}
+use Rattle.its_records.specs.declared.calls.Site.{Site}
 use Rattle.its_print.specs.Printing.{Line}
 use Rattle.its_frame.specs.declared.change.Change.{Change}
 use Rattle.its_frame.specs.declared.decision.Held.{Held}

@@ -2,12 +2,12 @@
 -- (docs/MACHINE.md, "The transcript").
 -- A promise rests on this.
 use Rattle.std.specs.Prelude.{◌≡◌, ◌<◌, ℕ, suc, ◌+◌, Bool, Some, None, List, [], ◌∷◌, ◌++◌, length}
-use Rattle.its_word.specs.Item.{Item, Read, Unread, Beyond}
-use Rattle.its_word.specs.declared.calls.Pace.{Pace}
-use Rattle.its_word.specs.declared.calls.Pace.TheVariants.{Work}
-use Rattle.its_word.specs.declared.session.Event.{Event}
-use Rattle.its_word.specs.declared.session.Reason.{Reason}
-use Rattle.its_word.specs.declared.show.Peek.{Peek}
+use Rattle.its_records.specs.Item.{Item, Read, Unread, Beyond}
+use Rattle.its_records.specs.declared.calls.Pace.{Pace}
+use Rattle.its_records.specs.declared.calls.Pace.TheVariants.{Work}
+use Rattle.its_records.specs.declared.session.Event.{Event}
+use Rattle.its_records.specs.declared.session.Reason.{Reason}
+use Rattle.its_records.specs.declared.show.Peek.{Peek}
 use Rattle.its_print.specs.Printing.{Line}
 use Rattle.its_print.specs.Printing as printed
 use Rattle.its_plain.specs.OperatorLines.{Lined, Done, Peeks, lined}

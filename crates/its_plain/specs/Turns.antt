@@ -4,8 +4,8 @@
 use Rattle.std.specs.Prelude.{ℕ, ◌-◌, Bool, false, not, Option, Some, None}
 use Rattle.its_robin.specs.Robin.{robin}
 use Rattle.its_word.specs.Limits.{slots}
-use Rattle.its_word.specs.declared.session.Event.{Event}
-use Rattle.its_word.specs.declared.session.Event.TheVariants as events
+use Rattle.its_records.specs.declared.session.Event.{Event}
+use Rattle.its_records.specs.declared.session.Event.TheVariants as events
 use Rattle.its_plain.specs.Machine.{Whole, Machine}
 
 -- the job of a slot runs

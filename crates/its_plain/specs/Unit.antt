@@ -9,8 +9,8 @@ use Rattle.its_word.specs.Opcode.{opcode_of, ac_of, instruction_of}
 use Rattle.its_word.specs.declared.access.Address.{Address}
 use Rattle.its_word.specs.declared.access.Fault.{Fault}
 use Rattle.its_word.specs.declared.access.Fault.TheVariants.{Ilo}
-use Rattle.its_word.specs.declared.calls.Site.{Site}
-use Rattle.its_word.specs.declared.jobs.Job.{Job}
+use Rattle.its_records.specs.declared.calls.Site.{Site}
+use Rattle.its_records.specs.declared.jobs.Job.{Job}
 use Rattle.its_word.specs.declared.instruction.BranchOp.TheVariants.{Jrst}
 use Rattle.its_word.specs.declared.instruction.Instruction.{Instruction}
 use Rattle.its_word.specs.declared.instruction.Instruction.TheVariants.{Move, Exch, Arithmetic, Shift, Branch, Xct, Stack, Compare, Boolean, Half, Test, Byte, Iot, Call, Break, Illegal}

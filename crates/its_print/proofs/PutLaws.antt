@@ -4,7 +4,7 @@ use Rattle.std.proofs.Common.{if◌then◌else◌, ◌≡◌, ◌≢◌, ◌<◌
 use Rattle.std.proofs.Math.Seq.{drop-cons}
 use Rattle.std.proofs.lemmas.Bool.Decides.{nat_tests}
 use Rattle.its_word.specs.Text.{digits_of, spaced}
-use Rattle.its_word.specs.declared.calls.Pace.{Pace}
+use Rattle.its_records.specs.declared.calls.Pace.{Pace}
 use Rattle.its_word.proofs.DigitLaws.{digits_below_8, digits_from_8, few_digits}
 use Rattle.its_word.proofs.SpacedLaws.{spaced-append}
 use Rattle.std.proofs.lemmas.List.{length-append, length-replicate, take_all}

@@ -2,15 +2,15 @@
 -- A promise rests on this.
 use Rattle.std.specs.Prelude.{if◌then◌else◌, ℕ, ◌+◌, ◌==◌, Bool, true, false, Option, Some, None, List, [], ◌∷◌, ◌++◌, map, flat_map, codes}
 use Rattle.its_word.specs.Text.{octal12_of, octal6_of, digits_of, spaced}
-use Rattle.its_word.specs.declared.calls.Pace.{Pace}
-use Rattle.its_word.specs.declared.calls.Pace.TheVariants.{Step, Work, Wait, Off}
-use Rattle.its_word.specs.declared.session.Reason.{Reason}
-use Rattle.its_word.specs.declared.session.Reason.TheVariants as reasons
-use Rattle.its_word.specs.declared.show.FileShow.{FileShow}
-use Rattle.its_word.specs.declared.show.JobShow.{JobShow}
-use Rattle.its_word.specs.declared.show.Peek.{Peek}
-use Rattle.its_word.specs.declared.show.PeekState.{PeekState}
-use Rattle.its_word.specs.declared.show.PeekState.TheVariants.{User, Entered, Parsed, Asked, Holding, Waiting, Moving, Ending}
+use Rattle.its_records.specs.declared.calls.Pace.{Pace}
+use Rattle.its_records.specs.declared.calls.Pace.TheVariants.{Step, Work, Wait, Off}
+use Rattle.its_records.specs.declared.session.Reason.{Reason}
+use Rattle.its_records.specs.declared.session.Reason.TheVariants as reasons
+use Rattle.its_records.specs.declared.show.FileShow.{FileShow}
+use Rattle.its_records.specs.declared.show.JobShow.{JobShow}
+use Rattle.its_records.specs.declared.show.Peek.{Peek}
+use Rattle.its_records.specs.declared.show.PeekState.{PeekState}
+use Rattle.its_records.specs.declared.show.PeekState.TheVariants.{User, Entered, Parsed, Asked, Holding, Waiting, Moving, Ending}
 use Rattle.its_chart.specs.TypeOut.{typed}
 
 -- a line of a transcript

@@ -1,7 +1,7 @@
 -- The letters of ticks, as runs.
 -- No promise rests on this.
 use Rattle.std.specs.Prelude.{List, [], ◌∷◌, ◌++◌, replicate}
-use Rattle.its_word.specs.declared.calls.Pace.{Pace}
+use Rattle.its_records.specs.declared.calls.Pace.{Pace}
 use Rattle.its_print.specs.declared.runs.Run.{Run}
 
 -- the letters of runs, one after another

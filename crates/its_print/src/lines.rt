@@ -12,7 +12,8 @@ use super::put::{
 };
 use super::runs::Run;
 use arrayvec::ArrayVec;
-use its_word::{FileShow, JobShow, Peek, Reason, Word};
+use its_records::{FileShow, JobShow, Peek, Reason};
+use its_word::Word;
 
 /// `J s`: LOAD made a job in slot `s`.
 #[tactic(auto, unfolding(crate::specs::Printing::text_of_line, its_word::specs::Text::spaced))]

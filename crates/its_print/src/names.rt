@@ -2,7 +2,7 @@
 ghost use Rattle.std.specs.Prelude.{◌≡◌};
 ghost use Rattle.its_print.specs.Printing.{letter_of, reason_name, run_or_stop, state_name};
 
-use its_word::{Pace, PeekState, Reason};
+use its_records::{Pace, PeekState, Reason};
 
 /// The letter of a pace.
 pub fn letter(pace: Pace) -> u8

@@ -1,4 +1,4 @@
-use its_word::Pace;
+use its_records::Pace;
 
 /// A tick, and how many more follow it with the same letter.
 #[derive(Clone, Copy, Debug, Default, PartialEq, Eq)]

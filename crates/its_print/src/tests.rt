@@ -1,6 +1,7 @@
 use super::*;
 use arrayvec::ArrayVec;
-use its_word::{FileShow, JobShow, Pace, Peek, PeekState, Reason, Word};
+use its_records::{FileShow, JobShow, Pace, Peek, PeekState, Reason};
+use its_word::Word;
 
 macro_rules! prints {
     ($rt:expr; $text:literal; $call:ident($($part:expr),*)) => {

@@ -7,15 +7,15 @@ use Rattle.std.proofs.lemmas.List.Elements.{Contains-append_right}
 use Rattle.std.specs.Io.KnownBytes.{Consumes}
 use Rattle.std.proofs.KnownBytes.{Consumes-nil, Consumes-trans}
 use Rattle.its_io.specs.declared.stream.Failed.{Failed}
-use Rattle.its_word.specs.Item.{Item, Read, Unread}
-use Rattle.its_word.specs.Item as items
-use Rattle.its_word.specs.declared.session.Event.{Event}
-use Rattle.its_word.specs.declared.session.Event.TheVariants as events
-use Rattle.its_word.specs.declared.session.Place.{Place}
-use Rattle.its_word.specs.declared.session.Place.TheVariants as places
-use Rattle.its_word.specs.declared.session.Bad.{Bad as BadLine}
-use Rattle.its_word.specs.declared.session.Bad.TheVariants as bads
-use Rattle.its_word.specs.declared.session.Reason.TheVariants as reasons
+use Rattle.its_records.specs.Item.{Item, Read, Unread}
+use Rattle.its_records.specs.Item as items
+use Rattle.its_records.specs.declared.session.Event.{Event}
+use Rattle.its_records.specs.declared.session.Event.TheVariants as events
+use Rattle.its_records.specs.declared.session.Place.{Place}
+use Rattle.its_records.specs.declared.session.Place.TheVariants as places
+use Rattle.its_records.specs.declared.session.Bad.{Bad as BadLine}
+use Rattle.its_records.specs.declared.session.Bad.TheVariants as bads
+use Rattle.its_records.specs.declared.session.Reason.TheVariants as reasons
 use Rattle.its_session.specs.Grammar.{line_event}
 use Rattle.its_session.specs.Events.{most_lines, lines_from, items_from, item_then, place_after, version_after, end_of, events_of, whole_events_of}
 use Rattle.its_reader.specs.declared.lines.Lines.{Lines}

@@ -4,14 +4,14 @@ use Rattle.std.specs.Prelude.{◌≡◌, ◌≤◌, ◌+◌, length, ℕ, Bool, 
 use Rattle.std.specs.Io.KnownBytes.{Consumes}
 use Rattle.std.specs.List.{list_all}
 use Rattle.its_io.specs.declared.stream.Failed.{Failed}
-use Rattle.its_word.specs.Item.{Item, Read, Unread}
-use Rattle.its_word.specs.Item as items
-use Rattle.its_word.specs.declared.session.Event.{Event}
-use Rattle.its_word.specs.declared.session.Event.TheVariants as events
-use Rattle.its_word.specs.declared.session.Place.{Place}
-use Rattle.its_word.specs.declared.session.Place.TheVariants as places
-use Rattle.its_word.specs.declared.session.Bad.{Bad as BadLine}
-use Rattle.its_word.specs.declared.session.Reason.TheVariants as reasons
+use Rattle.its_records.specs.Item.{Item, Read, Unread}
+use Rattle.its_records.specs.Item as items
+use Rattle.its_records.specs.declared.session.Event.{Event}
+use Rattle.its_records.specs.declared.session.Event.TheVariants as events
+use Rattle.its_records.specs.declared.session.Place.{Place}
+use Rattle.its_records.specs.declared.session.Place.TheVariants as places
+use Rattle.its_records.specs.declared.session.Bad.{Bad as BadLine}
+use Rattle.its_records.specs.declared.session.Reason.TheVariants as reasons
 use Rattle.its_session.specs.Events.{lines_from, most_lines, items_from, item_then, place_after, version_after, unread_reason, events_of, whole_events_of}
 use Rattle.its_session.specs.Fits.{EventFits, Stands}
 use Rattle.its_reader.specs.declared.items.Items.{Items}

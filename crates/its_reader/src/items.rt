@@ -8,8 +8,8 @@ ghost use Rattle.its_reader.specs.Items.{Finds, end_found, found_fits, found_of,
 
 use super::lines::{Lines, Next};
 use its_io::{Failed, Source};
+use its_records::{Bad, Event, Place, Reason};
 use its_session::read_line;
-use its_word::{Bad, Event, Place, Reason};
 
 /// What is found next in a session.
 #[derive(Debug, PartialEq, Eq, Drop)]

@@ -6,8 +6,8 @@ use Rattle.std.proofs.lemmas.Option.{slice_get_past}
 use Rattle.std.proofs.lemmas.Bool.Decides.{nat_tests}
 use Rattle.std.proofs.lemmas.List.Elements.{All-nil, All-cons, All-append, All-from_recursion, All-head, All-tail}
 use Rattle.its_word.specs.Text.{is_name, sixbit_of}
-use Rattle.its_word.specs.declared.session.Event.{Event}
-use Rattle.its_word.specs.declared.session.Event.TheVariants as events
+use Rattle.its_records.specs.declared.session.Event.{Event}
+use Rattle.its_records.specs.declared.session.Event.TheVariants as events
 use Rattle.its_session.specs.Fits.{IsNameWord, EventFits}
 use Rattle.its_session.specs.Grammar.{last_slot}
 use Rattle.its_session.specs.Generated.{for_each, jobs, placed, letter, started, looked_at, echoed, emptied, all_started, round, all_emptied, generated_session, IsGenerated}

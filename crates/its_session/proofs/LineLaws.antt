@@ -5,7 +5,7 @@ use Rattle.std.proofs.lemmas.Bool.Decides.{nat_tests}
 use Rattle.std.proofs.lemmas.List.Folds.{list_all-append}
 use Rattle.std.proofs.lemmas.List.Sums.{AllPass-from_list_all, list_all-from_AllPass}
 use Rattle.its_word.specs.Text.{is_code, spaced, words_of}
-use Rattle.its_word.specs.declared.session.Place.{Place}
+use Rattle.its_records.specs.declared.session.Place.{Place}
 use Rattle.its_word.proofs.SpacedLaws.{length_spaced, room_of, spaced_cons, spaced_none}
 use Rattle.its_word.proofs.WordsLaws.{IsRun, words_first, words_one}
 use Rattle.its_session.specs.Grammar.{event_of_words, line_event}

@@ -5,8 +5,8 @@ use Rattle.std.specs.List.{list_all}
 use Rattle.std.proofs.lemmas.Bool.{cases_Bool}
 use Rattle.std.proofs.lemmas.List.{length-map, take_rest}
 use Rattle.its_word.specs.Text.{is_octal, octal_value}
-use Rattle.its_word.specs.declared.session.Bad.{Bad}
-use Rattle.its_word.specs.declared.session.Bad.TheVariants.{Syntax}
+use Rattle.its_records.specs.declared.session.Bad.{Bad}
+use Rattle.its_records.specs.declared.session.Bad.TheVariants.{Syntax}
 use Rattle.its_session.specs.Grammar.{number, number_to}
 use Rattle.its_session.specs.Reading.{number_in}
 

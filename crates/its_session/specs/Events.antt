@@ -1,15 +1,15 @@
 -- The events of a session's bytes (docs/SESSION.md).
 -- A promise rests on this.
 use Rattle.std.specs.Prelude.{if◌then◌else◌, ◌==◌, ℕ, ◌+◌, ◌^◌, Bool, true, false, Result, Ok, Err, List, [], ◌∷◌, ◌++◌, nat_lt}
-use Rattle.its_word.specs.Item.{Item, Read, Unread, Beyond}
-use Rattle.its_word.specs.declared.session.Event.{Event}
-use Rattle.its_word.specs.declared.session.Event.TheVariants as events
-use Rattle.its_word.specs.declared.session.Place.{Place}
-use Rattle.its_word.specs.declared.session.Place.TheVariants as places
-use Rattle.its_word.specs.declared.session.Bad.{Bad}
-use Rattle.its_word.specs.declared.session.Bad.TheVariants as bads
-use Rattle.its_word.specs.declared.session.Reason.{Reason}
-use Rattle.its_word.specs.declared.session.Reason.TheVariants as reasons
+use Rattle.its_records.specs.Item.{Item, Read, Unread, Beyond}
+use Rattle.its_records.specs.declared.session.Event.{Event}
+use Rattle.its_records.specs.declared.session.Event.TheVariants as events
+use Rattle.its_records.specs.declared.session.Place.{Place}
+use Rattle.its_records.specs.declared.session.Place.TheVariants as places
+use Rattle.its_records.specs.declared.session.Bad.{Bad}
+use Rattle.its_records.specs.declared.session.Bad.TheVariants as bads
+use Rattle.its_records.specs.declared.session.Reason.{Reason}
+use Rattle.its_records.specs.declared.session.Reason.TheVariants as reasons
 use Rattle.its_session.specs.Grammar.{line_event}
 
 -- the most lines that a session may have

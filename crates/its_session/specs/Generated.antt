@@ -3,8 +3,8 @@
 -- No promise rests on this.
 use Rattle.std.specs.Prelude.{if◌then◌else◌, ℕ, zero, suc, ◌+◌, ◌*◌, ◌%◌, ◌==◌, Some, List, [], ◌∷◌, ◌++◌, codes}
 use Rattle.its_word.specs.Text.{sixbit_of}
-use Rattle.its_word.specs.declared.session.Event.{Event}
-use Rattle.its_word.specs.declared.session.Event.TheVariants as events
+use Rattle.its_records.specs.declared.session.Event.{Event}
+use Rattle.its_records.specs.declared.session.Event.TheVariants as events
 
 -- what comes for each of 0, 1, .. n - 1, in their order
 abbrev pub for_each : {A : Type 0} → ℕ → (ℕ → List A) → List A

@@ -4,8 +4,8 @@ use Rattle.std.specs.Prelude.{if◌then◌else◌, ◌&&◌, ℕ, Option, Some, 
 use Rattle.std.specs.List.{list_all}
 use Rattle.arrayvec.specs.ArrayVec.{ArrayVec}
 use Rattle.its_word.specs.Text.{is_name, is_octal, octal_value, sixbit_of}
-use Rattle.its_word.specs.declared.session.Bad.{Bad}
-use Rattle.its_word.specs.declared.session.Bad.TheVariants.{Syntax, Range, NoConsole}
+use Rattle.its_records.specs.declared.session.Bad.{Bad}
+use Rattle.its_records.specs.declared.session.Bad.TheVariants.{Syntax, Range, NoConsole}
 use Rattle.its_session.specs.Grammar.{is_dash}
 
 abbrev pub number_in : List ℕ → Result ℕ Bad

@@ -2,8 +2,8 @@
 -- A promise rests on this.
 use Rattle.std.specs.Prelude.{if◌then◌else◌, ◌==◌, ℕ, zero, suc, ◌+◌, ◌*◌, ◌/◌, ◌%◌, ◌^◌, ◌<◌, Option, Some, None, List, [], ◌∷◌, ◌++◌, length, map, codes, slice_index}
 use Rattle.its_word.specs.Text.{digits_of, octal6_of, octal12_of, spaced}
-use Rattle.its_word.specs.declared.session.Event.{Event}
-use Rattle.its_word.specs.declared.session.Event.TheVariants as events
+use Rattle.its_records.specs.declared.session.Event.{Event}
+use Rattle.its_records.specs.declared.session.Event.TheVariants as events
 
 -- up to n characters of a name, which are in the top of a word
 unfoldable pub characters : ℕ → ℕ → List ℕ

@@ -4,7 +4,8 @@ ghost use Rattle.its_session.specs.Grammar.{last_slot};
 ghost use Rattle.its_session.specs.Reading.{bytes_in, console_at, name_in, number_in, numbers_in, ranged_to};
 
 use arrayvec::ArrayVec;
-use its_word::{Bad, Word, read_octal, read_sixbit};
+use its_records::Bad;
+use its_word::{Word, read_octal, read_sixbit};
 
 /// A number.
 pub fn number(word: &[u8]) -> Result<Word, Bad>

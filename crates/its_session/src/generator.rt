@@ -1,11 +1,12 @@
 //! The generated session of `its gen`.
 ghost use Rattle.std.specs.Prelude.{◌≡◌, ◌≤◌, ◌<◌, ◌+◌, ◌*◌, ◌^◌, ◌/◌, ◌%◌, ◌==◌, [], ◌∷◌, ◌++◌, All, IfSome, length, slice_get};
-ghost use Rattle.its_word.specs.declared.session.Event.TheVariants as events;
+ghost use Rattle.its_records.specs.declared.session.Event.TheVariants as events;
 ghost use Rattle.its_session.specs.Fits.{EventFits};
 ghost use Rattle.its_session.specs.Generated.{placed, letter, started, echoed, emptied, round, all_emptied, generated_session, IsGenerated};
 
 use arrayvec::ArrayVec;
-use its_word::{Event, Word};
+use its_records::Event;
+use its_word::Word;
 
 /// How many jobs there are, one at each console.
 const JOBS: u8 = 8;

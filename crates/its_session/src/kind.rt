@@ -2,7 +2,8 @@
 ghost use Rattle.std.specs.Prelude.{◌≡◌, bytes_eq};
 ghost use Rattle.its_session.specs.Grammar.{before_slash, is_at, is_place, kind_of, may_stand, place_of_kind, version_of_kind};
 
-use its_word::{Place, read_octal};
+use its_records::Place;
+use its_word::read_octal;
 
 /// The kinds of line, by their first word: an address and `/` for `Words`, `/` alone for `Append`,
 /// and for the others a name of their own.

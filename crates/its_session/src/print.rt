@@ -2,14 +2,15 @@
 ghost use Rattle.std.specs.Prelude.{◌≡◌, ◌<◌, ◌≤◌, ◌^◌, [], ◌∷◌, ◌++◌, length, map, codes};
 ghost use Rattle.arrayvec.specs.ArrayVec.{array_vec_len};
 ghost use Rattle.its_word.specs.Text.{digits_of, octal6_of, octal12_of, spaced};
-ghost use Rattle.its_word.specs.declared.session.Place.{Place};
+ghost use Rattle.its_records.specs.declared.session.Place.{Place};
 ghost use Rattle.its_session.specs.Fits.{EventFits, place_of};
 ghost use Rattle.its_session.specs.Grammar.{line_event};
 ghost use Rattle.its_session.specs.Writing.{AreWords, HasWords, console_text, name_of, text_of_event};
 
 use super::put::{put_address, put_bytes, put_console, put_name, put_number, put_word, put_words};
 use arrayvec::ArrayVec;
-use its_word::{Event, Word, octal6};
+use its_records::Event;
+use its_word::{Word, octal6};
 
 /// Writes the line of an event of version 2, without LF: addresses with six digits, machine words with twelve. `read_line` reads it in version 2 as that event at
 /// the event's place, and `Nothing` at any place. The event's numbers and names are in the ranges of its line.

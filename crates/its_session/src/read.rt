@@ -9,7 +9,8 @@ use super::few::few_words;
 use super::kind::{Kind, before_slash, kind_of, may_stand};
 use super::rows;
 use arrayvec::ArrayVec;
-use its_word::{Bad, Event, Place, words};
+use its_records::{Bad, Event, Place};
+use its_word::words;
 
 /// The event of a line (without its LF) at a place of a session of this version, or the first reason why it is none: `Long` for more
 /// than 255 bytes, `Syntax` for a line that may not occur there, `Range` for a number outside its range, `NoConsole` for a console

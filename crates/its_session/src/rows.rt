@@ -4,7 +4,7 @@ ghost use Rattle.its_session.specs.Grammar.{append_line, bare_line, clock_line, 
 ghost use Rattle.its_session.specs.Reading.{console_in};
 
 use super::fields::{at_most, bytes, console, count, name, number, numbers, page, slot};
-use its_word::{Bad, Event};
+use its_records::{Bad, Event};
 
 /// `LOAD u j c`
 #[tactic(auto, using(crate::proofs::RowLaws::three_words), unfolding(crate::specs::Grammar::load_line))]

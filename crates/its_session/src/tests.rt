@@ -1,6 +1,7 @@
 use super::*;
 use arrayvec::ArrayVec;
-use its_word::{Bad, Event, Place, Word};
+use its_records::{Bad, Event, Place};
+use its_word::Word;
 use std::process::Abort;
 
 macro_rules! reads {

@@ -2,7 +2,7 @@
 -- that the line does not disturb (docs/STEPS.md, "Lines").
 use Rattle.std.specs.Prelude.{◌≡◌, ℕ, false, refl}
 use Rattle.std.proofs.Common.{sym, ◌∙◌, ap}
-use Rattle.its_word.specs.declared.session.Event.{Event}
+use Rattle.its_records.specs.declared.session.Event.{Event}
 use Rattle.its_plain.specs.Operator.{Block, Refuses, Does, Ticks, Quits}
 use Rattle.its_plain.specs.OperatorLines.{Lined, Done, Peeks, lined}
 use Rattle.its_stepped.specs.State.{State, plain}

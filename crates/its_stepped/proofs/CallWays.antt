@@ -5,14 +5,14 @@ use Rattle.std.proofs.Common.{sym, subst, inl, inr}
 use Rattle.std.proofs.lemmas.Bool.{not-false, or_parts}
 use Rattle.its_word.specs.Byte.{load_of}
 use Rattle.its_word.specs.Core.{Core, word_at, can_store}
-use Rattle.its_word.specs.Links.{most_links}
-use Rattle.its_word.specs.Tree.{least_free}
+use Rattle.its_records.specs.Links.{most_links}
+use Rattle.its_records.specs.Tree.{least_free}
 use Rattle.its_word.specs.Word.{right_of}
 use Rattle.its_word.specs.declared.access.Fault.{Fault}
 use Rattle.its_word.specs.declared.access.Fault.TheVariants.{Mpv, Wro}
-use Rattle.its_word.specs.declared.calls.Ask.{Ask}
+use Rattle.its_records.specs.declared.calls.Ask.{Ask}
 use Rattle.its_word.specs.declared.plan.Store.{Store}
-use Rattle.its_word.proofs.FreeLaws.{least_empty, least_below}
+use Rattle.its_records.proofs.FreeLaws.{least_empty, least_below}
 use Rattle.its_frame.specs.declared.change.Change.{Change}
 use Rattle.its_frame.specs.declared.change.Change.TheVariants as changes
 use Rattle.its_frame.specs.declared.change.Opened.{Opened}

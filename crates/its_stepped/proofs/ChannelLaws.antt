@@ -3,7 +3,7 @@ use Rattle.std.specs.Prelude.{if◌then◌else◌, ◌≡◌, ◌≢◌, ◌<◌
 use Rattle.std.specs.List.{range_with_len}
 use Rattle.std.proofs.Common.{sym, ◌∙◌, ap, subst, arith}
 use Rattle.std.proofs.lemmas.Bool.{not-false}
-use Rattle.its_word.specs.Links.{most_links}
+use Rattle.its_records.specs.Links.{most_links}
 use Rattle.its_plain.specs.CallBasic.{channel_at, is_shut}
 use Rattle.its_plain.specs.CallLink.{has_link_names, link_named, can_open}
 use Rattle.its_plain.specs.Integrity.{IsNamed}

@@ -4,16 +4,16 @@ use Rattle.std.specs.Prelude.{if◌then◌else◌, ◌==◌, ◌≡◌, ◌<◌,
 use Rattle.std.proofs.Common.{sym, subst, inl, inr}
 use Rattle.std.proofs.lemmas.Bool.{cases_Bool}
 use Rattle.its_word.specs.Core.{Core, word_at}
-use Rattle.its_word.specs.Tree.{least_free, fresh_job}
+use Rattle.its_records.specs.Tree.{least_free, fresh_job}
 use Rattle.its_word.specs.Word.{right_of}
 use Rattle.its_word.specs.declared.access.Fault.{Fault}
-use Rattle.its_word.specs.declared.calls.Ask.{Ask}
-use Rattle.its_word.specs.declared.calls.Owed.{Owed}
-use Rattle.its_word.specs.declared.calls.Owed.TheVariants as owed
-use Rattle.its_word.specs.declared.calls.Owed.TheVariants.{GiveBack, Unlink, Link, Free, Leave}
-use Rattle.its_word.specs.declared.jobs.Job.{Job}
+use Rattle.its_records.specs.declared.calls.Ask.{Ask}
+use Rattle.its_records.specs.declared.calls.Owed.{Owed}
+use Rattle.its_records.specs.declared.calls.Owed.TheVariants as owed
+use Rattle.its_records.specs.declared.calls.Owed.TheVariants.{GiveBack, Unlink, Link, Free, Leave}
+use Rattle.its_records.specs.declared.jobs.Job.{Job}
 use Rattle.its_word.specs.declared.plan.Store.{Store}
-use Rattle.its_word.specs.declared.session.Reason.{Reason}
+use Rattle.its_records.specs.declared.session.Reason.{Reason}
 use Rattle.its_word.specs.Stores.{first_fault}
 use Rattle.its_frame.specs.declared.change.Change.{Change}
 use Rattle.its_frame.specs.declared.change.Change.TheVariants as changes

@@ -1,10 +1,10 @@
 -- What holds of every moment of a run: it is shown of a letter, of a turn and of a line, and then of the run of any lines.
 use Rattle.std.specs.Prelude.{◌≡◌, ℕ, zero, suc, Bool, Option, Some, None, List, [], ◌∷◌, ◌++◌, length, drop, unwrap_or, refl}
 use Rattle.std.proofs.Common.{sym, subst}
-use Rattle.its_word.specs.Item.{Item, Read, Unread, Beyond}
-use Rattle.its_word.specs.declared.calls.Pace.{Pace}
-use Rattle.its_word.specs.declared.calls.Pace.TheVariants.{Step, Work, Wait, Off}
-use Rattle.its_word.specs.declared.session.Event.{Event}
+use Rattle.its_records.specs.Item.{Item, Read, Unread, Beyond}
+use Rattle.its_records.specs.declared.calls.Pace.{Pace}
+use Rattle.its_records.specs.declared.calls.Pace.TheVariants.{Step, Work, Wait, Off}
+use Rattle.its_records.specs.declared.session.Event.{Event}
 use Rattle.its_print.specs.Printing.{Line}
 use Rattle.its_plain.specs.CallStep.{step}
 use Rattle.its_plain.specs.Course.{Deed, Lines, Turns, Letter, Moment, Course, rests, moment_at, onward, machine_after, paced, letters, turned_by, turned, past, course}

@@ -4,8 +4,8 @@ use Rattle.std.proofs.Common.{sym, ◌∙◌, ap, arith, get_or}
 use Rattle.std.proofs.lemmas.List.{drop_more, length-drop}
 use Rattle.std.proofs.Math.ListN.{drop_of_length-le}
 use Rattle.its_word.specs.Core.{Core, store}
-use Rattle.its_word.specs.declared.calls.Ask.{Ask}
-use Rattle.its_word.specs.declared.calls.Operand.{Operand}
+use Rattle.its_records.specs.declared.calls.Ask.{Ask}
+use Rattle.its_records.specs.declared.calls.Operand.{Operand}
 use Rattle.its_word.specs.declared.plan.Store.{Store}
 use Rattle.its_word.proofs.CoreLaws.{can_store-store}
 use Rattle.its_plain.specs.Arguments.{store_of, stores_of, debts}

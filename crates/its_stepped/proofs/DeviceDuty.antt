@@ -1,8 +1,8 @@
 -- The calls that devices share do their duty: OPEN, CLOSE, `.IOT` and SIOT.
 use Rattle.std.specs.Prelude.{◌==◌, ◌≡◌, ℕ, ◌%◌, ◌^◌, Bool, true, false, Some, None, [], ◌∷◌, slice_get, slice_index_or, refl}
 use Rattle.std.proofs.Common.{arith}
-use Rattle.its_word.specs.declared.calls.Ask.{Ask}
-use Rattle.its_word.specs.declared.calls.Site.{Site}
+use Rattle.its_records.specs.declared.calls.Ask.{Ask}
+use Rattle.its_records.specs.declared.calls.Site.{Site}
 use Rattle.its_frame.specs.declared.change.Change.TheVariants as changes
 use Rattle.its_frame.specs.declared.name.CallName.TheVariants.{Close, Iot, Siot}
 use Rattle.its_plain.specs.Arguments.{input}

@@ -5,8 +5,8 @@ use Rattle.std.proofs.Common.{◌∙◌, ap, arith, inl}
 use Rattle.std.proofs.lemmas.Bool.{eq-eqb, not-false}
 use Rattle.its_word.specs.Core.{can_store}
 use Rattle.its_word.specs.declared.access.Fault.TheVariants.{Mpv, Wro}
-use Rattle.its_word.specs.declared.calls.Ask.{Ask}
-use Rattle.its_word.specs.declared.calls.Site.{Site}
+use Rattle.its_records.specs.declared.calls.Ask.{Ask}
+use Rattle.its_records.specs.declared.calls.Site.{Site}
 use Rattle.its_frame.specs.Left.{kept}
 use Rattle.its_frame.specs.declared.change.Change.{Change}
 use Rattle.its_frame.specs.declared.change.Change.TheVariants as changes

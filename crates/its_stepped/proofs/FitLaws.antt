@@ -5,14 +5,14 @@ use Rattle.std.specs.List.{range_with_len}
 use Rattle.std.proofs.Common.{sym, ◌∙◌, ap, subst, inl, inr, arith, subst}
 use Rattle.std.proofs.lemmas.Bool.{and_parts, cases_eq, eq-eqb, eqb-true, ltb-false, ne_eqb}
 use Rattle.its_word.specs.Limits.{slots}
-use Rattle.its_word.specs.Links.{link_end, is_unopened}
-use Rattle.its_word.specs.Tree.{least_free}
+use Rattle.its_records.specs.Links.{link_end, is_unopened}
+use Rattle.its_records.specs.Tree.{least_free}
 use Rattle.its_word.specs.declared.access.Fault.{Fault}
-use Rattle.its_word.specs.declared.calls.Ask.{Ask}
-use Rattle.its_word.specs.declared.calls.Exit.{Exit}
-use Rattle.its_word.specs.declared.link.End.{End}
-use Rattle.its_word.specs.declared.link.End.TheVariants as ends
-use Rattle.its_word.proofs.FreeLaws.{least_empty, least_below}
+use Rattle.its_records.specs.declared.calls.Ask.{Ask}
+use Rattle.its_records.specs.declared.calls.Exit.{Exit}
+use Rattle.its_records.specs.declared.link.End.{End}
+use Rattle.its_records.specs.declared.link.End.TheVariants as ends
+use Rattle.its_records.proofs.FreeLaws.{least_empty, least_below}
 use Rattle.its_frame.specs.declared.change.Change.{Change}
 use Rattle.its_frame.specs.declared.change.Change.TheVariants as changes
 use Rattle.its_frame.specs.declared.change.Opened.{Opened}

@@ -4,11 +4,11 @@ use Rattle.std.proofs.Common.{sym, ◌∙◌, ap, subst, inl, inr, arith, eq-eqb
 use Rattle.std.proofs.lemmas.Bool.{cases_Bool, cases_eq, cases_lt, ne_eqb, or_parts}
 use Rattle.std.proofs.lemmas.Option.{IfSome_then}
 use Rattle.its_word.specs.Limits.{slots, limit_of}
-use Rattle.its_word.specs.Tree.{climbs_to, is_below}
-use Rattle.its_word.specs.declared.calls.Ask.{Ask}
-use Rattle.its_word.proofs.TreeLaws.{climb_end}
-use Rattle.its_word.proofs.FreeLaws.{limit_few}
-use Rattle.its_word.proofs.ClimbLaws.{circle_cut, never, unpassed, enough, below_through}
+use Rattle.its_records.specs.Tree.{climbs_to, is_below}
+use Rattle.its_records.specs.declared.calls.Ask.{Ask}
+use Rattle.its_records.proofs.TreeLaws.{climb_end}
+use Rattle.its_records.proofs.FreeLaws.{limit_few}
+use Rattle.its_records.proofs.ClimbLaws.{circle_cut, never, unpassed, enough, below_through}
 use Rattle.its_frame.specs.declared.change.Change.{Change}
 use Rattle.its_frame.specs.declared.change.Change.TheVariants as changes
 use Rattle.its_frame.specs.declared.change.Opened.{Opened}

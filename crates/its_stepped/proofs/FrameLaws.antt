@@ -6,9 +6,9 @@ use Rattle.std.proofs.lemmas.Bool.{cases_eq, eq-eqb, ne_eqb}
 use Rattle.its_word.specs.Core.{Core, Page, page_stored, word_at, can_store, store, page_of, pages_present, pages_mapped}
 use Rattle.its_word.specs.Limits.{slots}
 use Rattle.its_word.specs.Only.{Only}
-use Rattle.its_word.specs.declared.calls.Exit.{Exit}
-use Rattle.its_word.specs.declared.calls.Owed.{Owed}
-use Rattle.its_word.specs.declared.calls.Owed.TheVariants as owed
+use Rattle.its_records.specs.declared.calls.Exit.{Exit}
+use Rattle.its_records.specs.declared.calls.Owed.{Owed}
+use Rattle.its_records.specs.declared.calls.Owed.TheVariants as owed
 use Rattle.its_word.specs.declared.plan.Store.{Store}
 use Rattle.its_word.proofs.CoreLaws.{page_alike, can_store-store, is_some-store}
 use Rattle.its_word.proofs.PageLaws.{pages_present-store}

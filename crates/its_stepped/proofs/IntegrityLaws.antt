@@ -4,11 +4,11 @@ use Rattle.std.proofs.Common.{sym, ◌∙◌, ap, subst, inl, inr}
 use Rattle.std.proofs.lemmas.Bool.{cases_Bool, cases_eq, eq-eqb, ne_eqb, eqb-true, or_parts, and_parts, not-false}
 use Rattle.its_word.specs.Console.{Console}
 use Rattle.its_word.specs.Limits.{slots}
-use Rattle.its_word.specs.Tree.{climbs_to, is_below, least_free}
+use Rattle.its_records.specs.Tree.{climbs_to, is_below, least_free}
 use Rattle.its_word.specs.declared.access.Fault.{Fault}
-use Rattle.its_word.specs.declared.calls.Ask.{Ask}
-use Rattle.its_word.specs.declared.calls.Exit.{Exit}
-use Rattle.its_word.proofs.FreeLaws.{least_empty}
+use Rattle.its_records.specs.declared.calls.Ask.{Ask}
+use Rattle.its_records.specs.declared.calls.Exit.{Exit}
+use Rattle.its_records.proofs.FreeLaws.{least_empty}
 use Rattle.its_frame.specs.Variables.{variable_named}
 use Rattle.its_frame.specs.declared.change.Change.{Change}
 use Rattle.its_frame.specs.declared.change.Change.TheVariants as changes

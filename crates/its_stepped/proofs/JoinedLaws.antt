@@ -3,10 +3,10 @@
 use Rattle.std.specs.Prelude.{if◌then◌else◌, ◌≡◌, ◌≢◌, ◌<◌, ◌⊎◌, ℕ, Bool, true, false, Option, Some, None, option_map, is_some, refl}
 use Rattle.std.proofs.Common.{sym, ◌∙◌, ap, subst, inl, inr}
 use Rattle.std.proofs.lemmas.Bool.{cases_eq, eq-eqb, ne_eqb, or_parts}
-use Rattle.its_word.specs.Links.{most_links, link_end, with_end, is_open, is_alive, end_left, link_left}
-use Rattle.its_word.specs.declared.link.End.{End}
-use Rattle.its_word.specs.declared.link.End.TheVariants.{Unopened, Opened, Closed}
-use Rattle.its_word.specs.declared.link.Link.{Link}
+use Rattle.its_records.specs.Links.{most_links, link_end, with_end, is_open, is_alive, end_left, link_left}
+use Rattle.its_records.specs.declared.link.End.{End}
+use Rattle.its_records.specs.declared.link.End.TheVariants.{Unopened, Opened, Closed}
+use Rattle.its_records.specs.declared.link.Link.{Link}
 use Rattle.its_plain.specs.CallBasic.{channel_at}
 use Rattle.its_plain.specs.Change.{channel_in, superiors, is_gone, chan_after_removal, job_after_removal, after_removal, on_slot, in_job, link_or_new, with_end_opened, standing_if, after_end_close, on_link, ends_after_removal}
 use Rattle.its_plain.specs.Machine.{Chan, Shut, TtyIn, TtyOut, Reads, Writes, On, Linked, Pipe, Whole, Machine, changed, no_machine}

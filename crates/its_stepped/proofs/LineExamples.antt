@@ -2,18 +2,18 @@
 use Rattle.std.specs.Prelude.{◌≡◌, ℕ, Option, Some, None, List, [], ◌∷◌, ◌++◌, refl}
 use Rattle.its_word.specs.Core.{no_core, word_at}
 use Rattle.its_word.specs.Directory.{File, same_names}
-use Rattle.its_word.specs.Item.{Read}
+use Rattle.its_records.specs.Item.{Read}
 use Rattle.its_word.specs.Limits.{limit_of}
-use Rattle.its_word.specs.Tree.{free_from, least_free, fresh_job}
-use Rattle.its_word.specs.declared.calls.Ask.{Ask}
-use Rattle.its_word.specs.declared.calls.Operand.{Operand}
-use Rattle.its_word.specs.declared.calls.Owed.TheVariants.{Link, Free, Leave}
-use Rattle.its_word.specs.declared.calls.Pace.TheVariants.{Off}
-use Rattle.its_word.specs.declared.calls.Site.{Site}
-use Rattle.its_word.specs.declared.session.Event.TheVariants as events
-use Rattle.its_word.specs.declared.session.Reason.TheVariants as reasons
-use Rattle.its_word.specs.declared.show.Peek.{Peek}
-use Rattle.its_word.specs.declared.show.PeekState.TheVariants as states
+use Rattle.its_records.specs.Tree.{free_from, least_free, fresh_job}
+use Rattle.its_records.specs.declared.calls.Ask.{Ask}
+use Rattle.its_records.specs.declared.calls.Operand.{Operand}
+use Rattle.its_records.specs.declared.calls.Owed.TheVariants.{Link, Free, Leave}
+use Rattle.its_records.specs.declared.calls.Pace.TheVariants.{Off}
+use Rattle.its_records.specs.declared.calls.Site.{Site}
+use Rattle.its_records.specs.declared.session.Event.TheVariants as events
+use Rattle.its_records.specs.declared.session.Reason.TheVariants as reasons
+use Rattle.its_records.specs.declared.show.Peek.{Peek}
+use Rattle.its_records.specs.declared.show.PeekState.TheVariants as states
 use Rattle.its_frame.specs.declared.frame.Frame.{Frame}
 use Rattle.its_print.specs.Printing as printed
 use Rattle.its_plain.specs.Operator.{no_block, Does}

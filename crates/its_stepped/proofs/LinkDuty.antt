@@ -4,12 +4,12 @@ use Rattle.std.proofs.Common.{◌∙◌, ap, arith}
 use Rattle.std.proofs.lemmas.Bool.{not-false}
 use Rattle.its_word.specs.Byte.{load_of}
 use Rattle.its_word.specs.Core.{can_store}
-use Rattle.its_word.specs.Links.{most_links}
-use Rattle.its_word.specs.Tree.{least_free}
+use Rattle.its_records.specs.Links.{most_links}
+use Rattle.its_records.specs.Tree.{least_free}
 use Rattle.its_word.specs.Word.{right_of}
 use Rattle.its_word.specs.declared.access.Fault.TheVariants.{Mpv, Wro}
-use Rattle.its_word.specs.declared.calls.Ask.{Ask}
-use Rattle.its_word.specs.declared.calls.Site.{Site}
+use Rattle.its_records.specs.declared.calls.Ask.{Ask}
+use Rattle.its_records.specs.declared.calls.Site.{Site}
 use Rattle.its_frame.specs.declared.change.Change.TheVariants as changes
 use Rattle.its_frame.specs.declared.decision.Decision.TheVariants.{Waits}
 use Rattle.its_frame.specs.declared.decision.Wait.TheVariants.{Empty, Room}

@@ -8,9 +8,9 @@ use Rattle.its_word.specs.Core.{Core, word_at, can_store, store}
 use Rattle.its_word.specs.Stores.{stored}
 use Rattle.its_word.specs.Word.{right_of}
 use Rattle.its_word.proofs.CoreLaws.{word_at-store_same, word_at-can_store}
-use Rattle.its_word.specs.declared.calls.Ask.{Ask}
-use Rattle.its_word.specs.declared.calls.Operand.{Operand}
-use Rattle.its_word.specs.declared.calls.Site.{Site}
+use Rattle.its_records.specs.declared.calls.Ask.{Ask}
+use Rattle.its_records.specs.declared.calls.Operand.{Operand}
+use Rattle.its_records.specs.declared.calls.Site.{Site}
 use Rattle.its_word.specs.declared.plan.Store.{Store}
 use Rattle.its_frame.specs.declared.change.Change.{Change}
 use Rattle.its_frame.specs.declared.change.Change.TheVariants as changes

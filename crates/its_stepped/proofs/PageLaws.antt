@@ -4,8 +4,8 @@ use Rattle.std.specs.Prelude.{◌==◌, ◌&&◌, ◌≡◌, ◌≤◌, ℕ, ◌
 use Rattle.std.proofs.Common.{◌∙◌, ap, arith}
 use Rattle.std.proofs.lemmas.Bool.{ltb-false}
 use Rattle.std.proofs.lemmas.List.{take-append-drop}
-use Rattle.its_word.specs.declared.calls.Ask.{Ask}
-use Rattle.its_word.specs.declared.calls.Operand.{Operand}
+use Rattle.its_records.specs.declared.calls.Ask.{Ask}
+use Rattle.its_records.specs.declared.calls.Operand.{Operand}
 use Rattle.its_frame.specs.declared.name.CallName.{CallName}
 use Rattle.its_frame.specs.declared.name.CallName.TheVariants.{Corblk}
 use Rattle.its_plain.specs.Arguments.{input, operands_with_values, with_new_values}
@@ -13,7 +13,7 @@ use Rattle.its_plain.specs.Decide.{call_named}
 use Rattle.its_stepped.specs.Tick.{makes_page, reserves, quarters}
 use Rattle.its_stepped.specs.Sound.{Paged, IsWaitable, most_owed_by, most_owed}
 use Rattle.its_stepped.specs.Duty.{IsTried}
-use Rattle.its_word.proofs.TreeLaws.{and_false}
+use Rattle.its_records.proofs.TreeLaws.{and_false}
 
 pub reserves_none : (a : Ask) → makes_page (call_named a.name) (input a 0) ≡ false → reserves a ≡ false
 unfolding reserves

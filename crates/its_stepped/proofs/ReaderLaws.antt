@@ -16,7 +16,7 @@ use Rattle.its_plain.specs.Machine.{Names, File, Chan, Reads, Whole, Machine}
 use Rattle.its_plain.specs.Operator.{and_then}
 use Rattle.its_plain.specs.OperatorFiles.{channels_of, with_files, with_file_made_if, with_file_made, with_word_added_if, with_word_added_to, with_word_added, with_words_added}
 use Rattle.its_plain.specs.Own.{names_of}
-use Rattle.its_word.specs.declared.session.Reason.{Reason}
+use Rattle.its_records.specs.declared.session.Reason.{Reason}
 
 -- one of the first n numbers passes
 any_below : (p : ℕ → Bool) (i n : ℕ) → i < n → p i ≡ true → list_any p (range_with_len 0 n) ≡ true

@@ -2,14 +2,14 @@
 use Rattle.std.specs.Prelude.{◌≡◌, ◌≢◌, ◌<◌, ◌==◌, ◌||◌, ℕ, Bool, true, false, Option, Some, None, is_some, unwrap_or, List, [], ◌∷◌, ◌++◌, Result, Ok, Err, refl}
 use Rattle.std.proofs.Common.{sym, ◌∙◌, ap, subst}
 use Rattle.std.proofs.lemmas.Bool.{ne_eqb}
-use Rattle.its_word.specs.Item.{Item}
+use Rattle.its_records.specs.Item.{Item}
 use Rattle.its_word.specs.Limits.{slots}
-use Rattle.its_word.specs.Tree.{is_below}
-use Rattle.its_word.specs.declared.calls.Pace.{Pace}
-use Rattle.its_word.specs.declared.calls.Pace.TheVariants.{Step, Work, Wait, Off}
-use Rattle.its_word.specs.declared.session.Event.{Event}
-use Rattle.its_word.specs.declared.session.Event.TheVariants as events
-use Rattle.its_word.specs.declared.session.Reason.{Reason}
+use Rattle.its_records.specs.Tree.{is_below}
+use Rattle.its_records.specs.declared.calls.Pace.{Pace}
+use Rattle.its_records.specs.declared.calls.Pace.TheVariants.{Step, Work, Wait, Off}
+use Rattle.its_records.specs.declared.session.Event.{Event}
+use Rattle.its_records.specs.declared.session.Event.TheVariants as events
+use Rattle.its_records.specs.declared.session.Reason.{Reason}
 use Rattle.its_print.specs.Printing.{Line}
 use Rattle.its_plain.specs.CallFile.{file_named}
 use Rattle.its_plain.specs.CallStep.{step}

@@ -1,8 +1,8 @@
 -- Whom a call reaches through the channel that one of its arguments names.
 use Rattle.std.specs.Prelude.{if◌then◌else◌, ◌==◌, ◌≡◌, ◌≢◌, ℕ, Bool, true, false, Option, Some, None, [], ◌∷◌, refl}
 use Rattle.std.proofs.Common.{sym, ◌∙◌, ap, subst}
-use Rattle.its_word.specs.declared.calls.Ask.{Ask}
-use Rattle.its_word.specs.declared.calls.Site.{Site}
+use Rattle.its_records.specs.declared.calls.Ask.{Ask}
+use Rattle.its_records.specs.declared.calls.Site.{Site}
 use Rattle.its_frame.specs.declared.name.CallName.{CallName}
 use Rattle.its_plain.specs.Arguments.{input}
 use Rattle.its_plain.specs.CallBasic.{is_oneself, channel_at}

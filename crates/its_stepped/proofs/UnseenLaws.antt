@@ -1,7 +1,7 @@
 -- A call that is not one on files does not look at the directory.
 use Rattle.std.specs.Prelude.{◌≡◌, ◌==◌, ℕ, Bool, true, false, Option, Some, List, slice_index_or, refl}
 use Rattle.std.proofs.Common.{◌∙◌}
-use Rattle.its_word.specs.declared.calls.Ask.{Ask}
+use Rattle.its_records.specs.declared.calls.Ask.{Ask}
 use Rattle.its_frame.specs.declared.name.CallName.{CallName}
 use Rattle.its_frame.specs.declared.name.CallName.TheVariants.{Open, Close, Iot, Siot}
 use Rattle.its_plain.specs.Machine.{File, Chan, Reads, Writes}

@@ -5,11 +5,11 @@ use Rattle.std.proofs.lemmas.Bool.{cases_eq, not-false}
 use Rattle.its_word.specs.Word.{right_of}
 use Rattle.its_word.specs.Byte.{has_size, load_of}
 use Rattle.its_word.specs.Core.{word_at, can_store}
-use Rattle.its_word.specs.Tree.{least_free, slots_below}
-use Rattle.its_word.proofs.FreeLaws.{least_empty}
+use Rattle.its_records.specs.Tree.{least_free, slots_below}
+use Rattle.its_records.proofs.FreeLaws.{least_empty}
 use Rattle.its_word.specs.declared.access.Fault.TheVariants.{Mpv, Wro}
-use Rattle.its_word.specs.declared.calls.Ask.{Ask}
-use Rattle.its_word.specs.declared.calls.Site.{Site}
+use Rattle.its_records.specs.declared.calls.Ask.{Ask}
+use Rattle.its_records.specs.declared.calls.Site.{Site}
 use Rattle.its_frame.specs.declared.change.Change.TheVariants as changes
 use Rattle.its_frame.specs.declared.change.Opened.TheVariants as opened
 use Rattle.its_frame.specs.declared.name.CallName.{CallName}

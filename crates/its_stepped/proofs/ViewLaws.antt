@@ -2,8 +2,8 @@
 -- mode and no close is half made. So it may be decided on raw jobs.
 use Rattle.std.specs.Prelude.{if◌then◌else◌, ◌==◌, ◌≡◌, ℕ, false, Option, Some, None, [], ◌∷◌, ◌++◌, option_map, refl}
 use Rattle.std.proofs.Common.{◌∙◌, ap}
-use Rattle.its_word.specs.Tree.{slots_below}
-use Rattle.its_word.specs.declared.calls.Ask.{Ask}
+use Rattle.its_records.specs.Tree.{slots_below}
+use Rattle.its_records.specs.declared.calls.Ask.{Ask}
 use Rattle.its_frame.specs.declared.frame.Frame.{Frame}
 use Rattle.its_frame.specs.declared.name.CallName.{CallName}
 use Rattle.its_frame.specs.declared.name.CallName.TheVariants.{Logout, Uclose}

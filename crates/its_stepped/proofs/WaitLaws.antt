@@ -7,9 +7,9 @@ use Rattle.std.proofs.lemmas.Bool.Decides.{nat_tests}
 use Rattle.its_word.specs.Word.{right_of}
 use Rattle.its_word.specs.Byte.{load_of}
 use Rattle.its_word.specs.declared.access.Fault.TheVariants.{Wro}
-use Rattle.its_word.specs.declared.calls.Ask.{Ask}
+use Rattle.its_records.specs.declared.calls.Ask.{Ask}
 use Rattle.its_frame.specs.Errors as error
-use Rattle.its_word.specs.declared.jobs.Job.{Job}
+use Rattle.its_records.specs.declared.jobs.Job.{Job}
 use Rattle.its_frame.specs.declared.change.Change.TheVariants as changes
 use Rattle.its_frame.specs.declared.decision.Decision.{Decision}
 use Rattle.its_frame.specs.declared.decision.Decision.TheVariants.{Waits, Goes, Ends, Gone}
@@ -18,7 +18,7 @@ use Rattle.its_frame.specs.declared.decision.Wait.TheVariants as waits
 use Rattle.its_frame.specs.declared.name.CallName.{CallName}
 use Rattle.its_frame.specs.declared.name.CallName.TheVariants.{Hang, Sleep, Iot, Siot, Finish, Listen}
 use Rattle.its_plain.specs.Arguments.{input, place_of_input}
-use Rattle.its_word.specs.Links.{most_linked}
+use Rattle.its_records.specs.Links.{most_linked}
 use Rattle.its_plain.specs.CallBasic.{channel_at, ioc, is_negative, negated, longest_sleep, shared_place, read_only, sleep}
 use Rattle.its_plain.specs.CallLink.{words_in, is_end_closed, is_dry, is_ended, is_crowded, is_unread, first_word, iot_receive, iot_receives, iot_sends, siot_receive, siot_receives, siot_send, siot_sends}
 use Rattle.its_plain.specs.CallTty.{is_empty, view_console, input_waits, output_waits, output_left, siot_in, siot_out, iot_in, iot_out, first_typed, shown_byte, finish_on, finish, listens, listen_on, listen}

@@ -4,8 +4,8 @@ use Rattle.std.specs.Prelude.{◌≡◌, ◌≤◌, ℕ, Bool, true, Option, Som
 use Rattle.std.proofs.Common.{sym, ◌∙◌, ap, subst, inl, inr, arith}
 use Rattle.std.proofs.lemmas.Option.{IfSome_then}
 use Rattle.std.proofs.lemmas.Bool.{cases_lt}
-use Rattle.its_word.specs.Item.{Item}
-use Rattle.its_word.specs.declared.session.Event.{Event}
+use Rattle.its_records.specs.Item.{Item}
+use Rattle.its_records.specs.declared.session.Event.{Event}
 use Rattle.its_print.specs.Printing.{Line}
 use Rattle.its_plain.specs.Change.{channel_in, superior_in, console_in}
 use Rattle.its_plain.specs.Machine.{Chan, Shut, Pipe, Whole, Machine, limit}
@@ -22,7 +22,7 @@ use Rattle.its_stepped.proofs.GivenLaws.{given}
 use Rattle.its_stepped.proofs.JoinedLaws.{same_link, joined_same}
 use Rattle.its_stepped.proofs.UpkeepLaws.{Lasting, session_transcript}
 use Rattle.its_word.specs.Limits.{slots, limit_of}
-use Rattle.its_word.proofs.FreeLaws.{limit_few}
+use Rattle.its_records.proofs.FreeLaws.{limit_few}
 
 -- lines keep how jobs lie to each other: a job that LOAD makes has no superior and no channel
 abbrev face_superior : Option Face → Option ℕ

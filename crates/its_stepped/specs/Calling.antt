@@ -3,10 +3,10 @@
 -- No promise rests on this.
 use Rattle.std.specs.Prelude.{◌≡◌, ◌≢◌, ℕ, ◌%◌, ◌^◌, true, false, Some, None, IfSome, [], ◌∷◌, slice_index_or}
 use Rattle.its_word.specs.Core.{Core, can_store, store}
-use Rattle.its_word.specs.declared.calls.Ask.{Ask}
-use Rattle.its_word.specs.declared.calls.Operand.{Operand}
-use Rattle.its_word.specs.declared.calls.Site.{Site}
-use Rattle.its_word.specs.declared.jobs.Job.{Job}
+use Rattle.its_records.specs.declared.calls.Ask.{Ask}
+use Rattle.its_records.specs.declared.calls.Operand.{Operand}
+use Rattle.its_records.specs.declared.calls.Site.{Site}
+use Rattle.its_records.specs.declared.jobs.Job.{Job}
 use Rattle.its_frame.specs.declared.name.CallName.TheVariants.{Sleep, Iot, Siot}
 use Rattle.its_plain.specs.Arguments.{place_of_input, in_footprint, is_shared}
 use Rattle.its_plain.specs.CallStep.{among}

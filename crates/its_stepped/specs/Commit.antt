@@ -2,12 +2,12 @@
 -- "Commit").
 -- No promise rests on this.
 use Rattle.std.specs.Prelude.{if◌then◌else◌, ◌==◌, ℕ, Bool, true, false, Option, Some, None, List, [], ◌∷◌, ◌++◌, map, length}
-use Rattle.its_word.specs.declared.calls.Ask.{Ask}
-use Rattle.its_word.specs.declared.calls.Exit.{Exit}
-use Rattle.its_word.specs.declared.calls.Owed.{Owed}
-use Rattle.its_word.specs.declared.calls.Owed.TheVariants.{GiveBack, Unlink, Link, Free, Leave}
-use Rattle.its_word.specs.declared.calls.Owed.TheVariants as owed
-use Rattle.its_word.specs.declared.calls.Site.{Site}
+use Rattle.its_records.specs.declared.calls.Ask.{Ask}
+use Rattle.its_records.specs.declared.calls.Exit.{Exit}
+use Rattle.its_records.specs.declared.calls.Owed.{Owed}
+use Rattle.its_records.specs.declared.calls.Owed.TheVariants.{GiveBack, Unlink, Link, Free, Leave}
+use Rattle.its_records.specs.declared.calls.Owed.TheVariants as owed
+use Rattle.its_records.specs.declared.calls.Site.{Site}
 use Rattle.its_word.specs.declared.plan.Store.{Store}
 use Rattle.its_frame.specs.declared.change.Change.{Change}
 use Rattle.its_frame.specs.declared.change.Change.TheVariants as changes

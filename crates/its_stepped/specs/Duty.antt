@@ -4,8 +4,8 @@
 use Rattle.std.specs.Prelude.{◌≡◌, ◌≢◌, ◌≤◌, ◌⊎◌, ℕ, ◌+◌, ◌%◌, ◌^◌, true, false, Option, Some, None, IfSome, List, [], ◌∷◌, length, nat_lt}
 use Rattle.its_word.specs.Byte.{has_size}
 use Rattle.its_word.specs.Core.{Core, can_store}
-use Rattle.its_word.specs.declared.calls.Ask.{Ask}
-use Rattle.its_word.specs.declared.calls.Site.{Site}
+use Rattle.its_records.specs.declared.calls.Ask.{Ask}
+use Rattle.its_records.specs.declared.calls.Site.{Site}
 use Rattle.its_word.specs.declared.plan.Store.{Store}
 use Rattle.its_frame.specs.Left.{kept}
 use Rattle.its_frame.specs.declared.change.Change.{Change}

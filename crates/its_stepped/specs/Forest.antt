@@ -2,10 +2,10 @@
 -- No promise rests on this.
 use Rattle.std.specs.Prelude.{◌≡◌, ◌≤◌, ◌<◌, ℕ, Bool, true, false, Option, Some, None, IfSome, is_some}
 use Rattle.its_word.specs.Limits.{slots}
-use Rattle.its_word.specs.Links.{most_links, link_end}
-use Rattle.its_word.specs.Tree.{climbs_to}
-use Rattle.its_word.specs.declared.link.End.{End}
-use Rattle.its_word.specs.declared.link.End.TheVariants.{Unopened, Opened}
+use Rattle.its_records.specs.Links.{most_links, link_end}
+use Rattle.its_records.specs.Tree.{climbs_to}
+use Rattle.its_records.specs.declared.link.End.{End}
+use Rattle.its_records.specs.declared.link.End.TheVariants.{Unopened, Opened}
 use Rattle.its_plain.specs.Machine.{Chan, TtyIn, TtyOut, On, Linked, Pipe, Machine, limit}
 use Rattle.its_plain.specs.Change.{superiors, channel_in, console_in}
 

@@ -2,7 +2,7 @@
 -- page's place, a part of a marked close, or the registers (docs/STEPS.md, "Unwinding").
 -- No promise rests on this.
 use Rattle.std.specs.Prelude.{◌≡◌, ℕ, Some, None, List, [], ◌∷◌}
-use Rattle.its_word.specs.declared.calls.Exit.{Exit}
+use Rattle.its_records.specs.declared.calls.Exit.{Exit}
 use Rattle.its_word.specs.declared.plan.Store.{Store}
 use Rattle.its_plain.specs.Machine.{changed}
 use Rattle.its_plain.specs.Own.{with_stores, after_leave}

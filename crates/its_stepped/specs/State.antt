@@ -2,10 +2,10 @@
 -- a close that is half made (docs/STEPS.md). It has a plain machine.
 -- No promise rests on this.
 use Rattle.std.specs.Prelude.{◌==◌, ℕ, Bool, true, false, Option, Some, None, List, [], ◌∷◌, ◌++◌, option_map}
-use Rattle.its_word.specs.declared.calls.Ask.{Ask}
-use Rattle.its_word.specs.declared.calls.Owed.{Owed}
-use Rattle.its_word.specs.declared.calls.Owed.TheVariants.{Store, GiveBack, Unlink, Link, Free, Leave}
-use Rattle.its_word.specs.declared.calls.Site.{Site}
+use Rattle.its_records.specs.declared.calls.Ask.{Ask}
+use Rattle.its_records.specs.declared.calls.Owed.{Owed}
+use Rattle.its_records.specs.declared.calls.Owed.TheVariants.{Store, GiveBack, Unlink, Link, Free, Leave}
+use Rattle.its_records.specs.declared.calls.Site.{Site}
 use Rattle.its_frame.specs.declared.decision.Held.{Held}
 use Rattle.its_frame.specs.declared.frame.Frame.{Frame}
 use Rattle.its_frame.specs.declared.frame.Frame.TheVariants.{Entered, Parsed, Asked, Holding, Waiting, Moving, Ending}

@@ -6,9 +6,9 @@ use Rattle.std.specs.List.{range_with_len}
 use Rattle.its_word.specs.ArrayVec.{ArrayVec}
 use Rattle.its_word.specs.Core.{Core}
 use Rattle.its_word.specs.declared.access.Fault.{Fault}
-use Rattle.its_word.specs.declared.calls.Arg.{Arg}
-use Rattle.its_word.specs.declared.calls.Ask.{Ask}
-use Rattle.its_word.specs.declared.calls.Site.{Site}
+use Rattle.its_records.specs.declared.calls.Arg.{Arg}
+use Rattle.its_records.specs.declared.calls.Ask.{Ask}
+use Rattle.its_records.specs.declared.calls.Site.{Site}
 use Rattle.its_plain.specs.UnitPlan.{given}
 use Rattle.its_plain.specs.Decode.{arguments, ask_of, iot_ask, parsed, words_of}
 use Rattle.its_plain.specs.Traced.{Traced}

@@ -5,11 +5,11 @@ use Rattle.std.proofs.lemmas.Bool.{lt-ltb}
 use Rattle.its_word.specs.ArrayVec.{ArrayVec}
 use Rattle.its_word.specs.Core.{Core}
 use Rattle.its_word.specs.declared.access.Fault.{Fault}
-use Rattle.its_word.specs.declared.calls.Ask.{Ask}
-use Rattle.its_word.specs.declared.calls.Pace.{Pace}
-use Rattle.its_word.specs.declared.calls.Pace.TheVariants.{Work}
-use Rattle.its_word.specs.declared.calls.Site.{Site}
-use Rattle.its_word.specs.declared.jobs.Job.{Job}
+use Rattle.its_records.specs.declared.calls.Ask.{Ask}
+use Rattle.its_records.specs.declared.calls.Pace.{Pace}
+use Rattle.its_records.specs.declared.calls.Pace.TheVariants.{Work}
+use Rattle.its_records.specs.declared.calls.Site.{Site}
+use Rattle.its_records.specs.declared.jobs.Job.{Job}
 use Rattle.its_calls.specs.Calls.{after_fetch, after_parse, entered_in, fault_of, gone_to, parsed_in, request, request_in, Request}
 use Rattle.its_calls.specs.declared.call.Next.{Next}
 use Rattle.its_calls.specs.declared.call.Next.TheVariants as next

@@ -1,7 +1,7 @@
 -- Whether the job of a slot runs: its raw registers say so.
 use Rattle.std.specs.Prelude.{◌≡◌, ℕ, not, false, Option, Some, None}
 use Rattle.std.proofs.Common.{sym, ap}
-use Rattle.its_word.specs.declared.jobs.Job.{Job}
+use Rattle.its_records.specs.declared.jobs.Job.{Job}
 use Rattle.its_core.specs.Cores.{core_at}
 use Rattle.its_jobs.specs.Table.{job_at, superior_at}
 use Rattle.its_plain.specs.Turns.{is_running, runs}

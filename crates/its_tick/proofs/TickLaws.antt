@@ -2,9 +2,9 @@
 use Rattle.std.specs.Prelude.{◌≡◌, ◌<◌, ℕ, Bool, true, false, Option, Some, None, IfSome, is_some, refl}
 use Rattle.std.proofs.Common.{sym, ◌∙◌, ap, subst}
 use Rattle.its_word.specs.Core.{Core}
-use Rattle.its_word.specs.declared.calls.Pace.{Pace}
-use Rattle.its_word.specs.declared.calls.Pace.TheVariants.{Step, Work, Wait, Off}
-use Rattle.its_word.specs.declared.jobs.Job.{Job}
+use Rattle.its_records.specs.declared.calls.Pace.{Pace}
+use Rattle.its_records.specs.declared.calls.Pace.TheVariants.{Step, Work, Wait, Off}
+use Rattle.its_records.specs.declared.jobs.Job.{Job}
 use Rattle.its_core.specs.Cores.{core_at}
 use Rattle.its_files.specs.Files.{Store}
 use Rattle.its_jobs.specs.Table.{job_at, superior_at}
@@ -38,7 +38,7 @@ use Rattle.its_machine.proofs.BareLaws.{deliverable_bare}
 use Rattle.its_world.proofs.StateLaws.{raw_job, raw_some, raw_none}
 use Rattle.its_tick.specs.Kept.{Kept}
 use Rattle.its_tick.specs.Ticks.{ticked}
-use Rattle.its_word.proofs.FreeLaws.{none_is}
+use Rattle.its_records.proofs.FreeLaws.{none_is}
 use Rattle.its_world.proofs.StorageLaws.{frame_is}
 use Rattle.its_tick.proofs.WaitsLaws.{kept_is}
 

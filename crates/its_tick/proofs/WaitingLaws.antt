@@ -2,10 +2,10 @@
 -- this letter in no other case.
 use Rattle.std.specs.Prelude.{if◌then◌else◌, ◌≡◌, ◌<◌, ◌==◌, ℕ, Bool, true, false, Option, Some, None, IfSome, List, [], refl}
 use Rattle.std.proofs.Common.{sym, ◌∙◌, ap, subst}
-use Rattle.its_word.specs.declared.calls.Ask.{Ask}
-use Rattle.its_word.specs.declared.calls.Pace.TheVariants.{Wait as Waited}
-use Rattle.its_word.specs.declared.calls.Site.{Site}
-use Rattle.its_word.specs.declared.jobs.Job.{Job}
+use Rattle.its_records.specs.declared.calls.Ask.{Ask}
+use Rattle.its_records.specs.declared.calls.Pace.TheVariants.{Wait as Waited}
+use Rattle.its_records.specs.declared.calls.Site.{Site}
+use Rattle.its_records.specs.declared.jobs.Job.{Job}
 use Rattle.its_core.specs.Cores.{core_at}
 use Rattle.its_core.specs.Frames.{Frames}
 use Rattle.its_jobs.specs.Table.{job_at, superior_at}

@@ -1,8 +1,8 @@
 -- What a tick of one slot leaves of another.
 -- No promise rests on this.
 use Rattle.std.specs.Prelude.{◌≡◌, ◌≢◌, ℕ, true, false, Option, Some, None, IfSome}
-use Rattle.its_word.specs.declared.calls.Pace.{Pace}
-use Rattle.its_word.specs.declared.calls.Pace.TheVariants.{Step, Work, Wait, Off}
+use Rattle.its_records.specs.declared.calls.Pace.{Pace}
+use Rattle.its_records.specs.declared.calls.Pace.TheVariants.{Step, Work, Wait, Off}
 use Rattle.its_plain.specs.CallStep.{disturbed}
 use Rattle.its_plain.specs.Machine.{Whole}
 use Rattle.its_stepped.specs.SlotSame.{SlotSame}

@@ -2,7 +2,7 @@
 -- have the same state.
 -- No promise rests on this.
 use Rattle.std.specs.Prelude.{if◌then◌else◌, ℕ, Bool, true, false, Option, Some, None, nat_lt}
-use Rattle.its_word.specs.declared.calls.Ask.{Ask}
+use Rattle.its_records.specs.declared.calls.Ask.{Ask}
 use Rattle.its_core.specs.Frames.{Frames, frames_reserve}
 use Rattle.its_frame.specs.declared.frame.Frame.{Frame}
 use Rattle.its_frame.specs.declared.frame.Frame.TheVariants.{Entered, Parsed, Asked, Holding, Waiting, Moving, Ending}

@@ -10,7 +10,7 @@ use Rattle.its_plain.specs.CallStep.{decision}
 use Rattle.its_plain.specs.Machine.{Whole}
 use Rattle.its_plain.specs.Reasons.{reason_in}
 use Rattle.its_stepped.specs.State.{State, plain}
-use Rattle.its_word.specs.Links.{most_links}
+use Rattle.its_records.specs.Links.{most_links}
 use Rattle.its_plain.specs.Moves.{Device, AtConsole, AtLink}
 use Rattle.its_world.specs.Rings.{ring_of, post_of, awake_head, Within}
 use Rattle.its_world.specs.World.{state_of}

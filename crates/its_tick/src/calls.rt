@@ -24,7 +24,8 @@ use its_calls::{Next, View};
 use its_commit::{carry_out, standing};
 use its_frame::Decision;
 use its_pclsr::unwind_one;
-use its_word::{Fault, Pace};
+use its_records::Pace;
+use its_word::Fault;
 use its_world::World;
 
 /// The quarters of a page.

@@ -20,6 +20,6 @@ mod ready;
 mod ticks;
 mod users;
 
-pub use its_word::Pace;
+pub use its_records::Pace;
 pub use its_world::World;
 pub use ticks::{running, steps, tick};

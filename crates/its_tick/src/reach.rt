@@ -14,7 +14,8 @@ ghost use Rattle.its_tick.specs.Ticks.{call_asked, closes_job, logs_out, slots_i
 use call_basic::target_of;
 use its_frame::CallName;
 use its_pclsr::{unwind, unwind_below};
-use its_word::{Ask, SLOTS};
+use its_records::Ask;
+use its_word::SLOTS;
 use its_world::World;
 
 /// The jobs that a call reaches: the one that its argument names, of UCLOSE with all jobs below it; or of LOGOUT all jobs

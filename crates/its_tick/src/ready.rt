@@ -19,7 +19,7 @@ use super::reach::{Reach, reach_of, unwind_reach};
 use call_file::helps;
 use its_commit::standing;
 use its_frame::{CallName, OnFiles};
-use its_word::Ask;
+use its_records::Ask;
 use its_world::World;
 
 /// What a call needs: whom it reaches, and whether it is one on files.

@@ -17,7 +17,7 @@ use super::calls::in_call;
 use super::users::{deliver_to, make_unit, units_in_place};
 use its_calls::View;
 use its_ints::deliverable;
-use its_word::Pace;
+use its_records::Pace;
 use its_world::World;
 
 /// A tick of a slot, and its letter. A slot whose call was found not ready and that is on a wait list waits on: its tick asks the list

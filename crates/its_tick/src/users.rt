@@ -23,7 +23,7 @@ use its_commit::apply;
 use its_core::Core;
 use its_frame::Change;
 use its_ints::{deliver, deliverable};
-use its_word::{Job, Pace, Site};
+use its_records::{Job, Pace, Site};
 use its_world::World;
 use pdp_exec::{Near, call_at_hand, run_units, site};
 

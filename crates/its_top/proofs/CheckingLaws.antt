@@ -5,10 +5,10 @@ use Rattle.std.specs.Io.KnownBytes.{Appends}
 use Rattle.std.proofs.KnownBytes.{Appends-nil}
 use Rattle.its_io.specs.Bytes.{Wrote}
 use Rattle.its_io.specs.declared.stream.Failed.{Failed}
-use Rattle.its_word.specs.Item.{Item}
-use Rattle.its_word.specs.declared.session.Event.{Event}
-use Rattle.its_word.specs.declared.session.Event.TheVariants as events
-use Rattle.its_word.specs.declared.session.Place.TheVariants as places
+use Rattle.its_records.specs.Item.{Item}
+use Rattle.its_records.specs.declared.session.Event.{Event}
+use Rattle.its_records.specs.declared.session.Event.TheVariants as events
+use Rattle.its_records.specs.declared.session.Place.TheVariants as places
 use Rattle.its_session.specs.Events.{events_of}
 use Rattle.its_reader.specs.declared.items.Found.{Found}
 use Rattle.its_reader.specs.declared.items.Found.TheVariants.{Line, Bad}

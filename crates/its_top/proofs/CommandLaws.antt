@@ -20,7 +20,7 @@ use Rattle.clap.specs.declared.error.kind.ErrorKind.TheVariants as kinds
 use Rattle.clap.proofs.OnLiterals.{clap_on_literals}
 use Rattle.its_top.specs.declared.commands.Command.{Command}
 use Rattle.its_top.specs.Commands.{bare_command, counted_command, command_from, command_of, is_option, is_rounds, IfGenerates}
-use Rattle.its_word.proofs.TreeLaws.{and_false}
+use Rattle.its_records.proofs.TreeLaws.{and_false}
 
 -- the command line that is parsed
 abbrev pub named : App

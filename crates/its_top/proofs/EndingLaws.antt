@@ -4,13 +4,13 @@ use Rattle.std.specs.Prelude.{codes}
 use Rattle.std.specs.List.{concat, list_all}
 use Rattle.std.proofs.lemmas.Bool.{cases_Bool}
 use Rattle.std.proofs.lemmas.Slice.Eq.{bytes_eq-Decides}
-use Rattle.its_word.specs.Item.{Item, Read}
+use Rattle.its_records.specs.Item.{Item, Read}
 use Rattle.its_word.specs.Text.{is_code, words_of}
-use Rattle.its_word.specs.declared.session.Bad.{Bad}
-use Rattle.its_word.specs.declared.session.Event.{Event}
-use Rattle.its_word.specs.declared.session.Event.TheVariants as events
-use Rattle.its_word.specs.declared.session.Place.{Place}
-use Rattle.its_word.specs.declared.session.Place.TheVariants as places
+use Rattle.its_records.specs.declared.session.Bad.{Bad}
+use Rattle.its_records.specs.declared.session.Event.{Event}
+use Rattle.its_records.specs.declared.session.Event.TheVariants as events
+use Rattle.its_records.specs.declared.session.Place.{Place}
+use Rattle.its_records.specs.declared.session.Place.TheVariants as places
 use Rattle.its_session.specs.Events.{events_of, item_then, items_from, lines_from, most_lines, place_after, version_after}
 use Rattle.its_session.specs.Grammar.{bare_line, event_of_words, kind_of, line_event, may_stand}
 use Rattle.its_session.specs.declared.kind.Kind.TheVariants as kinds

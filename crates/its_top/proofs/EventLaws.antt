@@ -2,11 +2,11 @@
 use Rattle.std.specs.Prelude.{◌≡◌, ◌≢◌, ℕ, ◌+◌, Bool, true, Some, Ok, Err, List, [], ◌∷◌, ◌++◌, refl}
 use Rattle.std.proofs.Common.{sym, ◌∙◌, ap, append_assoc, append-nil}
 use Rattle.std.proofs.lemmas.Grind.{flat_map-append}
-use Rattle.its_word.specs.declared.calls.Pace.{Pace}
-use Rattle.its_word.specs.declared.session.Event.{Event}
-use Rattle.its_word.specs.declared.session.Event.TheVariants as events
-use Rattle.its_word.specs.declared.session.Refusal.{Refusal}
-use Rattle.its_word.specs.declared.show.Peek.{Peek}
+use Rattle.its_records.specs.declared.calls.Pace.{Pace}
+use Rattle.its_records.specs.declared.session.Event.{Event}
+use Rattle.its_records.specs.declared.session.Event.TheVariants as events
+use Rattle.its_records.specs.declared.session.Refusal.{Refusal}
+use Rattle.its_records.specs.declared.show.Peek.{Peek}
 use Rattle.its_print.specs.Printing.{Line, text_of_line, text}
 use Rattle.its_print.specs.Printing as printed
 use Rattle.its_plain.specs.Machine.{Machine}
@@ -16,7 +16,7 @@ use Rattle.its_stepped.specs.State.{State}
 use Rattle.its_stepped.specs.Lines.{Told, telling, after_calm, with_raw, peeked, paces_of, after_ticks, told_by, line_told}
 use Rattle.its_world.specs.World.{state_of}
 use Rattle.its_world.specs.declared.world.World.{World}
-use Rattle.its_word.specs.Refusals.{reason_of}
+use Rattle.its_records.specs.Refusals.{reason_of}
 use Rattle.its_top.specs.declared.shown.Over.TheVariants as overs
 use Rattle.its_top.specs.declared.shown.Reply.TheVariants as replies
 use Rattle.its_top.specs.declared.shown.Shown.{Shown}

@@ -9,9 +9,9 @@ use Rattle.std.proofs.lemmas.List.{drop-drop, length-map, length-drop, get_or-dr
 use Rattle.std.proofs.lemmas.List.Sums.{length-filter, count_by-le-length}
 use Rattle.std.proofs.lemmas.Option.{slice_get_within, slice_get-get_or, get_or_from_slice_get}
 use Rattle.its_word.specs.Directory.{same_names, longer}
-use Rattle.its_word.specs.declared.session.Reason.{Reason}
-use Rattle.its_word.specs.declared.session.Refusal.{Refusal}
-use Rattle.its_word.specs.declared.show.FileShow.{FileShow}
+use Rattle.its_records.specs.declared.session.Reason.{Reason}
+use Rattle.its_records.specs.declared.session.Refusal.{Refusal}
+use Rattle.its_records.specs.declared.show.FileShow.{FileShow}
 use Rattle.its_print.specs.Printing.{Line, text_of_line, text}
 use Rattle.its_print.specs.Printing as printed
 use Rattle.its_files.specs.Files.{Store, entry_at, is_file, names_at, words_at, file_at, directory, after_help}
@@ -30,7 +30,7 @@ use Rattle.its_world.specs.World.{state_of}
 use Rattle.its_world.specs.declared.world.World.{World}
 use Rattle.its_world.proofs.MarkLaws.{none_marked, made_none}
 use Rattle.its_machine.proofs.StoreLaws.{changed_same}
-use Rattle.its_word.specs.Refusals.{reason_of}
+use Rattle.its_records.specs.Refusals.{reason_of}
 use Rattle.its_monitor.specs.Kept.{Lands, FileRefused}
 use Rattle.its_monitor.specs.Filing.{word_if, length_if}
 use Rattle.its_top.specs.declared.flow.Flow.{Flow}

@@ -2,9 +2,9 @@
 -- job to user mode.
 use Rattle.std.specs.Prelude.{◌≡◌, ◌<◌, ◌+◌, ℕ, true, false, None, Result, Ok, Err, OnOk, IfErr, List, [], ◌∷◌, length, drop, slice_index, refl}
 use Rattle.std.proofs.Common.{sym, ◌∙◌, ap, arith, drop-cons, add-one}
-use Rattle.its_word.specs.declared.session.Reason.{Reason}
-use Rattle.its_word.specs.declared.session.Reason.TheVariants.{ReadOnly}
-use Rattle.its_word.specs.declared.session.Refusal.{Refusal}
+use Rattle.its_records.specs.declared.session.Reason.{Reason}
+use Rattle.its_records.specs.declared.session.Reason.TheVariants.{ReadOnly}
+use Rattle.its_records.specs.declared.session.Refusal.{Refusal}
 use Rattle.its_plain.specs.Machine.{Machine}
 use Rattle.its_plain.specs.Operator.{and_then}
 use Rattle.its_plain.specs.OperatorJobs.{words_barred, with_words_loaded_if, with_word_loaded, with_words_stored, with_words_loaded}
@@ -13,7 +13,7 @@ use Rattle.its_stepped.specs.Unwind.{unwound}
 use Rattle.its_stepped.specs.Lines.{with_raw}
 use Rattle.its_stepped.specs.Sound.{Sound}
 use Rattle.its_stepped.proofs.UnwindLaws.{unwound_none, unwound_still}
-use Rattle.its_word.specs.Refusals.{reason_of}
+use Rattle.its_records.specs.Refusals.{reason_of}
 use Rattle.its_monitor.specs.Kept.{Lands}
 use Rattle.its_top.specs.Answer.{LoadSo}
 

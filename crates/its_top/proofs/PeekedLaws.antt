@@ -3,15 +3,15 @@ use Rattle.std.proofs.Common.{◌≡◌, ◌≤◌, ◌<◌, ◌+◌, ◌/◌, �
 use Rattle.std.specs.Prelude.{IfOk}
 use Rattle.std.specs.List.{AllByRecursion, list_all}
 use Rattle.std.proofs.lemmas.Bool.{cases_Bool}
-use Rattle.its_word.specs.Item.{Item, Read, Unread, Beyond}
+use Rattle.its_records.specs.Item.{Item, Read, Unread, Beyond}
 use Rattle.its_word.specs.Text.{is_code, words_of}
-use Rattle.its_word.specs.declared.session.Bad.{Bad}
-use Rattle.its_word.specs.declared.session.Event.{Event}
-use Rattle.its_word.specs.declared.session.Event.TheVariants as events
-use Rattle.its_word.specs.declared.session.Place.{Place}
-use Rattle.its_word.specs.declared.session.Place.TheVariants as places
-use Rattle.its_word.specs.declared.session.Reason.{Reason}
-use Rattle.its_word.specs.declared.show.JobShow.{JobShow}
+use Rattle.its_records.specs.declared.session.Bad.{Bad}
+use Rattle.its_records.specs.declared.session.Event.{Event}
+use Rattle.its_records.specs.declared.session.Event.TheVariants as events
+use Rattle.its_records.specs.declared.session.Place.{Place}
+use Rattle.its_records.specs.declared.session.Place.TheVariants as places
+use Rattle.its_records.specs.declared.session.Reason.{Reason}
+use Rattle.its_records.specs.declared.show.JobShow.{JobShow}
 use Rattle.its_print.specs.Printing.{Line, Peeked}
 use Rattle.its_print.specs.Printing as printed
 use Rattle.its_session.specs.Events.{end_of, events_of, item_then, items_from, lines_from, most_lines, place_after, version_after}

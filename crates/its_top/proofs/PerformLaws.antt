@@ -2,14 +2,14 @@
 use Rattle.std.specs.Prelude.{◌≡◌, ◌<◌, ◌≤◌, ◌+◌, ◌^◌, ℕ, Bool, true, Option, Some, None, IfSome, is_some, Result, Ok, Err, OnOk, IfErr, List, [], ◌∷◌, length, take, refl}
 use Rattle.std.proofs.Common.{sym, ◌∙◌, ap, subst, arith}
 use Rattle.its_files.specs.Files.{entry_at, is_file, file_at}
-use Rattle.its_word.specs.declared.session.Event.{Event}
-use Rattle.its_word.specs.declared.session.Event.TheVariants as events
-use Rattle.its_word.specs.declared.session.Reason.{Reason}
-use Rattle.its_word.specs.declared.session.Refusal.{Refusal}
-use Rattle.its_word.specs.declared.session.Refusal.TheVariants as refusals
-use Rattle.its_word.specs.declared.show.JobShow.{JobShow}
-use Rattle.its_word.specs.declared.show.Peek.{Peek}
-use Rattle.its_word.specs.declared.calls.Pace.{Pace}
+use Rattle.its_records.specs.declared.session.Event.{Event}
+use Rattle.its_records.specs.declared.session.Event.TheVariants as events
+use Rattle.its_records.specs.declared.session.Reason.{Reason}
+use Rattle.its_records.specs.declared.session.Refusal.{Refusal}
+use Rattle.its_records.specs.declared.session.Refusal.TheVariants as refusals
+use Rattle.its_records.specs.declared.show.JobShow.{JobShow}
+use Rattle.its_records.specs.declared.show.Peek.{Peek}
+use Rattle.its_records.specs.declared.calls.Pace.{Pace}
 use Rattle.its_print.specs.Printing as printed
 use Rattle.its_plain.specs.Machine.{Names, File, Whole, Machine}
 use Rattle.its_plain.specs.Own.{names_of}
@@ -27,7 +27,7 @@ use Rattle.its_stepped.specs.Unwind.{unwound, help}
 use Rattle.its_stepped.specs.Lines.{after_calm, peeked, paces_of, after_ticks}
 use Rattle.its_world.specs.World.{state_of}
 use Rattle.its_world.specs.declared.world.World.{World}
-use Rattle.its_word.specs.Refusals.{reason_of}
+use Rattle.its_records.specs.Refusals.{reason_of}
 use Rattle.its_monitor.specs.Kept.{Lands, Loads}
 use Rattle.its_monitor.specs.Kept as kept
 use Rattle.its_monitor.specs.Rung.{roused}

@@ -8,12 +8,12 @@ use Rattle.std.proofs.lemmas.List.{length-take}
 use Rattle.its_word.specs.Console.{Console, most_waiting}
 use Rattle.its_word.specs.Core.{Core, Page, word_at, can_store, page_of}
 use Rattle.its_word.specs.Limits.{most_symbols}
-use Rattle.its_word.specs.Tree.{least_free, no_job}
-use Rattle.its_word.specs.declared.jobs.Job.{Job}
-use Rattle.its_word.specs.declared.session.Event.{Event}
-use Rattle.its_word.specs.declared.session.Event.TheVariants as events
-use Rattle.its_word.specs.declared.session.Reason.{Reason}
-use Rattle.its_word.specs.declared.show.JobShow.{JobShow}
+use Rattle.its_records.specs.Tree.{least_free, no_job}
+use Rattle.its_records.specs.declared.jobs.Job.{Job}
+use Rattle.its_records.specs.declared.session.Event.{Event}
+use Rattle.its_records.specs.declared.session.Event.TheVariants as events
+use Rattle.its_records.specs.declared.session.Reason.{Reason}
+use Rattle.its_records.specs.declared.show.JobShow.{JobShow}
 use Rattle.its_print.specs.Printing.{Line}
 use Rattle.its_print.specs.Printing as printed
 use Rattle.its_plain.specs.OperatorClock.{clock_end, after_clock_if, after_clock}

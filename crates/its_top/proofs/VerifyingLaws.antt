@@ -3,7 +3,7 @@ use Rattle.std.specs.Prelude.{◌≡◌, ◌≢◌, ◌⊎◌, ℕ, ◌+◌, Opt
 use Rattle.std.proofs.Common.{sym, ◌∙◌, subst, inl, inr}
 use Rattle.std.specs.Io.KnownBytes.{Appends}
 use Rattle.std.proofs.KnownBytes.{Appends-nil}
-use Rattle.its_word.specs.declared.session.Reason.TheVariants as reasons
+use Rattle.its_records.specs.declared.session.Reason.TheVariants as reasons
 use Rattle.its_print.specs.Printing.{Refused, text, text_of_line}
 use Rattle.its_verify.specs.Finds.{Breaks, Found, ReadsOut}
 use Rattle.its_verify.specs.declared.keeping.Broken.TheVariants.{Source}

@@ -2,7 +2,7 @@
 use Rattle.std.proofs.Common.{◌≡◌, ◌≤◌, ◌+◌, ℕ, true, List, [], ◌∷◌, ◌++◌, length, map, refl, sym, ap, subst, ◌∙◌, append-nil}
 use Rattle.std.specs.List.{concat}
 use Rattle.its_print.specs.Printing.{Line, Peeked, text, text_of_line}
-use Rattle.its_word.specs.declared.show.Peek.{Peek}
+use Rattle.its_records.specs.declared.show.Peek.{Peek}
 use Rattle.std.specs.Prelude.{bytes_eq}
 use Rattle.std.proofs.lemmas.Slice.Eq.{bytes_eq-Decides}
 use Rattle.its_session.specs.Events.{events_of, most_lines}

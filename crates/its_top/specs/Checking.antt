@@ -3,8 +3,8 @@
 use Rattle.std.specs.Prelude.{if◌then◌else◌, ◌≡◌, ℕ, ◌+◌, ◌-◌, true, false, Option, Some, None, IfSome, IfOk, Result, Ok, Err, List, [], ◌∷◌, ◌++◌, codes}
 use Rattle.std.specs.Io.KnownBytes.{Appends, Consumes}
 use Rattle.its_io.specs.declared.stream.Failed.{Failed}
-use Rattle.its_word.specs.Item.{Item, Read, Unread}
-use Rattle.its_word.specs.Item as items
+use Rattle.its_records.specs.Item.{Item, Read, Unread}
+use Rattle.its_records.specs.Item as items
 use Rattle.its_print.specs.Printing.{text_of_line}
 use Rattle.its_print.specs.Printing as printed
 use Rattle.its_session.specs.Events.{events_of, whole_events_of}

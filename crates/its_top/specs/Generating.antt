@@ -1,10 +1,10 @@
 -- What `its gen N` counts in a generated session, and what it writes of it (docs/SESSION.md, "its gen").
 -- No promise rests on this.
 use Rattle.std.specs.Prelude.{◌≡◌, ℕ, ◌+◌, Bool, true, false, Result, Ok, List, [], ◌∷◌, ◌++◌, map, length, codes}
-use Rattle.its_word.specs.Item.{Item, Read}
-use Rattle.its_word.specs.declared.calls.Pace.{Pace}
-use Rattle.its_word.specs.declared.calls.Pace.TheVariants as paces
-use Rattle.its_word.specs.declared.session.Event.{Event}
+use Rattle.its_records.specs.Item.{Item, Read}
+use Rattle.its_records.specs.declared.calls.Pace.{Pace}
+use Rattle.its_records.specs.declared.calls.Pace.TheVariants as paces
+use Rattle.its_records.specs.declared.session.Event.{Event}
 use Rattle.its_print.specs.Printing.{Line}
 use Rattle.its_print.specs.Printing as printed
 use Rattle.its_session.specs.Generated.{generated_session}

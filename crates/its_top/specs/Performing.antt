@@ -2,9 +2,9 @@
 -- No promise rests on this.
 use Rattle.std.specs.Prelude.{◌≡◌, ◌<◌, ◌^◌, ℕ, ◌+◌, true, false, Some, Result, Ok, Err, IfOk, OnOk, None, List, [], ◌∷◌, length}
 use Rattle.its_files.specs.Files.{entry_at, is_file, words_at}
-use Rattle.its_word.specs.declared.calls.Pace.{Pace}
-use Rattle.its_word.specs.declared.session.Event.{Event}
-use Rattle.its_word.specs.declared.session.Refusal.{Refusal}
+use Rattle.its_records.specs.declared.calls.Pace.{Pace}
+use Rattle.its_records.specs.declared.session.Event.{Event}
+use Rattle.its_records.specs.declared.session.Refusal.{Refusal}
 use Rattle.its_print.specs.Printing.{Line}
 use Rattle.its_print.specs.Printing as printed
 use Rattle.its_plain.specs.Operator.{Block}
@@ -14,7 +14,7 @@ use Rattle.its_stepped.specs.State.{State}
 use Rattle.its_stepped.specs.Lines.{Told, telling, line_told}
 use Rattle.its_world.specs.World.{state_of}
 use Rattle.its_world.specs.declared.world.World.{World}
-use Rattle.its_word.specs.Refusals.{reason_of}
+use Rattle.its_records.specs.Refusals.{reason_of}
 use Rattle.its_top.specs.declared.shown.Over.{Over}
 use Rattle.its_top.specs.declared.shown.Over.TheVariants as overs
 use Rattle.its_top.specs.declared.shown.Reply.{Reply}

@@ -1,9 +1,9 @@
 -- What a session writes from some point on, over its items.
 -- No promise rests on this.
 use Rattle.std.specs.Prelude.{◌≡◌, ℕ, ◌+◌, Bool, true, false, Some, List, ◌∷◌, ◌++◌}
-use Rattle.its_word.specs.Item.{Item, Read}
-use Rattle.its_word.specs.declared.session.Event.{Event}
-use Rattle.its_word.specs.declared.session.Event.TheVariants as events
+use Rattle.its_records.specs.Item.{Item, Read}
+use Rattle.its_records.specs.declared.session.Event.{Event}
+use Rattle.its_records.specs.declared.session.Event.TheVariants as events
 use Rattle.its_print.specs.Printing.{text}
 use Rattle.its_plain.specs.Operator.{Block}
 use Rattle.its_plain.specs.Transcript.{Fate, Ended, Refused}

@@ -15,7 +15,7 @@ use super::progress::Progress;
 use super::shown::Reply;
 use its_io::Sink;
 use its_monitor::Monitor;
-use its_word::Event;
+use its_records::Event;
 
 /// The answer to an event: what it does to the monitor and to the block, and what it shows.
 #[tactic(auto, using(crate::proofs::AnswerLaws::answered_by))]

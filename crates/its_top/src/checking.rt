@@ -10,7 +10,7 @@ use arrayvec::ArrayVec;
 use its_io::{Failed, Sink, Source, write_all};
 use its_print::print_refusal;
 use its_reader::{Found, Items};
-use its_word::{Event, Reason};
+use its_records::{Event, Reason};
 
 /// The result of a session, by the grammar alone.
 #[derive(Clone, Copy, Debug, PartialEq, Eq)]

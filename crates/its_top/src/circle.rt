@@ -14,8 +14,9 @@ use super::performing::Runs;
 use super::progress::Progress;
 use its_io::Sink;
 use its_monitor::Monitor;
+use its_records::Event;
 use its_robin::next;
-use its_word::{Event, SLOTS};
+use its_word::SLOTS;
 
 /// The highest slot: before the first turn of a session it is the last one.
 pub const HIGHEST: u8 = SLOTS as u8 - 1;

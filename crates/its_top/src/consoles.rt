@@ -8,7 +8,8 @@ ghost use Rattle.its_world.specs.World.{state_of};
 ghost use Rattle.its_monitor.specs.Kept.{Kept, Lands, Loads, Refused};
 
 use its_monitor::Monitor;
-use its_word::{Refusal, Word};
+use its_records::Refusal;
+use its_word::Word;
 
 /// LOAD of a job on a console, or on none.
 #[tactic(auto, using(its_monitor::proofs::ConsoleLaws::refused_there))]

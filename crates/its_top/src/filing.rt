@@ -1,12 +1,12 @@
 //! The lines on files: FILE with its words, DIR and SHOW.
 ghost use Rattle.std.specs.Prelude.{◌≡◌, ◌≤◌, ◌<◌, ◌+◌, ◌-◌, ◌/◌, List, true, None, Ok, Err, IfErr, OnOk, length, map, min, take, drop};
-ghost use Rattle.its_word.specs.declared.calls.Pace.{Pace};
+ghost use Rattle.its_records.specs.declared.calls.Pace.{Pace};
 ghost use Rattle.its_files.specs.Files.{entry_at, is_file, words_at};
 ghost use Rattle.its_plain.specs.Operator.{Block};
 ghost use Rattle.its_plain.specs.OperatorFiles.{with_word_added, with_words_added, files_in, filed_line, listing, shown_lines, rows};
 ghost use Rattle.its_stepped.specs.Unwind.{help};
 ghost use Rattle.its_world.specs.World.{state_of};
-ghost use Rattle.its_word.specs.Refusals.{reason_of};
+ghost use Rattle.its_records.specs.Refusals.{reason_of};
 ghost use Rattle.its_monitor.specs.Kept.{Kept, Lands};
 ghost use Rattle.its_print.specs.Printing.{Filed, Row, text_of_line, text};
 ghost use Rattle.its_top.specs.Causes.{FlowCause};
@@ -21,7 +21,8 @@ use arrayvec::ArrayVec;
 use its_io::Sink;
 use its_monitor::Monitor;
 use its_print::{print_dir, print_file, print_row, print_show};
-use its_word::{Event, FileShow, Refusal, Word};
+use its_records::{Event, FileShow, Refusal};
+use its_word::Word;
 
 /// How many files there are at most.
 const MOST_FILES: u32 = 256;

@@ -23,8 +23,9 @@ use arrayvec::ArrayVec;
 use its_io::{Failed, Sink, write_all};
 use its_monitor::Monitor;
 use its_print::Run;
+use its_records::{Event, Pace};
 use its_session::generated;
-use its_word::{Event, Pace, Word};
+use its_word::Word;
 
 /// How many ticks were marked `*`, and how many bytes were drained.
 #[derive(Clone, Copy, Debug, PartialEq, Eq)]

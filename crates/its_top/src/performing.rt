@@ -1,7 +1,7 @@
 //! An event is performed: what it does to the monitor and to the block, and what it shows.
 ghost use Rattle.std.specs.Prelude.{◌≡◌, ◌↔◌, ◌≤◌, ◌<◌, ◌+◌, ◌-◌, ◌^◌, IsTrue, Ok, Err, IfSome, IfOk, IfErr, OnOk, List, ◌∷◌, [], length, take};
 ghost use Rattle.its_word.specs.Limits.{slots};
-ghost use Rattle.its_word.specs.declared.calls.Pace.{Pace};
+ghost use Rattle.its_records.specs.declared.calls.Pace.{Pace};
 ghost use Rattle.its_session.specs.Fits.{EventFits};
 ghost use Rattle.its_plain.specs.Operator.{Block};
 ghost use Rattle.its_plain.specs.OperatorJobs.{with_words_loaded, with_words_stored, examined};
@@ -9,7 +9,7 @@ ghost use Rattle.its_plain.specs.OperatorConsoles.{with_typed, dropped, after_dr
 ghost use Rattle.its_stepped.specs.Unwind.{unwound};
 ghost use Rattle.its_stepped.specs.Lines.{paces_of, after_ticks};
 ghost use Rattle.its_world.specs.World.{state_of};
-ghost use Rattle.its_word.specs.Refusals.{reason_of};
+ghost use Rattle.its_records.specs.Refusals.{reason_of};
 ghost use Rattle.its_monitor.specs.Kept.{Kept, Lands};
 ghost use Rattle.its_print.specs.Runs.{paces_in};
 ghost use Rattle.its_top.specs.Answer.{FindsStart, block_of};
@@ -22,7 +22,8 @@ use super::shown::{Over, Reply, Shown};
 use arrayvec::ArrayVec;
 use its_monitor::Monitor;
 use its_print::Run;
-use its_word::{Event, Pace, Refusal, Word};
+use its_records::{Event, Pace, Refusal};
+use its_word::Word;
 
 /// Room for the letters of a line, as runs. A session makes it once: to make it costs more than a line.
 pub type Runs = ArrayVec<Run, 512>;

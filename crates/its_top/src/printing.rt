@@ -20,7 +20,7 @@ use its_monitor::Monitor;
 use its_print::{
     print_drained, print_loaded, print_peek, print_state, print_ticks, print_typed, print_words,
 };
-use its_word::Refusal;
+use its_records::Refusal;
 
 /// Writes the lines of the result of line `number`. The monitor is unchanged, and files are read from it.
 #[tactic(auto, using(crate::proofs::WritingLaws::tells_nothing, crate::proofs::WritingLaws::tells_one))]

@@ -1,5 +1,6 @@
 use arrayvec::ArrayVec;
-use its_word::{JobShow, Peek, Refusal, Word};
+use its_records::{JobShow, Peek, Refusal};
+use its_word::Word;
 
 /// A line of the transcript. The letters of a `T` line are in the room for them.
 #[derive(Debug, PartialEq, Eq, Drop)]

@@ -13,8 +13,8 @@ use super::status::Status;
 use arrayvec::ArrayVec;
 use its_io::{Sink, Source};
 use its_print::print_refusal;
+use its_records::Reason;
 use its_verify::{Broken, Outcome, verify};
-use its_word::Reason;
 use std::alloc::Global;
 
 /// Judges the transcript that follows a session in what the source gives: writes `YES n` or `NO n`, or the `?` line of a session that

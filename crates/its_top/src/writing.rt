@@ -1,7 +1,7 @@
 ghost use Rattle.std.specs.Prelude.{◌≡◌, ◌≢◌, ◌≤◌, ◌-◌};
 ghost use Rattle.its_io.specs.Bytes.{next_fault};
 ghost use Rattle.its_print.specs.Printing.{Refused, text_of_line};
-ghost use Rattle.its_word.specs.Refusals.{reason_of};
+ghost use Rattle.its_records.specs.Refusals.{reason_of};
 ghost use Rattle.its_top.specs.Causes.{FlowCause};
 ghost use Rattle.its_top.specs.Answer.{Tells};
 
@@ -9,7 +9,7 @@ use super::flow::Flow;
 use arrayvec::ArrayVec;
 use its_io::{Sink, write_all};
 use its_print::print_refusal;
-use its_word::{Reason, Refusal};
+use its_records::{Reason, Refusal};
 
 /// Writes the bytes of a line, after which the flow is `good`.
 #[tactic(auto, using(crate::proofs::WritingLaws::told_all, crate::proofs::WritingLaws::told_begun))]

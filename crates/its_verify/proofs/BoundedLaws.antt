@@ -2,7 +2,7 @@
 -- line for which there is room.
 use Rattle.std.proofs.Common.{◌≡◌, ◌<◌, ◌≤◌, ◌⊎◌, ℕ, leb, List, length, take, refl, sym, ap, subst, ◌∙◌, inl, inr, arith, take-take, length-take}
 use Rattle.std.proofs.lemmas.Bool.{cases_Bool, cases_lt, le-leb, lt-leb, leb-true}
-use Rattle.its_word.specs.Item.{Item}
+use Rattle.its_records.specs.Item.{Item}
 use Rattle.its_plain.specs.Transcript.{at_start}
 use Rattle.its_plain.specs.Turns.{highest}
 use Rattle.its_verify.specs.Accepted.{AcceptedLines, BeginsTranscript, IsFirst}

@@ -1,9 +1,9 @@
 -- Worked examples of the judge, evaluated: the transcripts of small sessions, whole and with one letter, line or LF changed.
 use Rattle.std.specs.Prelude.{◌≡◌, ℕ, true, false, Some, List, [], ◌∷◌, ◌++◌, codes, map, refl, replicate}
 use Rattle.its_robin.specs.Robin.{first_running, robin}
-use Rattle.its_word.specs.Item.{Read}
+use Rattle.its_records.specs.Item.{Read}
 use Rattle.its_word.specs.Text.{digits_of, is_octal, octal_value, spaced, words_of}
-use Rattle.its_word.specs.declared.session.Event.TheVariants as events
+use Rattle.its_records.specs.declared.session.Event.TheVariants as events
 use Rattle.its_print.specs.Printing.{runs_of, text_of_line}
 use Rattle.its_session.specs.Events.{events_of}
 use Rattle.its_session.specs.Grammar.{bare_line, event_of_words, kind_of, last_slot, line_event, slot_line, tick_line}

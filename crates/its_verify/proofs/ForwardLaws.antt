@@ -1,6 +1,6 @@
 -- What is said from a place of a transcript on speaks of no line before it.
 use Rattle.std.proofs.Common.{ℕ, List, [], ◌∷◌}
-use Rattle.its_word.specs.Item.{Item, Read, Unread, Beyond}
+use Rattle.its_records.specs.Item.{Item, Read, Unread, Beyond}
 use Rattle.its_print.specs.Printing.{Refused}
 use Rattle.its_plain.specs.Operator.{Does, Quits, Refuses, Ticks}
 use Rattle.its_plain.specs.OperatorLines.{Done, Lined, Peeks, lined}

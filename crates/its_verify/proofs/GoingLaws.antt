@@ -3,11 +3,11 @@ use Rattle.std.proofs.Common.{◌≡◌, ◌<◌, ◌+◌, ℕ, Bool, true, fals
 use Rattle.std.proofs.lemmas.Bool.{false≢true}
 use Rattle.its_io.specs.declared.stream.Failed.{Failed}
 use Rattle.its_word.specs.Limits.{slots}
-use Rattle.its_word.specs.declared.session.Event.{Event}
-use Rattle.its_word.specs.declared.session.Event.TheVariants as events
-use Rattle.its_word.specs.declared.session.Reason.{Reason}
-use Rattle.its_word.specs.declared.session.Refusal.{Refusal}
-use Rattle.its_word.specs.declared.show.JobShow.{JobShow}
+use Rattle.its_records.specs.declared.session.Event.{Event}
+use Rattle.its_records.specs.declared.session.Event.TheVariants as events
+use Rattle.its_records.specs.declared.session.Reason.{Reason}
+use Rattle.its_records.specs.declared.session.Refusal.{Refusal}
+use Rattle.its_records.specs.declared.show.JobShow.{JobShow}
 use Rattle.its_print.specs.Printing.{Line, Refused, State, listed}
 use Rattle.its_plain.specs.Machine.{Machine, Whole}
 use Rattle.its_plain.specs.Operator.{Block, Does, Quits, Ticks, no_block, nobody}
@@ -17,7 +17,7 @@ use Rattle.its_plain.specs.OperatorLines.{Lined, Done, Peeks, by_exam, by_state,
 use Rattle.its_plain.specs.Transcript.{Walk, next_line}
 use Rattle.its_direct.specs.Plain.{machine_of, is_touched}
 use Rattle.its_direct.specs.Events.{Obeys, Says as AnswerSays, Speaks, Told}
-use Rattle.its_word.specs.Refusals.{reason_of}
+use Rattle.its_records.specs.Refusals.{reason_of}
 use Rattle.its_direct.specs.declared.events.Answer.{Answer}
 use Rattle.its_direct.specs.declared.events.Answer.TheVariants.{Nothing, Slot, Dropped, Drained}
 use Rattle.its_direct.specs.declared.plain.Spot.{Spot}

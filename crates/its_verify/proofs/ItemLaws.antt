@@ -1,9 +1,9 @@
 -- The items of a session, if the bytes of its source are known.
 use Rattle.std.proofs.Common.{◌≡◌, ℕ, Bool, true, false, Option, Ok, List, [], ◌∷◌, ◌++◌, refl, sym, ap, subst, ◌∙◌}
-use Rattle.its_word.specs.Item.{Unread}
-use Rattle.its_word.specs.Item as items
-use Rattle.its_word.specs.declared.session.Event.{Event}
-use Rattle.its_word.specs.declared.session.Reason.{Reason}
+use Rattle.its_records.specs.Item.{Unread}
+use Rattle.its_records.specs.Item as items
+use Rattle.its_records.specs.declared.session.Event.{Event}
+use Rattle.its_records.specs.declared.session.Reason.{Reason}
 use Rattle.its_session.specs.Events.{item_then}
 use Rattle.its_reader.specs.declared.items.Found.TheVariants.{Line, Bad, Beyond, End}
 use Rattle.its_reader.specs.declared.items.Items.{Items}

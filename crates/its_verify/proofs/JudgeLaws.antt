@@ -1,10 +1,10 @@
 -- The judge is right about the lines that are a transcript from a state of the session on.
 use Rattle.std.proofs.Common.{◌≡◌, ℕ, zero, suc, Bool, true, Option, Some, None, List, [], ◌∷◌, ◌++◌, length, refl, subst}
 use Rattle.std.proofs.lemmas.Slice.Eq.{bytes_eq-Decides}
-use Rattle.its_word.specs.Item.{Item, Read, Unread, Beyond}
-use Rattle.its_word.specs.declared.calls.Pace.{Pace}
-use Rattle.its_word.specs.declared.show.Peek.{Peek}
-use Rattle.its_word.specs.declared.show.PeekState.TheVariants.{User}
+use Rattle.its_records.specs.Item.{Item, Read, Unread, Beyond}
+use Rattle.its_records.specs.declared.calls.Pace.{Pace}
+use Rattle.its_records.specs.declared.show.Peek.{Peek}
+use Rattle.its_records.specs.declared.show.PeekState.TheVariants.{User}
 use Rattle.std.specs.Prelude.{bytes_eq, codes}
 use Rattle.its_print.specs.Printing.{Line, Ticks, Peeked, text_of_line}
 use Rattle.its_print.specs.Printing as printed

@@ -4,7 +4,7 @@ use Rattle.std.proofs.Math.Seq.{drop-cons}
 use Rattle.std.proofs.Math.ListN.{drop_of_length-le}
 use Rattle.std.proofs.lemmas.Bool.{false≢true}
 use Rattle.std.specs.Prelude.{option_and_then}
-use Rattle.its_word.specs.declared.calls.Pace.{Pace}
+use Rattle.its_records.specs.declared.calls.Pace.{Pace}
 use Rattle.its_print.specs.declared.runs.Run.{Run}
 use Rattle.its_print.specs.Runs.{paces_in}
 use Rattle.its_plain.specs.Licence.{Dots}

@@ -3,8 +3,8 @@ use Rattle.std.proofs.Common.{◌≡◌, ◌<◌, ◌==◌, ◌&&◌, ℕ, zero,
 use Rattle.std.proofs.lemmas.Bool.{cases_Bool, false≢true, and_parts, eqb-true, eq-eqb, lt-ltb, ltb-true, not-true, not-false}
 use Rattle.std.proofs.lemmas.Slice.Eq.{bytes_eq-Decides}
 use Rattle.std.specs.Prelude.{is_none, nat_lt, option_and_then}
-use Rattle.its_word.specs.declared.calls.Pace.{Pace}
-use Rattle.its_word.specs.declared.calls.Pace.TheVariants.{Step, Work, Wait, Off}
+use Rattle.its_records.specs.declared.calls.Pace.{Pace}
+use Rattle.its_records.specs.declared.calls.Pace.TheVariants.{Step, Work, Wait, Off}
 use Rattle.its_print.specs.Printing.{Ticks, text_of_line}
 use Rattle.its_plain.specs.CallStep.{step}
 use Rattle.its_plain.specs.Licence.{IsRunning, IsOff, Licensed, most_dots}

@@ -4,8 +4,8 @@ use Rattle.std.proofs.lemmas.Bool.{cases_Bool}
 use Rattle.std.specs.Io.KnownBytes.{Consumes, IsAtEnd}
 use Rattle.std.specs.Prelude.{IfOk}
 use Rattle.its_io.specs.declared.stream.Failed.{Failed}
-use Rattle.its_word.specs.declared.session.Event.{Event}
-use Rattle.its_word.specs.declared.session.Event.TheVariants as events
+use Rattle.its_records.specs.declared.session.Event.{Event}
+use Rattle.its_records.specs.declared.session.Event.TheVariants as events
 use Rattle.its_reader.specs.declared.lines.Next.TheVariants as nexts
 use Rattle.its_reader.specs.declared.texts.Texts.{Texts}
 use Rattle.its_reader.specs.declared.items.Items.{Items}

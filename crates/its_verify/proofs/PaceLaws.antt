@@ -6,8 +6,8 @@ use Rattle.std.proofs.lemmas.List.{replicate_more}
 use Rattle.std.specs.List.{list_all}
 use Rattle.std.specs.Prelude.{codes}
 use Rattle.its_word.specs.Text.{digits_of, is_code}
-use Rattle.its_word.specs.declared.calls.Pace.{Pace}
-use Rattle.its_word.specs.declared.calls.Pace.TheVariants.{Step, Work, Wait, Off}
+use Rattle.its_records.specs.declared.calls.Pace.{Pace}
+use Rattle.its_records.specs.declared.calls.Pace.TheVariants.{Step, Work, Wait, Off}
 use Rattle.its_word.proofs.DigitLaws.{digits_below_8, digits_from_8, digits_are_codes}
 use Rattle.its_print.specs.Printing.{Ticks, letter_of, run_of, runs_from, runs_of, text_of_line}
 use Rattle.its_verify.proofs.BehindLaws.{behind, spaced_behind}

@@ -8,14 +8,14 @@ use Rattle.std.proofs.lemmas.Slice.Eq.{bytes_eq-Decides}
 use Rattle.std.specs.List.{AllByRecursion, concat, list_all, range_with_len}
 use Rattle.std.specs.Prelude.{bytes_eq, codes, nat_le, position}
 use Rattle.its_word.specs.Text.{digits_of, is_code, octal6_of, octal12_of, spaced, words_of}
-use Rattle.its_word.specs.declared.calls.Pace.{Pace}
-use Rattle.its_word.specs.declared.calls.Pace.TheVariants.{Step, Work, Wait, Off}
-use Rattle.its_word.specs.declared.session.Reason.{Reason}
-use Rattle.its_word.specs.declared.session.Reason.TheVariants as reasons
-use Rattle.its_word.specs.declared.show.JobShow.{JobShow}
-use Rattle.its_word.specs.declared.show.Peek.{Peek}
-use Rattle.its_word.specs.declared.show.PeekState.{PeekState}
-use Rattle.its_word.specs.declared.show.PeekState.TheVariants.{User, Entered, Parsed, Asked, Holding, Waiting, Moving, Ending}
+use Rattle.its_records.specs.declared.calls.Pace.{Pace}
+use Rattle.its_records.specs.declared.calls.Pace.TheVariants.{Step, Work, Wait, Off}
+use Rattle.its_records.specs.declared.session.Reason.{Reason}
+use Rattle.its_records.specs.declared.session.Reason.TheVariants as reasons
+use Rattle.its_records.specs.declared.show.JobShow.{JobShow}
+use Rattle.its_records.specs.declared.show.Peek.{Peek}
+use Rattle.its_records.specs.declared.show.PeekState.{PeekState}
+use Rattle.its_records.specs.declared.show.PeekState.TheVariants.{User, Entered, Parsed, Asked, Holding, Waiting, Moving, Ending}
 use Rattle.its_word.proofs.DigitLaws.{digits_are_codes}
 use Rattle.its_chart.specs.TypeOut.{typed}
 use Rattle.its_chart.proofs.BytesLaws.{all_imp}

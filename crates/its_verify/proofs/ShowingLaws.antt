@@ -7,13 +7,13 @@ use Rattle.std.proofs.Math.Nat.{min-eq_left}
 use Rattle.std.proofs.lemmas.List.{drop-drop, get_or_default, length-map}
 use Rattle.std.specs.List.{AllByRecursion}
 use Rattle.its_io.specs.declared.stream.Failed.{Failed}
-use Rattle.its_word.specs.declared.session.Reason.{Reason}
+use Rattle.its_records.specs.declared.session.Reason.{Reason}
 use Rattle.its_files.specs.Files.{Store, file_at as file_of, words_at}
 use Rattle.its_print.specs.Printing.{Dir, Drained, Filed, Line, Listed, Loaded, Row, Shown, State, Typed, Words, listed, text_of_line}
 use Rattle.its_print.specs.Sizes.{Fits8, Fits32, IsPrinted}
 use Rattle.its_print.proofs.LongestLine.{longest}
-use Rattle.its_word.specs.declared.show.FileShow.{FileShow}
-use Rattle.its_word.specs.declared.show.JobShow.{JobShow}
+use Rattle.its_records.specs.declared.show.FileShow.{FileShow}
+use Rattle.its_records.specs.declared.show.JobShow.{JobShow}
 use Rattle.its_plain.specs.Machine.{File, Machine, Names}
 use Rattle.its_plain.specs.CallFile.{file_named}
 use Rattle.its_plain.specs.Own.{names_of}

@@ -6,7 +6,7 @@ use Rattle.std.proofs.lemmas.List.{length-append, length-replicate}
 use Rattle.std.proofs.lemmas.Slice.Eq.{bytes_eq-Decides}
 use Rattle.std.proofs.Math.ListN.{drop_of_length-le}
 use Rattle.std.specs.Prelude.{bytes_eq}
-use Rattle.its_word.specs.declared.calls.Pace.{Pace}
+use Rattle.its_records.specs.declared.calls.Pace.{Pace}
 use Rattle.its_print.specs.declared.runs.Run.{Run}
 use Rattle.its_print.specs.Runs.{paces_in}
 use Rattle.its_print.specs.Printing.{Ticks, text_of_line}

@@ -23,8 +23,8 @@ use Rattle.its_verify.specs.Verified.{IsYes, Judged, TooLong, within}
 use Rattle.its_verify.specs.TranscriptReader.{Failing, Forward, Later, Passed, SaidLater, AtLine, Reads, ReadsOn, Lacks, cut, answer_of, Beside, Concludes, PassesOn, PassedIf, Says, Stays, Strict, same_as}
 use Rattle.its_print.specs.Printing.{Refused, Ticks, text_of_line}
 use Rattle.its_print.proofs.LongestLine.{longest}
-use Rattle.its_word.specs.declared.calls.Pace.{Pace}
-use Rattle.its_word.specs.declared.session.Reason.{Reason}
+use Rattle.its_records.specs.declared.calls.Pace.{Pace}
+use Rattle.its_records.specs.declared.session.Reason.{Reason}
 use Rattle.its_plain.specs.Transcript.{Walk}
 use Rattle.its_verify.specs.Letters.{ticked, ticks_in}
 use Rattle.its_verify.proofs.LicenceLaws.{said_ticks}

@@ -1,7 +1,7 @@
 -- The judge says Yes exactly if the bytes are accepted, and else gives the first line that is not licensed.
 use Rattle.std.proofs.Common.{◌≡◌, ◌≤◌, ℕ, suc, List, ◌++◌, length, take, drop, refl, sym, ap, subst, ◌∙◌, inl, inr, arith, append_assoc, ◌<◌, take-append-drop, take-take}
 use Rattle.std.specs.List.{AllByRecursion}
-use Rattle.its_word.specs.Item.{Item}
+use Rattle.its_records.specs.Item.{Item}
 use Rattle.its_print.specs.Printing.{Line, text}
 use Rattle.its_print.specs.Sizes.{IsPrinted}
 use Rattle.std.proofs.lemmas.Bool.{cases_order}

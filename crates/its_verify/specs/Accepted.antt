@@ -1,7 +1,7 @@
 -- Which bytes are a transcript of a session of some events, and which line is the first that is not licensed.
 -- A promise rests on this.
 use Rattle.std.specs.Prelude.{◌≡◌, ◌≤◌, ℕ, ◌+◌, ◌⊎◌, List, ◌++◌, length, take}
-use Rattle.its_word.specs.Item.{Item}
+use Rattle.its_records.specs.Item.{Item}
 use Rattle.its_print.specs.Printing.{Line}
 use Rattle.its_plain.specs.Transcript.{Fate, Transcript}
 use Rattle.its_verify.specs.Lines.{Said, Tells}

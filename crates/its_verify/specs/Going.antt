@@ -2,12 +2,12 @@
 -- No promise rests on this.
 use Rattle.std.specs.Prelude.{◌≡◌, ℕ, ◌+◌, Bool, true, false, Option, Some, None, Result, Ok, Err, List, [], ◌∷◌}
 use Rattle.its_io.specs.declared.stream.Failed.{Failed}
-use Rattle.its_word.specs.Item.{Item, Read, Unread}
-use Rattle.its_word.specs.Item as items
-use Rattle.its_word.specs.declared.session.Event.{Event}
-use Rattle.its_word.specs.declared.session.Event.TheVariants as events
-use Rattle.its_word.specs.declared.session.Place.{Place}
-use Rattle.its_word.specs.declared.session.Place.TheVariants as places
+use Rattle.its_records.specs.Item.{Item, Read, Unread}
+use Rattle.its_records.specs.Item as items
+use Rattle.its_records.specs.declared.session.Event.{Event}
+use Rattle.its_records.specs.declared.session.Event.TheVariants as events
+use Rattle.its_records.specs.declared.session.Place.{Place}
+use Rattle.its_records.specs.declared.session.Place.TheVariants as places
 use Rattle.its_reader.specs.declared.items.Found.{Found}
 use Rattle.its_reader.specs.declared.items.Found.TheVariants.{Line, Bad, Beyond, End}
 use Rattle.its_reader.specs.declared.items.Items.{Items}

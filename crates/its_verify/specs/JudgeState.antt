@@ -1,7 +1,7 @@
 -- The state of a judge: the walk along a session that its machine and its counts represent.
 -- No promise rests on this.
 use Rattle.std.specs.Prelude.{◌≡◌, ◌&&◌, ℕ, Bool, true, false, Some, None, List, ◌++◌, nat_lt, slice_index_or}
-use Rattle.its_word.specs.declared.calls.Pace.{Pace}
+use Rattle.its_records.specs.declared.calls.Pace.{Pace}
 use Rattle.its_plain.specs.Licence.{Dots, dots_after}
 use Rattle.its_plain.specs.Operator.{Block}
 use Rattle.its_plain.specs.Transcript.{Walk}

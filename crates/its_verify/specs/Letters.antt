@@ -2,8 +2,8 @@
 -- A promise rests on this.
 use Rattle.std.specs.Prelude.{if◌then◌else◌, ℕ, ◌+◌, ◌-◌, ◌*◌, ◌==◌, ◌&&◌, Bool, true, false, not, min, Option, Some, None, List, [], ◌∷◌, ◌++◌, length, replicate, nat_lt, is_none, option_and_then}
 use Rattle.its_word.specs.Text.{is_code}
-use Rattle.its_word.specs.declared.calls.Pace.{Pace}
-use Rattle.its_word.specs.declared.calls.Pace.TheVariants.{Step, Work, Wait, Off}
+use Rattle.its_records.specs.declared.calls.Pace.{Pace}
+use Rattle.its_records.specs.declared.calls.Pace.TheVariants.{Step, Work, Wait, Off}
 use Rattle.its_print.specs.Printing.{Ticks, letter_of}
 use Rattle.its_plain.specs.CallStep.{step}
 use Rattle.its_plain.specs.Licence.{most_dots}

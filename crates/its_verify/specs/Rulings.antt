@@ -2,7 +2,7 @@
 -- is a transcript by the rules of `Transcript`, and else gives the first line that is none of one, are laws (proofs/VerdictLaws).
 -- A promise rests on this.
 use Rattle.std.specs.Prelude.{ℕ, zero, suc, ◌+◌, Option, Some, None, List, [], ◌∷◌}
-use Rattle.its_word.specs.Item.{Item, Read, Unread, Beyond}
+use Rattle.its_records.specs.Item.{Item, Read, Unread, Beyond}
 use Rattle.its_print.specs.Printing.{Line, Refused}
 use Rattle.its_plain.specs.OperatorLines.{Lined, Done, Peeks, lined}
 use Rattle.its_plain.specs.Operator.{Refuses, Does, Ticks, Quits}

@@ -1,7 +1,7 @@
 -- The lines that a source has left, if its bytes are known.
 -- No promise rests on this.
 use Rattle.std.specs.Prelude.{ℕ, true, Option, Some, None, List, []}
-use Rattle.its_word.specs.Item.{Item}
+use Rattle.its_records.specs.Item.{Item}
 use Rattle.its_reader.specs.declared.items.Items.{Items}
 use Rattle.its_reader.specs.declared.texts.Texts.{Texts}
 use Rattle.its_reader.specs.Items.{items_ahead}

@@ -2,9 +2,9 @@
 -- whose only word is END, and the transcript is the rest.
 -- A promise rests on this.
 use Rattle.std.specs.Prelude.{if◌then◌else◌, ℕ, ◌+◌, ◌-◌, Bool, false, List, [], ◌∷◌, ◌++◌, length, take, nat_le, nat_lt, bytes_eq, codes}
-use Rattle.its_word.specs.Item.{Item}
+use Rattle.its_records.specs.Item.{Item}
 use Rattle.its_word.specs.Text.{digits_of, spaced, words_of}
-use Rattle.its_word.specs.declared.session.Reason.TheVariants as reasons
+use Rattle.its_records.specs.declared.session.Reason.TheVariants as reasons
 use Rattle.its_print.specs.Printing.{Refused, text_of_line}
 use Rattle.its_session.specs.Events.{events_of, most_lines}
 use Rattle.its_plain.specs.Transcript.{at_start}

@@ -13,8 +13,9 @@ ghost use Rattle.its_verify.specs.JudgeState.{AllLed, dots_of, Forgets, LedIf, R
 use super::ticks::read_ticks;
 use its_direct::{Answer, NoMemory, Plain, Spot};
 use its_print::Run;
+use its_records::{Event, Pace, Refusal};
 use its_robin::next;
-use its_word::{Event, Pace, Refusal, SLOTS};
+use its_word::SLOTS;
 use std::alloc::Global;
 
 /// No more `.` than this come in a row.

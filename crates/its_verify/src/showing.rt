@@ -24,7 +24,8 @@ use its_print::{
     print_dir, print_drained, print_file, print_listed, print_loaded, print_row, print_show,
     print_state, print_typed, print_words,
 };
-use its_word::{Event, FileShow, JobShow, Word};
+use its_records::{Event, FileShow, JobShow};
+use its_word::Word;
 
 /// How many words a line of SHOW has.
 const ROW_WORDS: u32 = 8;

@@ -1,7 +1,7 @@
 use super::*;
 use its_io::MemSource;
 use its_reader::Texts;
-use its_word::Pace;
+use its_records::Pace;
 use std::process::Abort;
 use std::test::Fail;
 

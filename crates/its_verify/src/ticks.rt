@@ -6,7 +6,7 @@ ghost use Rattle.its_verify.specs.Letters.{counted, letter_at, paces_from, ticks
 
 use arrayvec::ArrayVec;
 use its_print::{Run, print_ticks};
-use its_word::Pace;
+use its_records::Pace;
 
 /// The runs of letters in a line, which has its LF, for `count` ticks of slot `slot`, of which there are at most 512; None if it is not
 /// the text of a `T` line of that slot with so many letters.

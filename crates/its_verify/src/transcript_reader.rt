@@ -9,7 +9,7 @@ use arrayvec::ArrayVec;
 use its_io::{Failed, Source};
 use its_print::print_refusal;
 use its_reader::{Next, Texts};
-use its_word::Reason;
+use its_records::Reason;
 
 /// The lines of a transcript, how many of them are licensed, and for how many there is room.
 #[derive(Drop)]

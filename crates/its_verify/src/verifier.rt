@@ -18,7 +18,7 @@ use super::showing::show_event;
 use super::transcript_reader::TranscriptReader;
 use its_direct::{Answer, Spot};
 use its_io::{Failed, Source};
-use its_word::{Event, Reason};
+use its_records::{Event, Reason};
 
 /// The judge of a session, the lines of its transcript, and the slot of the last turn of a RUN line (before the first one the
 /// highest slot).

@@ -19,7 +19,8 @@ use super::verifier::Verifier;
 use its_direct::Spot;
 use its_io::{Failed, SafeSource, Source};
 use its_reader::{Found, Items, Texts};
-use its_word::{Event, SLOTS};
+use its_records::Event;
+use its_word::SLOTS;
 use std::alloc::Global;
 
 /// The most bytes of a line of a session before its LF, and of a line of a transcript.

@@ -4,10 +4,7 @@ pub mod PageLaws
 pub mod DigitLaws
 pub mod SpacedLaws
 pub mod TextLaws
-pub mod TreeLaws
-pub mod ClimbLaws
 pub mod WordLaws
-pub mod FreeLaws
 pub mod StoreLaws
 pub mod TableLaws
 pub mod ConstantLaws

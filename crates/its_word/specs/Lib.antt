@@ -1,12 +1,9 @@
 pub use Rattle.arrayvec.specs.ArrayVec
 pub mod Word
 pub mod Text
-pub mod Item
 pub mod Limits
-pub mod Links
 pub mod Only
 pub mod Core
-pub mod Tree
 pub mod Address
 pub mod Result2
 pub mod Arith
@@ -20,4 +17,3 @@ pub mod Directory
 pub mod Table
 pub mod Flags
 pub mod Ready
-pub mod Refusals

@@ -1,24 +1,20 @@
-//! Words of 36 bits, the text of numbers and names, the records that the other crates share, and
-//! the definitions of the instruction tables (in `specs/`).
+//! Words of 36 bits, the text of numbers and names, and the definitions of the instruction tables (in `specs/`).
 //!
 //! Proved, each by its definition:
 //! - words: `Word::new`, `value`, `left`, `right`, `pair`, `signed`, `from_signed` and `octal12`;
 //! - numbers and names in text: `read_octal` and `read_sixbit` accept exactly the texts that they should; a number that
 //!   was printed is read back (`digits_read_back`);
-//! - the words of a line (`words`), the opcode table (`decode`), and the reason of a refusal (`Refusal::reason`).
+//! - the words of a line (`words`), and the opcode table (`decode`).
 //!
 //! `ReadyWords` makes words ready from the first on; only its `open` takes memory.
 #![tactic(auto)]
 
 mod access;
-mod calls;
 mod digits;
 mod filling;
 mod flags;
 mod instruction;
-mod jobs;
 mod limits;
-mod link;
 mod location;
 mod memory;
 mod opcode;
@@ -27,15 +23,12 @@ mod plan;
 mod ready;
 mod result2;
 mod runs;
-mod session;
-mod show;
 #[cfg(test)]
 mod tests;
 mod text;
 mod word;
 
 pub use access::{Address, Fault, NoAccess};
-pub use calls::{Arg, Ask, Block, Exit, Kind, Operand, Owed, Pace, Placed, Site, Source};
 pub use digits::{digits_read_back, octal, octal6};
 pub use filling::filled;
 pub use flags::{
@@ -45,9 +38,7 @@ pub use flags::{
 pub use instruction::{
     ArithmeticOp, BranchOp, ByteOp, CompareOp, Instruction, MaskOp, Mode, MoveOp, ShiftOp, StackOp,
 };
-pub use jobs::{Channel, Job};
 pub use limits::{ADDRESSES, BUDGET, MAPPED_PAGES, SLOTS};
-pub use link::{End, LINK_WORDS, LINKS, Link};
 pub use location::Location;
 pub use memory::NoMemory;
 pub use opcode::decode;
@@ -56,7 +47,5 @@ pub use plan::{ChainStep, Context, Plan, Reached, Store};
 pub use ready::ReadyWords;
 pub use result2::Result2;
 pub use runs::words;
-pub use session::{Bad, Event, Place, Reason, Refusal};
-pub use show::{FileShow, JobShow, Peek, PeekState};
 pub use text::{BadName, BadOctal, read_octal, read_sixbit};
 pub use word::Word;

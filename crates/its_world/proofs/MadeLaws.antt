@@ -4,8 +4,8 @@ use Rattle.std.specs.Prelude.{◌≡◌, ◌<◌, ◌≢◌, ℕ, Option, Some, 
 use Rattle.std.proofs.Common.{sym, ◌∙◌, ap, subst, inl, inr}
 use Rattle.std.proofs.lemmas.Bool.{cases_eq}
 use Rattle.its_word.specs.Core.{no_core}
-use Rattle.its_word.specs.Tree.{least_free, fresh_job, no_job}
-use Rattle.its_word.proofs.FreeLaws.{least_alike, least_empty, no_job_alike}
+use Rattle.its_records.specs.Tree.{least_free, fresh_job, no_job}
+use Rattle.its_records.proofs.FreeLaws.{least_alike, least_empty, no_job_alike}
 use Rattle.its_core.specs.Cores.{core_at, clear_at}
 use Rattle.its_files.specs.Files.{directory}
 use Rattle.its_jobs.specs.Table.{job_at, superior_at}

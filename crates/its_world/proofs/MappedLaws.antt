@@ -5,7 +5,7 @@ use Rattle.std.proofs.Common.{sym, ◌∙◌, ap, subst, inl, inr}
 use Rattle.std.proofs.lemmas.Bool.{cases_eq}
 use Rattle.its_word.specs.Core.{Core, no_core, pages_mapped}
 use Rattle.its_word.specs.Only.{Only}
-use Rattle.its_word.specs.declared.jobs.Job.{Job}
+use Rattle.its_records.specs.declared.jobs.Job.{Job}
 use Rattle.its_word.proofs.PageLaws.{pages_mapped-same}
 use Rattle.its_core.specs.Cores.{core_at, clear_at}
 use Rattle.its_core.specs.Frames.{Frames, frames_map}

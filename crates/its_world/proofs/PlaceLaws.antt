@@ -7,10 +7,10 @@ use Rattle.std.proofs.lemmas.Bool.Decides.{nat_tests}
 use Rattle.its_links.specs.Lists.{list_at, count}
 use Rattle.its_links.proofs.CountLaws.{hit_same}
 use Rattle.its_word.specs.Only.{Only, Same}
-use Rattle.its_word.specs.Tree.{fresh_job}
-use Rattle.its_word.specs.declared.calls.Ask.{Ask}
-use Rattle.its_word.specs.declared.jobs.Channel.TheVariants as channels
-use Rattle.its_word.specs.declared.jobs.Job.{Job}
+use Rattle.its_records.specs.Tree.{fresh_job}
+use Rattle.its_records.specs.declared.calls.Ask.{Ask}
+use Rattle.its_records.specs.declared.jobs.Channel.TheVariants as channels
+use Rattle.its_records.specs.declared.jobs.Job.{Job}
 use Rattle.its_jobs.specs.Table.{job_at}
 use Rattle.its_frame.specs.declared.decision.Wait.{Wait}
 use Rattle.its_frame.specs.declared.decision.Wait.TheVariants.{Hang, Clock, Input, Output, Drained, Empty, Room}
@@ -24,7 +24,7 @@ use Rattle.its_plain.specs.Decide.{call_named}
 use Rattle.its_frame.specs.declared.frame.Frame.TheVariants.{Entered, Parsed, Asked, Holding, Waiting, Moving, Ending}
 use Rattle.its_plain.specs.Arguments.{input}
 use Rattle.its_plain.specs.Reasons.{Doors, held_up, reason_by}
-use Rattle.its_word.specs.Links.{most_links}
+use Rattle.its_records.specs.Links.{most_links}
 use Rattle.its_pipes.specs.Pipes.{piped}
 use Rattle.its_machine.proofs.PartLaws.{all_closed}
 use Rattle.its_world.specs.Rings.{heads, awake_of, post_of, is_within, Within, place_at, mark, StandsIn, AwayFrom, input_lists, output_lists, lists_at, lists_to, link_lists, link_lists_to, lists_of}

@@ -5,7 +5,7 @@ use Rattle.std.proofs.lemmas.List.{length-append}
 use Rattle.its_word.specs.ArrayVec.{ArrayVec}
 use Rattle.its_word.specs.Core.{Core}
 use Rattle.its_word.specs.declared.access.Fault.{Fault}
-use Rattle.its_word.specs.declared.calls.Site.{Site}
+use Rattle.its_records.specs.declared.calls.Site.{Site}
 use Rattle.its_stepped.specs.TwoParts.{items_of, parse, parse_by, parse_of}
 use Rattle.its_plain.specs.Decode.{argument_words, block_at, checked, has_bit_0, is_legal, parsed, up_to_last}
 use Rattle.its_plain.specs.Traced.{Traced, also, goes_on, word}

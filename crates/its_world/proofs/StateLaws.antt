@@ -5,8 +5,8 @@ use Rattle.std.proofs.lemmas.Bool.{cases_Bool}
 use Rattle.std.proofs.lemmas.Bool.Decides.{nat_tests}
 use Rattle.its_word.specs.Console.{Console}
 use Rattle.its_word.specs.Core.{Core}
-use Rattle.its_word.specs.declared.jobs.Job.{Job}
-use Rattle.its_word.specs.declared.calls.Exit.{Exit}
+use Rattle.its_records.specs.declared.jobs.Job.{Job}
+use Rattle.its_records.specs.declared.calls.Exit.{Exit}
 use Rattle.its_word.specs.declared.plan.Store.{Store}
 use Rattle.its_core.specs.Cores.{core_at, reserved_at, clear_at}
 use Rattle.its_core.specs.Frames.{Frames}

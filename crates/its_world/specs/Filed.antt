@@ -3,10 +3,10 @@
 use Rattle.std.specs.Prelude.{if◌then◌else◌, ◌≡◌, ◌≢◌, ◌<◌, ℕ, Bool, true, false, Option, Some, None, List, nat_lt, slice_index_or, unwrap_or, ◌⊎◌}
 use Rattle.its_links.specs.Lists.{list_at, count}
 use Rattle.its_word.specs.Only.{Only}
-use Rattle.its_word.specs.declared.calls.Ask.{Ask}
-use Rattle.its_word.specs.declared.jobs.Channel.{Channel}
-use Rattle.its_word.specs.declared.jobs.Channel.TheVariants as channels
-use Rattle.its_word.specs.declared.jobs.Job.{Job}
+use Rattle.its_records.specs.declared.calls.Ask.{Ask}
+use Rattle.its_records.specs.declared.jobs.Channel.{Channel}
+use Rattle.its_records.specs.declared.jobs.Channel.TheVariants as channels
+use Rattle.its_records.specs.declared.jobs.Job.{Job}
 use Rattle.its_jobs.specs.Table.{job_at}
 use Rattle.its_frame.specs.declared.decision.Wait.{Wait}
 use Rattle.its_frame.specs.declared.frame.Frame.{Frame}

@@ -2,7 +2,7 @@
 -- No promise rests on this.
 use Rattle.std.specs.Prelude.{◌≡◌, ℕ, Option, Some}
 use Rattle.its_word.specs.Only.{Only}
-use Rattle.its_word.specs.Tree.{fresh_job}
+use Rattle.its_records.specs.Tree.{fresh_job}
 use Rattle.its_jobs.specs.Table.{job_at, superior_at}
 use Rattle.its_world.specs.declared.world.World.{World}
 

@@ -6,7 +6,7 @@ use Rattle.its_links.specs.Lists.{Linked, list_at, count, hit, first}
 use Rattle.its_frame.specs.declared.decision.Wait.{Wait}
 use Rattle.its_frame.specs.declared.decision.Wait.TheVariants.{Hang, Clock, Input, Output, Drained, Empty, Room}
 use Rattle.its_plain.specs.Moves.{Device, AtConsole, AtLink}
-use Rattle.its_word.specs.Links.{most_links}
+use Rattle.its_records.specs.Links.{most_links}
 
 -- one list for HANG, one for CLOCK, of each of the eight consoles one each for Input, Output and Drained, and its Awake
 -- list, and of each of the sixteen links one each for Empty and Room, and its Awake list. All but the Awake lists are wait

@@ -2,7 +2,7 @@
 -- No promise rests on this.
 use Rattle.std.specs.Prelude.{◌≡◌, ◌||◌, ℕ, true, false, is_some, length, nat_lt}
 use Rattle.its_word.specs.Only.{Same}
-use Rattle.its_word.specs.declared.jobs.Channel.{Channel}
+use Rattle.its_records.specs.declared.jobs.Channel.{Channel}
 use Rattle.its_plain.specs.Machine.{Names, Chan, Writes}
 use Rattle.its_plain.specs.Change.{channel_in}
 use Rattle.its_plain.specs.CallFile.{most_files, is_full, has_file, is_read}

@@ -5,7 +5,7 @@ use Rattle.std.specs.List.{last_or}
 use Rattle.its_word.specs.Only.{Only, Same}
 use Rattle.its_word.specs.Console.{Console, most_waiting}
 use Rattle.its_word.specs.Core.{Core}
-use Rattle.its_word.specs.declared.jobs.Job.{Job}
+use Rattle.its_records.specs.declared.jobs.Job.{Job}
 use Rattle.its_core.specs.Cores.{core_at, clear_at}
 use Rattle.its_core.specs.Frames.{Frames, frames_reserve, frames_give_back}
 use Rattle.its_jobs.specs.Table.{job_at}

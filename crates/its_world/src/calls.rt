@@ -15,7 +15,8 @@ ghost use Rattle.its_world.specs.World.{frame_at, FrameBecomes};
 use super::world::World;
 use arrayvec::ArrayVec;
 use its_calls::{Next, View};
-use its_word::{Fault, Owed, Site, Word};
+use its_records::{Owed, Site};
+use its_word::{Fault, Word};
 
 impl World {
     /// The frame of a slot.

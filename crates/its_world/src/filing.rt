@@ -3,7 +3,7 @@
 
 ghost use Rattle.std.specs.Prelude.{◌≡◌, ◌<◌, ◌∷◌, ◌++◌, ◌↔◌, ◌⊎◌, [], IsTrue, length, true, false, None};
 ghost use Rattle.its_word.specs.Limits.{slots};
-ghost use Rattle.its_word.specs.Links.{most_links};
+ghost use Rattle.its_records.specs.Links.{most_links};
 ghost use Rattle.its_jobs.specs.Table.{job_at};
 ghost use Rattle.its_plain.specs.Arguments.{input};
 ghost use Rattle.its_plain.specs.CallTty.{is_other};
@@ -15,7 +15,8 @@ use super::rings::{CLOCK_RING, awake_of, is_within, put, reason_by, ring_of, sta
 use super::world::{CONSOLES, World};
 use its_calls::View;
 use its_frame::{CallName, Wait};
-use its_word::{Ask, Channel, Job, LINKS, Word};
+use its_records::{Ask, Channel, Job, LINKS};
+use its_word::Word;
 
 /// How many bytes wait at most at a console, in one direction.
 const MOST_WAITING: u32 = 64;

@@ -2,7 +2,7 @@
 
 ghost use Rattle.std.specs.Prelude.{◌≡◌, ◌<◌, true, Some, is_some, length, option_map, slice_get};
 ghost use Rattle.its_word.specs.Limits.{slots};
-ghost use Rattle.its_word.specs.Links.{most_links, most_linked};
+ghost use Rattle.its_records.specs.Links.{most_links, most_linked};
 ghost use Rattle.its_frame.specs.declared.change.Change.TheVariants.{Join, Part, Receive, Send};
 ghost use Rattle.its_plain.specs.CallLink.{words_in};
 ghost use Rattle.its_plain.specs.Change.{after_end_close, link_or_new, with_end_opened, with_received, with_sent};
@@ -15,7 +15,8 @@ ghost use Rattle.its_world.specs.Tidy.{Tidy};
 ghost use Rattle.its_world.specs.World.{state_of, LinkBecomes};
 
 use super::world::World;
-use its_word::{Channel, Word};
+use its_records::Channel;
+use its_word::Word;
 
 impl World {
     /// Opens an end of a link on a closed channel of a slot's job: its writing end or its reading end. If the number has no

@@ -9,7 +9,8 @@ ghost use Rattle.its_world.specs.Filed.{kind_of};
 
 use its_frame::{CallName, Wait};
 use its_links::Links;
-use its_word::{Channel, SLOTS};
+use its_records::Channel;
+use its_word::SLOTS;
 
 /// How many lists there are: one for HANG, one for CLOCK, of each console one each for input, output and drained output,
 /// and one of those that wait there and can go on; and of each link one each for those that wait for a word and for room,

@@ -14,7 +14,8 @@ ghost use Rattle.its_world.specs.Tidy.{Tidy, channel_at};
 ghost use Rattle.its_world.specs.Storage.{HasJob, chan_in, IsElsewhere, IsDraft, Unread, HasRoom, CanClose, ChannelBecomes, ChannelWritten};
 
 use super::world::World;
-use its_word::{Channel, Word};
+use its_records::Channel;
+use its_word::Word;
 
 impl World {
     /// What a channel of a slot's job is on; closed if the slot is empty.

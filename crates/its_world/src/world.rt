@@ -13,7 +13,8 @@ use its_jobs::{Jobs, limit_of};
 use its_links::Links;
 use its_machine::{SymbolTable, no_alarms, no_symbols, quiet_consoles};
 use its_pipes::Pipes;
-use its_word::{Job, NoAccess, NoMemory, SLOTS, Word};
+use its_records::Job;
+use its_word::{NoAccess, NoMemory, SLOTS, Word};
 use std::alloc::Global;
 
 /// How many consoles there are.
@@ -60,7 +61,7 @@ impl World {
 
     /// The world at the start of a session: no job, no page, no frame, nothing that waits at a console, no
     /// holder of one, clock 0, version 1, no symbol, no alarm, no link. Takes all the memory that it needs.
-    #[tactic(auto, using(its_word::proofs::FreeLaws::limit_first))]
+    #[tactic(auto, using(its_records::proofs::FreeLaws::limit_first))]
     pub fn open(alloc: Global) -> Result<World, NoMemory>
         ensures cores { IfOk result (λ w. IsEmpty w.core) }
         ensures jobs { IfOk result (λ w. NoJobs w.jobs) }

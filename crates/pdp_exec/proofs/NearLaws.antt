@@ -6,7 +6,7 @@ use Rattle.its_word.specs.Opcode.{ac_of}
 use Rattle.its_word.specs.Word.{right_of}
 use Rattle.its_word.specs.declared.instruction.Instruction.{Instruction}
 use Rattle.its_word.specs.declared.instruction.Instruction.TheVariants.{Iot, Call}
-use Rattle.its_word.specs.declared.jobs.Job.{Job}
+use Rattle.its_records.specs.declared.jobs.Job.{Job}
 use Rattle.its_word.proofs.AddressLaws.{direct_answer, direct_used}
 use Rattle.its_plain.specs.Traced.{also, gives, located, word}
 use Rattle.its_plain.specs.UnitPlan.{read_of}

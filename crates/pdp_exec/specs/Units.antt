@@ -2,7 +2,7 @@
 -- No promise rests on this.
 use Rattle.std.specs.Prelude.{ℕ, zero, suc, Bool, true, false, Option, Some, None}
 use Rattle.its_word.specs.Core.{Core}
-use Rattle.its_word.specs.declared.jobs.Job.{Job}
+use Rattle.its_records.specs.declared.jobs.Job.{Job}
 use Rattle.its_plain.specs.Interrupt.{deliverable}
 use Rattle.its_plain.specs.Job.{bit_of, with_pending}
 use Rattle.its_plain.specs.Unit.{Outcome, Changed, Faulted, Called, unit}

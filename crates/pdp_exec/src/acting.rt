@@ -23,8 +23,9 @@ use super::moves::{halves, moves};
 use super::plans::Draft;
 use super::units::{Ended, fault_bit, rarely};
 use its_core::Core;
+use its_records::Job;
 use its_word::{
-    ArithmeticOp, BranchOp, ByteOp, Context, Fault, Job, MaskOp, Mode, MoveOp, ShiftOp, StackOp,
+    ArithmeticOp, BranchOp, ByteOp, Context, Fault, MaskOp, Mode, MoveOp, ShiftOp, StackOp,
 };
 
 /// Does what is planned for the unit of a job.

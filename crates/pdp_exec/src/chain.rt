@@ -12,8 +12,9 @@ ghost use Rattle.pdp_exec.specs.Ready.{HasFew, IsReady, Stands};
 use super::reads::read;
 use arrayvec::ArrayVec;
 use its_core::Core;
+use its_records::Job;
 use its_word::{
-    Address, BUDGET, BranchOp, ChainStep, Context, Fault, Instruction, Job, Reached, Word, decode,
+    Address, BUDGET, BranchOp, ChainStep, Context, Fault, Instruction, Reached, Word, decode,
 };
 
 /// How many instruction words a unit can have: its own, and the targets of its XCTs.

@@ -12,7 +12,8 @@ ghost use Rattle.pdp_exec.specs.Stores.{list_of};
 use super::plans::Draft;
 use super::stores::Stores;
 use its_core::Core;
-use its_word::{ADDRESSES, Fault, Job, NAMED_FLAGS, NoAccess, Store};
+use its_records::Job;
+use its_word::{ADDRESSES, Fault, NAMED_FLAGS, NoAccess, Store};
 
 /// Performs one store, if it is possible.
 #[inline(always)]

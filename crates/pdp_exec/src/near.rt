@@ -9,7 +9,8 @@ ghost use Rattle.pdp_exec.specs.Near.{near_site};
 use super::chain::{ac_field, instruction, is_indirect};
 use super::reads::read;
 use its_core::Core;
-use its_word::{Instruction, Job, Word};
+use its_records::Job;
+use its_word::{Instruction, Word};
 
 /// A call at a job's PC: its E, and its channel if it is `.IOT`.
 #[derive(Clone, Copy, Debug, PartialEq, Eq)]

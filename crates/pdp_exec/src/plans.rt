@@ -4,7 +4,8 @@ ghost use Rattle.its_plain.specs.UnitPlan.{ContextFits, completes, is_on, jump a
 ghost use Rattle.pdp_exec.specs.Stores.{list_of};
 
 use super::stores::{Stores, none, one};
-use its_word::{ADDRESSES, BYTE_HALF, Context, Job, Store, Word};
+use its_records::Job;
+use its_word::{ADDRESSES, BYTE_HALF, Context, Store, Word};
 use std::marker::Model;
 
 /// What a unit does: its stores, the PC and the flags after it, and the bits of pending word 1 that it

@@ -8,7 +8,8 @@ ghost use Rattle.pdp_exec.specs.Units.{after_outcome, after_unit, after_units, l
 use super::units::{Ended, run};
 use its_core::Core;
 use its_ints::deliverable;
-use its_word::{Job, Word};
+use its_records::Job;
+use its_word::Word;
 
 /// Executes up to n units of a slot's job on its core and its registers in place, as long as no interrupt is deliverable and none is a
 /// call; how many were executed. It is not inlined: its loop is the one place in which every unit is.

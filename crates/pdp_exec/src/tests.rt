@@ -7,7 +7,8 @@ ghost use Rattle.its_word.specs.Limits.{slots};
 
 use super::*;
 use its_core::Core;
-use its_word::{Channel, Job, USER, Word, read_octal};
+use its_records::{Channel, Job};
+use its_word::{USER, Word, read_octal};
 use std::process::Abort;
 use std::test::Fail;
 

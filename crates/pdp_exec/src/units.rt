@@ -20,9 +20,8 @@ use super::moves::{exchange, halves, moves};
 use super::plans::{Draft, next, with_pending};
 use super::stores::none;
 use its_core::Core;
-use its_word::{
-    BRK, ChainStep, Context, Fault, ILO, Instruction, Job, MPV, Reached, Site, WRO, Word,
-};
+use its_records::{Job, Site};
+use its_word::{BRK, ChainStep, Context, Fault, ILO, Instruction, MPV, Reached, WRO, Word};
 
 /// The result of a unit: it is done; or a fault, with its bit of pending word 1, which leaves no part of it done; or
 /// a call of the monitor.

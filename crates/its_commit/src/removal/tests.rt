@@ -1,5 +1,5 @@
 ghost use Rattle.std.specs.Prelude.{◌≡◌, ◌<◌, ℕ, true, None, slice_set, IfOk};
-ghost use Rattle.its_word.specs.declared.jobs.Channel.TheVariants.{Usr};
+ghost use Rattle.its_records.specs.declared.jobs.Channel.TheVariants.{Usr};
 ghost use Rattle.its_word.specs.Limits.{slots};
 ghost use Rattle.its_stepped.specs.Sound.{Sound};
 ghost use Rattle.its_world.specs.Tidy.{Tidy};
@@ -9,7 +9,8 @@ ghost use Rattle.its_commit.specs.Removal.{Elsewhere};
 use crate::changes::apply;
 use its_frame::Change;
 use its_jobs::{Job, Jobs};
-use its_word::{Channel, SLOTS, Word};
+use its_records::Channel;
+use its_word::{SLOTS, Word};
 use its_world::World;
 use std::alloc::Global;
 use std::process::Abort;
@@ -126,7 +127,7 @@ fn poked(rt: &impl Abort, w: &mut World, caller: u8, slot: u8, at: u32)
 
 /// Jobs make inferiors, each in the least free slot, and store words in them.
 #[test]
-#[tactic(auto, using(its_word::proofs::FreeLaws::limit_first))]
+#[tactic(auto, using(its_records::proofs::FreeLaws::limit_first))]
 fn inferiors(rt: HostRuntime) -> Result<(), Fail> {
     let mut w = World::open(rt.alloc())?;
     w.jobs = jobs(&rt, rt.alloc(), [None, Some(0), Some(1), None], 1)?;
@@ -142,7 +143,7 @@ fn inferiors(rt: HostRuntime) -> Result<(), Fail> {
 /// are closed. Each of the first four consoles is held by the job with its number: those that are gone leave it to
 /// the superior of the root, or to nobody.
 #[test]
-#[tactic(auto, using(crate::proofs::IdleLaws::idle_sound, crate::proofs::IdleLaws::idle_frames, crate::proofs::IdleLaws::idle_page, crate::proofs::IdleLaws::idle_tidy, its_word::proofs::FreeLaws::limit_first))]
+#[tactic(auto, using(crate::proofs::IdleLaws::idle_sound, crate::proofs::IdleLaws::idle_frames, crate::proofs::IdleLaws::idle_page, crate::proofs::IdleLaws::idle_tidy, its_records::proofs::FreeLaws::limit_first))]
 fn trees(rt: HostRuntime) -> Result<(), Fail> {
     let open = Some(on(1));
     let shut = Some(Channel::Closed);

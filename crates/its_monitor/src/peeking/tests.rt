@@ -3,7 +3,8 @@ use crate::Monitor;
 use arrayvec::ArrayVec;
 use its_calls::View;
 use its_frame::CallName;
-use its_word::{Ask, Block, Operand, Owed, Peek, PeekState, Site, Word};
+use its_records::{Ask, Block, Operand, Owed, Peek, PeekState, Site};
+use its_word::Word;
 use std::process::Abort;
 use std::test::Fail;
 

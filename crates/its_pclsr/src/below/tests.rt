@@ -1,11 +1,12 @@
 ghost use Rattle.std.specs.Prelude.{◌≡◌, ◌<◌, true, slice_set, IfOk};
-ghost use Rattle.its_word.specs.declared.jobs.Channel.TheVariants.{Usr};
+ghost use Rattle.its_records.specs.declared.jobs.Channel.TheVariants.{Usr};
 ghost use Rattle.its_word.specs.Limits.{slots};
 ghost use Rattle.its_commit.specs.Removal.{Elsewhere};
 
 use super::unwind_below;
 use its_jobs::{Job, Jobs};
-use its_word::{Channel, SLOTS, Word};
+use its_records::Channel;
+use its_word::{SLOTS, Word};
 use its_world::World;
 use std::alloc::Global;
 use std::process::Abort;
@@ -70,7 +71,7 @@ fn opened(job: Job) -> Job
 
 /// Jobs that are in no call stay as they are.
 #[test]
-#[tactic(auto, using(its_commit::proofs::IdleLaws::idle_sound, its_commit::proofs::IdleLaws::idle_frames, its_commit::proofs::IdleLaws::idle_page, its_commit::proofs::IdleLaws::idle_tidy, its_word::proofs::FreeLaws::limit_first))]
+#[tactic(auto, using(its_commit::proofs::IdleLaws::idle_sound, its_commit::proofs::IdleLaws::idle_frames, its_commit::proofs::IdleLaws::idle_page, its_commit::proofs::IdleLaws::idle_tidy, its_records::proofs::FreeLaws::limit_first))]
 fn nothing_to_unwind(rt: HostRuntime) -> Result<(), Fail> {
     let mut w = World::open(rt.alloc())?;
     w.jobs = jobs(&rt, rt.alloc(), [None, Some(0), Some(1), None])?;

@@ -1,5 +1,5 @@
 use Rattle.its_jobs.specs.Table.{superior_at, in_tree}
-use Rattle.its_word.specs.declared.jobs.Channel.TheVariants.{Closed}
+use Rattle.its_records.specs.declared.jobs.Channel.TheVariants.{Closed}
 use Rattle.its_direct.specs.Removal.{channel_left}
 use Rattle.its_machine.proofs.TurningLaws.{Turning}
 use Rattle.its_direct.proofs.removal.leave_each.Given as goal

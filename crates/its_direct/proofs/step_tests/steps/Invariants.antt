@@ -1,5 +1,5 @@
 use Rattle.std.proofs.Common.{◌≡◌}
-use Rattle.its_word.specs.declared.session.Place.TheVariants as places
+use Rattle.its_records.specs.declared.session.Place.TheVariants as places
 use Rattle.its_direct.specs.Events.{Kept, spot_place}
 use Rattle.its_direct.proofs.step_tests.steps.Given as goal
 

@@ -1,5 +1,5 @@
 use Rattle.std.proofs.Common.{sym, ap, ◌∙◌, arith, length, List, slice_index_or}
-use Rattle.its_word.specs.declared.calls.Operand.{Operand}
+use Rattle.its_records.specs.declared.calls.Operand.{Operand}
 use Rattle.its_direct.proofs.MovedLaws.{new_kept, new_none, new_set}
 use Rattle.its_direct.proofs.steps.new_input.Goals as goal
 

@@ -1,6 +1,6 @@
 use Rattle.std.proofs.Common.{ap, sym, subst, ◌∙◌, ◌+◌, ◌++◌, [], arith, length, List, slice_index_or}
 use Rattle.its_word.specs.ArrayVec.{ArrayVec}
-use Rattle.its_word.specs.declared.calls.Operand.{Operand}
+use Rattle.its_records.specs.declared.calls.Operand.{Operand}
 use Rattle.its_word.specs.declared.plan.Store.{Store}
 use Rattle.its_plain.specs.Arguments.{store_of}
 use Rattle.its_direct.proofs.MovedLaws.{Valuing, valuing_end, valuing_past, valuing_set}

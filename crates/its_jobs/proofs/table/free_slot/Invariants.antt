@@ -1,5 +1,5 @@
 use Rattle.std.proofs.Common.{◌≡◌, ◌-◌, slice_index_or, None}
-use Rattle.its_word.specs.Tree.{free_from, least_free}
+use Rattle.its_records.specs.Tree.{free_from, least_free}
 use Rattle.its_jobs.proofs.table.free_slot.Given as goal
 
 abbrev pub invariant-loop-slot : goal.invariant-loop-slot

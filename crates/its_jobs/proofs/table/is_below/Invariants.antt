@@ -1,5 +1,5 @@
 use Rattle.std.proofs.Common.{◌≡◌, ◌-◌, slice_index_or, None, IfSome, ◌<◌}
-use Rattle.its_word.specs.Tree.{climbs_to}
+use Rattle.its_records.specs.Tree.{climbs_to}
 use Rattle.its_word.specs.Limits.{slots}
 use Rattle.its_jobs.proofs.table.is_below.Given as goal
 

@@ -1,6 +1,6 @@
 -- none is below if the loop found no first
 use Rattle.std.proofs.Common.{sym, ◌∙◌}
-use Rattle.its_word.proofs.TreeLaws.{nth_end}
+use Rattle.its_records.proofs.TreeLaws.{nth_end}
 use Rattle.its_jobs.proofs.TableLaws.{none_at_all}
 use Rattle.its_jobs.proofs.table.nth_below.Goals as goal
 

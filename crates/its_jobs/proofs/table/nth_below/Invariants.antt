@@ -1,6 +1,6 @@
 use Rattle.std.proofs.Common.{◌≡◌, slice_get, slice_index_or, None}
-use Rattle.its_word.specs.Tree.{slots_below}
-use Rattle.its_word.proofs.TreeLaws.{rest_below}
+use Rattle.its_records.specs.Tree.{slots_below}
+use Rattle.its_records.proofs.TreeLaws.{rest_below}
 use Rattle.its_jobs.proofs.table.nth_below.Given as goal
 
 abbrev pub invariant-loop-other : goal.invariant-loop-other

@@ -1,5 +1,5 @@
 use Rattle.std.proofs.Common.{ap, is_some, refl, ◌∙◌}
-use Rattle.its_word.specs.declared.calls.Owed.TheVariants.{Unlink, Link, Free}
+use Rattle.its_records.specs.declared.calls.Owed.TheVariants.{Unlink, Link, Free}
 use Rattle.its_stepped.specs.State.{UnlinkOld, LinkNew, FreeOld}
 use Rattle.its_commit.proofs.TidyLaws.{tidy_core, tidy_kept}
 use Rattle.its_pclsr.proofs.ApartLaws.{off_alike, off_back, off_one, off_then}

@@ -1,6 +1,6 @@
 use Rattle.std.proofs.Common.{List, ◌-◌, arith, ap, sym, ◌∙◌, drop, length, take}
 use Rattle.arrayvec.specs.ArrayVec.{array_vec_len}
-use Rattle.its_word.specs.declared.calls.Pace.TheVariants.{Step}
+use Rattle.its_records.specs.declared.calls.Pace.TheVariants.{Step}
 use Rattle.its_print.specs.declared.runs.Run.{Run}
 use Rattle.its_print.proofs.PutLaws.{run_ends, run_goes_on, run_length, runs_begin, runs_length}
 use Rattle.its_print.proofs.put.put_runs.Goals as goal

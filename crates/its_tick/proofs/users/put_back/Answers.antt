@@ -1,5 +1,5 @@
 use Rattle.std.proofs.Common.{◌∙◌, ap, sym}
-use Rattle.its_word.specs.declared.jobs.Job.{Job}
+use Rattle.its_records.specs.declared.jobs.Job.{Job}
 use Rattle.its_commit.proofs.TidyLaws.{tidy_put}
 use Rattle.its_tick.proofs.users.put_back.Goals as goal
 

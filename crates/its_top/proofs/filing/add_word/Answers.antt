@@ -2,7 +2,7 @@ use Rattle.std.proofs.Common.{◌≡◌, Err, OnOk, IfErr, subst, arith}
 use Rattle.its_plain.specs.OperatorFiles.{with_word_added}
 use Rattle.its_stepped.specs.Unwind.{help}
 use Rattle.its_world.specs.World.{state_of}
-use Rattle.its_word.specs.Refusals.{reason_of}
+use Rattle.its_records.specs.Refusals.{reason_of}
 use Rattle.its_monitor.specs.Kept.{Lands}
 use Rattle.its_top.proofs.FilingLaws.{three, adds_done, adds_refused, adds_nothing}
 use Rattle.its_top.proofs.filing.add_word.Goals as goal

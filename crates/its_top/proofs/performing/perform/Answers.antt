@@ -1,5 +1,5 @@
 use Rattle.std.proofs.Common.{sym, ◌∙◌, ap}
-use Rattle.its_word.specs.declared.session.Event.TheVariants.{Words, Append, TypeIn}
+use Rattle.its_records.specs.declared.session.Event.TheVariants.{Words, Append, TypeIn}
 use Rattle.its_top.proofs.PerformLaws.{nothing_performed, end_file_performed, run_performed, end_performed, version_performed, ticks_performed, drained_performed, read_only_performed, symbol_performed, go_performed, clock_performed, int_performed, deposit_performed, stop_performed, cont_performed, words_performed, append_performed, typed_performed, at_event}
 use Rattle.its_top.proofs.performing.perform.Goals as goal
 

@@ -1,6 +1,6 @@
 use Rattle.std.proofs.Common.{◌≡◌, ◌≤◌, ◌+◌, ◌-◌, ◌<◌}
 use Rattle.its_word.specs.Limits.{slots}
-use Rattle.its_word.specs.declared.session.Place.TheVariants as places
+use Rattle.its_records.specs.declared.session.Place.TheVariants as places
 use Rattle.its_session.specs.Events.{most_lines}
 use Rattle.its_plain.specs.Machine.{no_machine}
 use Rattle.its_stepped.specs.State.{no_state}

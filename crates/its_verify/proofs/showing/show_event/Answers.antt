@@ -1,5 +1,5 @@
 use Rattle.std.proofs.Common.{rules, subst, sym}
-use Rattle.its_word.specs.declared.session.Event.{Event}
+use Rattle.its_records.specs.declared.session.Event.{Event}
 use Rattle.its_session.specs.Fits.{EventFits}
 use Rattle.its_direct.specs.Plain.{machine_of}
 use Rattle.its_verify.specs.TranscriptReader.{Says}

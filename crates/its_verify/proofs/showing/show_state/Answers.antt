@@ -1,7 +1,7 @@
 use Rattle.std.proofs.Common.{◌≡◌, Some, refl, subst, sym}
 use Rattle.std.specs.Prelude.{IfOk, Result}
-use Rattle.its_word.specs.declared.session.Reason.{Reason}
-use Rattle.its_word.specs.declared.show.JobShow.{JobShow}
+use Rattle.its_records.specs.declared.session.Reason.{Reason}
+use Rattle.its_records.specs.declared.show.JobShow.{JobShow}
 use Rattle.its_plain.specs.OperatorJobs.{state_shown}
 use Rattle.its_direct.specs.Plain.{machine_of}
 use Rattle.its_verify.proofs.ShowingLaws.{state_says, version_is}

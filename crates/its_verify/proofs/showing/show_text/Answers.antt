@@ -1,6 +1,6 @@
 use Rattle.std.proofs.Common.{◌∷◌, ◌+◌, ◌/◌, Ok, Err, Some, ap, ◌∙◌}
 use Rattle.its_files.specs.Files.{words_at}
-use Rattle.its_word.specs.declared.show.FileShow.{FileShow}
+use Rattle.its_records.specs.declared.show.FileShow.{FileShow}
 use Rattle.its_plain.specs.OperatorFiles.{rows}
 use Rattle.its_verify.specs.Showing.{names_line, text_lines}
 use Rattle.its_verify.proofs.ShowingLaws.{same_says, fail_says, stop_says, text_is, then_says}

@@ -1,5 +1,5 @@
 use Rattle.std.proofs.Common.{sym, true}
-use Rattle.its_word.specs.declared.jobs.Channel.TheVariants.{Usr}
+use Rattle.its_records.specs.declared.jobs.Channel.TheVariants.{Usr}
 use Rattle.its_commit.proofs.IdleLaws.{elsewhere_opened}
 use Rattle.its_commit.proofs.removal.tests.open_on.Goals as goal
 

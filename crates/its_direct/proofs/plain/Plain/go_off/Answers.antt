@@ -1,5 +1,5 @@
 use Rattle.std.proofs.Common.{ℕ, Some, rules, subst, sym, ◌∙◌}
-use Rattle.its_word.specs.declared.jobs.Job.{Job}
+use Rattle.its_records.specs.declared.jobs.Job.{Job}
 use Rattle.its_direct.specs.Clock.{AlarmBecomes}
 use Rattle.its_direct.specs.Plain.{JobBecomes}
 use Rattle.its_direct.proofs.ClockLaws.{went, went_periods, went_tidy}

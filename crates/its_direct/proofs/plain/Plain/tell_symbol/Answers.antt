@@ -1,5 +1,5 @@
 use Rattle.std.proofs.Common.{subst, sym}
-use Rattle.its_word.specs.declared.session.Event.TheVariants as events
+use Rattle.its_records.specs.declared.session.Event.TheVariants as events
 use Rattle.its_direct.specs.Events.{Told}
 use Rattle.its_direct.proofs.EventLaws.{told_symbol}
 use Rattle.its_direct.proofs.plain.Plain.tell_symbol.Goals as goal

@@ -1,5 +1,5 @@
 use Rattle.std.proofs.Common.{◌<◌, ℕ, Some, ap, refl, subst, sym, ◌∙◌}
-use Rattle.its_word.specs.declared.jobs.Job.{Job}
+use Rattle.its_records.specs.declared.jobs.Job.{Job}
 use Rattle.its_core.specs.Cores.{core_at}
 use Rattle.pdp_exec.specs.Units.{after_unit, left}
 use Rattle.its_direct.specs.declared.plain.Plain.{Plain}

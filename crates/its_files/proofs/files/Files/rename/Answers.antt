@@ -5,7 +5,7 @@ use Rattle.std.proofs.Common.{ap, sym, ◌∙◌, [], ◌∷◌, slice_index_or}
 use Rattle.its_files.specs.Files.{found_in, Store, directory, names_by, names_at, new_names, entry_in}
 use Rattle.its_files.proofs.EntryLaws.{renamed_files}
 use Rattle.its_files.proofs.files.Files.rename.Goals as goal
-use Rattle.its_word.proofs.FreeLaws.{none_is}
+use Rattle.its_records.proofs.FreeLaws.{none_is}
 
 pub invariant_of-self : goal.invariant_of-self
 invariant_of-self c =

@@ -2,7 +2,7 @@
 use Rattle.std.proofs.Common.{◌≡◌, sym, ◌∙◌, false, nat_lt, arith}
 use Rattle.std.proofs.lemmas.Bool.Decides.{nat_tests}
 use Rattle.its_word.specs.Limits.{slots}
-use Rattle.its_word.specs.Tree.{is_below}
+use Rattle.its_records.specs.Tree.{is_below}
 use Rattle.its_jobs.specs.Table.{superior_at}
 use Rattle.its_jobs.proofs.TreeLaws.{past_below}
 use Rattle.its_jobs.proofs.table.Jobs.is_below.Goals as goal

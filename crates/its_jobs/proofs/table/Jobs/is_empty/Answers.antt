@@ -1,5 +1,5 @@
 use Rattle.std.proofs.Common.{◌≡◌, ◌∙◌, ap, sym, true, slice_index_or, None}
-use Rattle.its_word.specs.Tree.{no_job}
+use Rattle.its_records.specs.Tree.{no_job}
 use Rattle.its_jobs.specs.Table.{job_at}
 use Rattle.its_jobs.proofs.TableLaws.{nobody}
 use Rattle.its_jobs.proofs.table.Jobs.is_empty.Goals as goal

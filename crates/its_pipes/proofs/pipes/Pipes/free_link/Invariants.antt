@@ -1,6 +1,6 @@
 use Rattle.std.proofs.Common.{◌≡◌, ◌-◌}
-use Rattle.its_word.specs.Links.{most_links}
-use Rattle.its_word.specs.Tree.{free_from, least_free}
+use Rattle.its_records.specs.Links.{most_links}
+use Rattle.its_records.specs.Tree.{free_from, least_free}
 use Rattle.its_pipes.specs.Pipes.{piped}
 use Rattle.its_pipes.proofs.pipes.Pipes.free_link.Given as goal
 

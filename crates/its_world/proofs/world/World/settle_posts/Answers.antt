@@ -1,4 +1,4 @@
-use Rattle.its_word.specs.Links.{most_links}
+use Rattle.its_records.specs.Links.{most_links}
 use Rattle.its_world.specs.Rings.{lists_to, link_lists_to}
 use Rattle.its_world.proofs.FilingLaws.{settled_then}
 use Rattle.its_world.proofs.world.World.settle_posts.Goals as goal

@@ -1,7 +1,7 @@
 -- The items of the lines of a session, in their order.
 -- A promise rests on this.
-use Rattle.its_word.specs.declared.session.Event.{Event}
-use Rattle.its_word.specs.declared.session.Reason.{Reason}
+use Rattle.its_records.specs.declared.session.Event.{Event}
+use Rattle.its_records.specs.declared.session.Reason.{Reason}
 
 pub data Item : Type 0 where
   -- a line that is read

@@ -1,4 +1,4 @@
-use super::word::Word;
+use its_word::Word;
 
 /// What a channel of a job is on. `at` is a position in words; `file` and `draft` are the numbers of a file and of a
 /// draft; `slot` is that of an inferior, which may be written if `write` holds; `link` is the number of a link, to whose

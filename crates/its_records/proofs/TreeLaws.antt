@@ -4,7 +4,7 @@ use Rattle.std.specs.List.{range_with_len}
 use Rattle.std.proofs.Common.{◌∙◌, ap, arith, inl, inr, eq-eqb}
 use Rattle.std.proofs.lemmas.Bool.{cases_eq, ne_eqb}
 use Rattle.its_word.specs.Limits.{slots}
-use Rattle.its_word.specs.Tree.{free_from, least_free, none_from, no_job, climbs_to, is_below, slots_below}
+use Rattle.its_records.specs.Tree.{free_from, least_free, none_from, no_job, climbs_to, is_below, slots_below}
 
 -- before the first slot is looked at
 pub least_start : {X : Type 0} (jobs : ℕ → Option X) (limit : ℕ) → free_from jobs (limit - 0) 0 ≡ least_free limit jobs

@@ -1,8 +1,8 @@
 ghost use Rattle.std.specs.Prelude.{◌≡◌};
-ghost use Rattle.its_word.specs.Refusals.{reason_of};
+ghost use Rattle.its_records.specs.Refusals.{reason_of};
 
-use super::word::Word;
 use arrayvec::ArrayVec;
+use its_word::Word;
 
 /// A line of a session, read. Addresses `a` are below 2^18, slots `s` are below 64 in version 1 of the
 /// session text and below 96 in version 2, consoles `c` are below 8; docs/SESSION.md has the numbers of

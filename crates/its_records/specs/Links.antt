@@ -1,9 +1,9 @@
 -- Links between jobs: two names, an end for reading and an end for writing (docs/CALLS.md, "Links").
 -- A promise rests on this.
 use Rattle.std.specs.Prelude.{if◌then◌else◌, ◌==◌, ◌&&◌, ◌||◌, ℕ, Bool, true, false}
-use Rattle.its_word.specs.declared.link.End.{End}
-use Rattle.its_word.specs.declared.link.End.TheVariants.{Unopened, Opened, Closed}
-use Rattle.its_word.specs.declared.link.Link.{Link}
+use Rattle.its_records.specs.declared.link.End.{End}
+use Rattle.its_records.specs.declared.link.End.TheVariants.{Unopened, Opened, Closed}
+use Rattle.its_records.specs.declared.link.Link.{Link}
 
 -- links that there can be, by number, and words that a link holds
 abbrev pub most_links : ℕ

@@ -4,8 +4,8 @@ use Rattle.std.specs.Prelude.{if◌then◌else◌, ◌≡◌, ◌≢◌, ◌≤�
 use Rattle.std.proofs.Common.{sym, ◌∙◌, ap, subst, arith, inl, inr, eq-eqb}
 use Rattle.std.proofs.lemmas.Bool.{cases_Bool, cases_eq, ne_eqb}
 use Rattle.its_word.specs.Limits.{slots}
-use Rattle.its_word.specs.Tree.{climbs_to, is_below}
-use Rattle.its_word.proofs.TreeLaws.{climb_end}
+use Rattle.its_records.specs.Tree.{climbs_to, is_below}
+use Rattle.its_records.proofs.TreeLaws.{climb_end}
 
 pub or_none : (a b : Bool) → (a || b) ≡ false → (a ≡ false) × (b ≡ false)
 or_none true b h = cc

@@ -1,4 +1,4 @@
-use super::word::Word;
+use its_word::Word;
 
 /// How many links there can be. Links go by the numbers below it.
 pub const LINKS: usize = 16;

@@ -1,11 +1,10 @@
 ghost use Rattle.std.specs.Prelude.{◌≡◌, None};
-ghost use Rattle.its_word.specs.declared.calls.Owed.TheVariants.{GiveBack};
-ghost use Rattle.its_word.specs.declared.calls.Pace.TheVariants.{Off};
-ghost use Rattle.its_word.specs.declared.calls.Arg.TheVariants.{Output};
+ghost use Rattle.its_records.specs.declared.calls.Owed.TheVariants.{GiveBack};
+ghost use Rattle.its_records.specs.declared.calls.Pace.TheVariants.{Off};
+ghost use Rattle.its_records.specs.declared.calls.Arg.TheVariants.{Output};
 
-use super::location::Location;
-use super::word::Word;
 use arrayvec::ArrayVec;
+use its_word::{Location, Word};
 
 /// The first word of a call's block, the call's name, and its argument words, of which at most 8 are
 /// read.

@@ -4,7 +4,7 @@ use Rattle.std.specs.Prelude.{if◌then◌else◌, ◌==◌, ◌≡◌, ◌≢�
 use Rattle.std.proofs.Common.{sym, ◌∙◌, ap, arith, inl, inr}
 use Rattle.std.proofs.lemmas.Bool.{cases_eq}
 use Rattle.its_word.specs.Limits.{slots, limit_of}
-use Rattle.its_word.specs.Tree.{free_from, least_free, none_from, no_job}
+use Rattle.its_records.specs.Tree.{free_from, least_free, none_from, no_job}
 
 -- only which slots are empty counts
 free_alike : {X Y : Type 0} (f : ℕ → Option X) (g : ℕ → Option Y) (n k : ℕ) → ((i : ℕ) → is_some (f i) ≡ is_some (g i)) → free_from f n k ≡ free_from g n k

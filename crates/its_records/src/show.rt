@@ -1,4 +1,4 @@
-use super::word::Word;
+use its_word::Word;
 
 /// What STATE shows of a job: its names, superior and console, whether it runs, its PC word, its pending words, masks
 /// and deferrals; and of its symbols the one nearest to its PC, if there is one at an address at most the PC: its

@@ -1,0 +1,3 @@
+pub mod TreeLaws
+pub mod ClimbLaws
+pub mod FreeLaws

@@ -1,0 +1,4 @@
+pub mod Item
+pub mod Links
+pub mod Tree
+pub mod Refusals
