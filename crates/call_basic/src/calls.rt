@@ -4,7 +4,7 @@ ghost use Rattle.its_frame.specs.declared.decision.Decision.TheVariants.{Gone};
 ghost use Rattle.its_jobs.specs.Table.{job_at, superior_at};
 ghost use Rattle.its_plain.specs.CallBasic.{told_superior};
 ghost use Rattle.its_plain.specs.Decide.{reached_by, target};
-ghost use Rattle.its_world.specs.World.{raw_at};
+ghost use Rattle.its_world.specs.World.{raw_in};
 ghost use Rattle.call_basic.specs.Seen.{raw_with};
 
 use super::arguments::input;
@@ -20,7 +20,7 @@ use its_world::World;
 pub fn target_of(w: &World, slot: u8, ask: &Ask) -> Option<u8>
     requires slot { slot < slots }
     requires job { is_some (job_at w.now.jobs slot) ≡ true }
-    ensures { IfSome (raw_at w.now.files w.now.core w.now.jobs w.now.alarms.items slot) (λ q. result ≡ target q ask.now) }
+    ensures { IfSome (raw_in w.now slot) (λ q. result ≡ target q ask.now) }
 {
     match w.jobs.job(slot) {
         Some(job) => target(w, slot, job, ask),

@@ -7,7 +7,7 @@ ghost use Rattle.its_plain.specs.CallBasic.{other_variable, own_variable, set_ot
 ghost use Rattle.its_plain.specs.Decide.{call_named as call_named_by, target};
 ghost use Rattle.its_plain.specs.Own.{with_advance, exit_of};
 ghost use Rattle.its_frame.specs.declared.decision.Decision.TheVariants.{Ends};
-ghost use Rattle.its_world.specs.World.{raw_at};
+ghost use Rattle.its_world.specs.World.{raw_in};
 ghost use Rattle.call_basic.specs.Seen.{raw_with, seen_by};
 
 use super::arguments::{has_input, input};
@@ -96,7 +96,7 @@ fn other_variable(w: &World, slot: u8, job: &Job, ask: &Ask, inferior: u8, write
 /// The value of a variable of an inferior.
 #[tactic(auto, using(crate::proofs::ReachLaws::value_some, crate::proofs::ReachLaws::value_none))]
 fn value_of_other(w: &World, inferior: u8, variable: Variable) -> Word
-    ensures { result ≡ value_of_other inferior variable (raw_at w.now.files w.now.core w.now.jobs w.now.alarms.items inferior) }
+    ensures { result ≡ value_of_other inferior variable (raw_in w.now inferior) }
 {
     match w.jobs.job(inferior) {
         Some(job) => variable_of(w, inferior, job, variable),

@@ -7,7 +7,7 @@ ghost use Rattle.its_plain.specs.Decide.{call_named as call_named_by, decided};
 ghost use Rattle.its_stepped.specs.Forest.{Forest};
 ghost use Rattle.its_stepped.specs.Tick.{helps, makes_page, reserves};
 ghost use Rattle.its_world.specs.Tidy.{Tidy};
-ghost use Rattle.its_world.specs.World.{raw_at, state_of};
+ghost use Rattle.its_world.specs.World.{state_of, raw_in};
 ghost use Rattle.call_basic.specs.Seen.{is_waiting, raw_with, seen_by};
 
 use super::devices::{close, iot, open, siot};
@@ -26,8 +26,8 @@ pub fn decide(w: &World, slot: u8, ask: &Ask) -> Decision
     requires job { is_some (job_at w.now.jobs slot) ≡ true }
     requires tidy { Tidy w.now }
     requires forest { Forest (state_of w.now).raw }
-    requires unmarked { IfSome (raw_at w.now.files w.now.core w.now.jobs w.now.alarms.items slot) (λ q. helps q ask.now ≡ true → w.now.files.mark ≡ None) }
-    ensures { IfSome (raw_at w.now.files w.now.core w.now.jobs w.now.alarms.items slot) (λ q. result ≡ decision (state_of w.now).raw slot q ask.now) }
+    requires unmarked { IfSome (raw_in w.now slot) (λ q. helps q ask.now ≡ true → w.now.files.mark ≡ None) }
+    ensures { IfSome (raw_in w.now slot) (λ q. result ≡ decision (state_of w.now).raw slot q ask.now) }
 {
     match w.jobs.job(slot) {
         Some(job) => decided(w, slot, job, ask),
@@ -41,8 +41,8 @@ pub fn ready(w: &World, slot: u8, ask: &Ask) -> bool
     requires job { is_some (job_at w.now.jobs slot) ≡ true }
     requires tidy { Tidy w.now }
     requires forest { Forest (state_of w.now).raw }
-    requires unmarked { IfSome (raw_at w.now.files w.now.core w.now.jobs w.now.alarms.items slot) (λ q. helps q ask.now ≡ true → w.now.files.mark ≡ None) }
-    ensures { IfSome (raw_at w.now.files w.now.core w.now.jobs w.now.alarms.items slot) (λ q. result ≡ not (is_waiting (decision (state_of w.now).raw slot q ask.now))) }
+    requires unmarked { IfSome (raw_in w.now slot) (λ q. helps q ask.now ≡ true → w.now.files.mark ≡ None) }
+    ensures { IfSome (raw_in w.now slot) (λ q. result ≡ not (is_waiting (decision (state_of w.now).raw slot q ask.now))) }
 {
     match decide(w, slot, ask) {
         Decision::Waits(_) => false,

@@ -3,7 +3,7 @@ ghost use Rattle.std.specs.Prelude.{◌≡◌, ◌==◌, IfSome};
 ghost use Rattle.its_plain.specs.Arguments.{input};
 ghost use Rattle.its_plain.specs.CallFile.{disk_device};
 ghost use Rattle.its_stepped.specs.Tick.{helps};
-ghost use Rattle.its_world.specs.World.{raw_at};
+ghost use Rattle.its_world.specs.World.{raw_in};
 ghost use Rattle.its_machine.specs.Called.{channel_under};
 ghost use Rattle.call_basic.specs.Seen.{raw_with};
 ghost use Rattle.call_file.specs.Held.{is_on_file};
@@ -23,7 +23,7 @@ pub fn is_disk(ask: &Ask) -> bool
 
 /// Whether a call of a slot's job is one on files, before whose commit the pending parts of a half made close are performed.
 pub fn helps(w: &World, slot: u8, ask: &Ask) -> bool
-    ensures { IfSome (raw_at w.now.files w.now.core w.now.jobs w.now.alarms.items slot) (λ q. result ≡ helps q ask.now) }
+    ensures { IfSome (raw_in w.now slot) (λ q. result ≡ helps q ask.now) }
 {
     match w.jobs.job(slot) {
         Some(job) => is_on_files(w, slot, job, ask),

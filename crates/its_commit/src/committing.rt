@@ -11,7 +11,7 @@ ghost use Rattle.its_world.specs.Tidy.{Tidy};
 ghost use Rattle.its_commit.specs.Built.{backed};
 ghost use Rattle.its_commit.specs.Pages.{pages_carried};
 ghost use Rattle.its_commit.specs.Carried.{standing_of, next_of, CanCommit, Endable};
-ghost use Rattle.its_world.specs.World.{state_of, frame_at, FrameBecomes};
+ghost use Rattle.its_world.specs.World.{state_of, FrameBecomes, call_in};
 
 use super::carrying::owed_steps;
 use super::changes::apply;
@@ -29,10 +29,10 @@ use its_world::World;
 pub fn carry_out(w: &mut World, slot: u8, decision: Decision)
     requires slot { slot < slots }
     requires job { is_some (job_at w.old.jobs slot) ≡ true }
-    requires stands { is_some (standing_of (frame_at w.old.frames.items slot)) ≡ true }
-    requires ready { IfSome (standing_of (frame_at w.old.frames.items slot)) (λ f. CanCommit (state_of w.old) slot f decision) }
+    requires stands { is_some (standing_of (call_in w.old slot)) ≡ true }
+    requires ready { IfSome (standing_of (call_in w.old slot)) (λ f. CanCommit (state_of w.old) slot f decision) }
     requires tidy { Tidy w.old }
-    ensures row { IfSome (standing_of (frame_at w.old.frames.items slot)) (λ f. state_of w.new ≡ after_commit (state_of w.old) slot f.site f.ask f.owes decision) }
+    ensures row { IfSome (standing_of (call_in w.old slot)) (λ f. state_of w.new ≡ after_commit (state_of w.old) slot f.site f.ask f.owes decision) }
     ensures pages { w.new.core.frames ≡ pages_carried decision slot (state_of w.old) w.old.core.frames }
     ensures tidy { Tidy w.new }
 {
@@ -65,8 +65,8 @@ pub fn carry_out(w: &mut World, slot: u8, decision: Decision)
 #[tactic(auto, using(crate::proofs::StandingLaws::stands_holding, crate::proofs::StandingLaws::stands_waiting))]
 pub fn standing(w: &World, slot: u8) -> (&Ask, u8)
     requires slot { slot < slots }
-    requires stands { is_some (standing_of (frame_at w.now.frames.items slot)) ≡ true }
-    ensures { IfSome (standing_of (frame_at w.now.frames.items slot)) (λ f. (result.0.now ≡ f.ask) × (result.1 ≡ f.owes)) }
+    requires stands { is_some (standing_of (call_in w.now slot)) ≡ true }
+    ensures { IfSome (standing_of (call_in w.now slot)) (λ f. (result.0.now ≡ f.ask) × (result.1 ≡ f.owes)) }
 {
     match w.frame(slot) {
         View::Holding { ask, owes, .. } => (ask, owes),
@@ -79,9 +79,9 @@ pub fn standing(w: &World, slot: u8) -> (&Ask, u8)
 #[tactic(auto, using(crate::proofs::TidyLaws::becomes_pages))]
 fn wait(w: &mut World, slot: u8)
     requires slot { slot < slots }
-    requires stands { is_some (standing_of (frame_at w.old.frames.items slot)) ≡ true }
+    requires stands { is_some (standing_of (call_in w.old slot)) ≡ true }
     requires tidy { Tidy w.old }
-    ensures row { IfSome (standing_of (frame_at w.old.frames.items slot)) (λ f. FrameBecomes w.old w.new slot (Some (waiting f.site f.ask f.owes))) }
+    ensures row { IfSome (standing_of (call_in w.old slot)) (λ f. FrameBecomes w.old w.new slot (Some (waiting f.site f.ask f.owes))) }
     ensures pages { w.new.core.frames ≡ w.old.core.frames }
     ensures tidy { Tidy w.new }
 {
@@ -93,10 +93,10 @@ fn wait(w: &mut World, slot: u8)
 #[tactic(auto, using(crate::proofs::TidyLaws::becomes_pages))]
 fn go_on(w: &mut World, slot: u8, held: Option<Held>, values: &[Word])
     requires slot { slot < slots }
-    requires stands { is_some (standing_of (frame_at w.old.frames.items slot)) ≡ true }
+    requires stands { is_some (standing_of (call_in w.old slot)) ≡ true }
     requires few { length values.now ≤ 2 }
     requires tidy { Tidy w.old }
-    ensures row { IfSome (standing_of (frame_at w.old.frames.items slot)) (λ f. FrameBecomes w.old w.new slot (Some (after_going_on f.site (with_new_values f.ask values.now) (length values.now) held))) }
+    ensures row { IfSome (standing_of (call_in w.old slot)) (λ f. FrameBecomes w.old w.new slot (Some (after_going_on f.site (with_new_values f.ask values.now) (length values.now) held))) }
     ensures pages { w.new.core.frames ≡ w.old.core.frames }
     ensures tidy { Tidy w.new }
 {
@@ -129,10 +129,10 @@ fn is_sleep(ask: &Ask) -> bool
 #[tactic(auto, using(crate::proofs::CommittingLaws::page_reserved, crate::proofs::TidyLaws::becomes_pages))]
 fn end(w: &mut World, slot: u8, stores: &[Store], exit: Exit)
     requires slot { slot < slots }
-    requires stands { is_some (standing_of (frame_at w.old.frames.items slot)) ≡ true }
-    requires room { IfSome (standing_of (frame_at w.old.frames.items slot)) (λ f. Endable (state_of w.old) slot f (length stores.now)) }
+    requires stands { is_some (standing_of (call_in w.old slot)) ≡ true }
+    requires room { IfSome (standing_of (call_in w.old slot)) (λ f. Endable (state_of w.old) slot f (length stores.now)) }
     requires tidy { Tidy w.old }
-    ensures row { IfSome (standing_of (frame_at w.old.frames.items slot)) (λ f. FrameBecomes w.old w.new slot (Some (ending f.site f.ask (owed_parts (state_of w.old).mark slot ++ (backed (is_some ((state_of w.old).reserved slot)) ++ (map owed_store (debts f.ask f.owes ++ stores.now) ++ Leave exit ∷ [])))))) }
+    ensures row { IfSome (standing_of (call_in w.old slot)) (λ f. FrameBecomes w.old w.new slot (Some (ending f.site f.ask (owed_parts (state_of w.old).mark slot ++ (backed (is_some ((state_of w.old).reserved slot)) ++ (map owed_store (debts f.ask f.owes ++ stores.now) ++ Leave exit ∷ [])))))) }
     ensures pages { w.new.core.frames ≡ w.old.core.frames }
     ensures tidy { Tidy w.new }
 {

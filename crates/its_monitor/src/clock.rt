@@ -13,7 +13,7 @@ ghost use Rattle.its_stepped.specs.State.{plain};
 ghost use Rattle.its_stepped.specs.Sound.{Sound};
 ghost use Rattle.its_stepped.specs.Unwind.{all_unwound};
 ghost use Rattle.its_world.specs.Tidy.{Tidy};
-ghost use Rattle.its_world.specs.World.{alarm_at, state_of, in_raw};
+ghost use Rattle.its_world.specs.World.{alarm_at, state_of, in_raw, plain_of};
 ghost use Rattle.its_pclsr.specs.Pages.{pages_unwound};
 ghost use Rattle.its_monitor.specs.Kept.{Kept, Lands, Refused};
 ghost use Rattle.its_monitor.specs.Rung.{roused, RangAt, RangBelow};
@@ -35,7 +35,7 @@ impl Monitor {
     pub fn advance(&mut self, n: u64) -> Result<(), Refusal>
         requires kept { Kept self.old.world }
         ensures done { OnOk result (Lands (roused (state_of self.old.world) n) (state_of self.new.world) (after_clock (roused (state_of self.old.world) n).raw n)) }
-        ensures plain { OnOk result (after_clock (plain (state_of self.old.world)) n ≡ Ok (plain (state_of self.new.world))) }
+        ensures plain { OnOk result (after_clock (plain_of self.old.world) n ≡ Ok (plain_of self.new.world)) }
         ensures refused { IfErr result (λ e. Refused (state_of self.old.world) (roused (state_of self.old.world) n) (λ m. after_clock m n) e) }
         ensures same { OnErr result (self.new ≡ self.old) }
         ensures pages { OnOk result (self.new.world.core.frames ≡ pages_unwound (due_slots (self.old.world.clock + n) (state_of self.old.world).raw.jobs) (state_of self.old.world) self.old.world.core.frames) }
@@ -67,7 +67,7 @@ fn unwind_due(w: &mut World, clock: u64)
     requires sound { Sound (state_of w.old) }
     requires tidy { Tidy w.old }
     ensures unwinds { state_of w.new ≡ all_unwound (due_slots clock (state_of w.old).raw.jobs) (state_of w.old) }
-    ensures same { plain (state_of w.new) ≡ plain (state_of w.old) }
+    ensures same { plain_of w.new ≡ plain_of w.old }
     ensures pages { w.new.core.frames ≡ pages_unwound (due_slots clock (state_of w.old).raw.jobs) (state_of w.old) w.old.core.frames }
     ensures tidy { Tidy w.new }
 {

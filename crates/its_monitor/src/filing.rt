@@ -5,7 +5,7 @@ ghost use Rattle.its_plain.specs.CallFile.{file_named};
 ghost use Rattle.its_plain.specs.OperatorFiles.{is_in, files_in, show_of, with_file_made, with_word_added};
 ghost use Rattle.its_stepped.specs.State.{plain};
 ghost use Rattle.its_stepped.specs.Unwind.{help};
-ghost use Rattle.its_world.specs.World.{state_of};
+ghost use Rattle.its_world.specs.World.{state_of, plain_of};
 ghost use Rattle.its_world.specs.Tidy.{Tidy};
 ghost use Rattle.its_records.specs.Refusals.{reason_of};
 ghost use Rattle.its_monitor.specs.Kept.{Kept, Lands, Helped, FileRefused, CloseMade};
@@ -25,8 +25,8 @@ impl Monitor {
     #[tactic(auto, using(crate::proofs::DirLaws::dir_shown, crate::proofs::DirLaws::dir_past, crate::proofs::FileLaws::helped_plain))]
     pub fn dir(&mut self, d: Word, k: u32) -> Option<FileShow>
         requires kept { Kept self.old.world }
-        ensures shown { result ≡ option_map show_of (slice_get (files_in d (plain (state_of self.old.world)).files) k) }
-        ensures plain { plain (state_of self.new.world) ≡ plain (state_of self.old.world) }
+        ensures shown { result ≡ option_map show_of (slice_get (files_in d (plain_of self.old.world).files) k) }
+        ensures plain { plain_of self.new.world ≡ plain_of self.old.world }
         ensures state { state_of self.new.world ≡ help (state_of self.old.world) }
         ensures files { self.new.world.files ≡ after_help self.old.world.files }
         ensures alone { CloseMade self.old.world self.new.world }
@@ -44,10 +44,10 @@ impl Monitor {
     #[tactic(auto, using(crate::proofs::FileLaws::file_found, crate::proofs::FileLaws::file_absent, crate::proofs::FileLaws::helped_plain))]
     pub fn file(&mut self, d: Word, x: Word, y: Word) -> Result<u32, Refusal>
         requires kept { Kept self.old.world }
-        ensures found { IfOk result (λ id. file_named (names_of d x y) (plain (state_of self.old.world)).files ≡ Some (file_at self.new.world.files id)) }
+        ensures found { IfOk result (λ id. file_named (names_of d x y) (plain_of self.old.world).files ≡ Some (file_at self.new.world.files id)) }
         ensures file { IfOk result (λ id. is_file (entry_at self.new.world.files id) ≡ true) }
-        ensures refused { IfErr result (λ e. (e ≡ Refusal.NoFile) × (file_named (names_of d x y) (plain (state_of self.old.world)).files ≡ None)) }
-        ensures plain { plain (state_of self.new.world) ≡ plain (state_of self.old.world) }
+        ensures refused { IfErr result (λ e. (e ≡ Refusal.NoFile) × (file_named (names_of d x y) (plain_of self.old.world).files ≡ None)) }
+        ensures plain { plain_of self.new.world ≡ plain_of self.old.world }
         ensures state { state_of self.new.world ≡ help (state_of self.old.world) }
         ensures files { self.new.world.files ≡ after_help self.old.world.files }
         ensures alone { CloseMade self.old.world self.new.world }
@@ -67,7 +67,7 @@ impl Monitor {
     pub fn file_word(&mut self, id: u32, k: u32) -> Option<Word>
         requires kept { Kept self.old.world }
         ensures word { result ≡ word_if (is_file (entry_at self.new.world.files id)) (words_at self.new.world.files id) k }
-        ensures plain { plain (state_of self.new.world) ≡ plain (state_of self.old.world) }
+        ensures plain { plain_of self.new.world ≡ plain_of self.old.world }
         ensures state { state_of self.new.world ≡ help (state_of self.old.world) }
         ensures files { self.new.world.files ≡ after_help self.old.world.files }
         ensures alone { CloseMade self.old.world self.new.world }
@@ -86,7 +86,7 @@ impl Monitor {
     pub fn file_length(&mut self, id: u32) -> Option<u32>
         requires kept { Kept self.old.world }
         ensures length { result ≡ length_if (is_file (entry_at self.new.world.files id)) (words_at self.new.world.files id) }
-        ensures plain { plain (state_of self.new.world) ≡ plain (state_of self.old.world) }
+        ensures plain { plain_of self.new.world ≡ plain_of self.old.world }
         ensures state { state_of self.new.world ≡ help (state_of self.old.world) }
         ensures files { self.new.world.files ≡ after_help self.old.world.files }
         ensures alone { CloseMade self.old.world self.new.world }
@@ -106,7 +106,7 @@ impl Monitor {
     pub fn file_new(&mut self, d: Word, x: Word, y: Word) -> Result<u32, Refusal>
         requires kept { Kept self.old.world }
         ensures done { OnOk result (Lands (help (state_of self.old.world)) (state_of self.new.world) (with_file_made (help (state_of self.old.world)).raw (names_of d x y))) }
-        ensures plain { OnOk result (with_file_made (plain (state_of self.old.world)) (names_of d x y) ≡ Ok (plain (state_of self.new.world))) }
+        ensures plain { OnOk result (with_file_made (plain_of self.old.world) (names_of d x y) ≡ Ok (plain_of self.new.world)) }
         ensures file { IfOk result (λ id. is_file (entry_at self.new.world.files id) ≡ true) }
         ensures names { IfOk result (λ id. names_at self.new.world.files id ≡ names_of d x y) }
         ensures refused { IfErr result (λ e. FileRefused (state_of self.old.world) (λ m. with_file_made m (names_of d x y)) e) }
@@ -134,7 +134,7 @@ impl Monitor {
         requires file { is_file (entry_at (after_help self.old.world.files) id) ≡ true }
         requires kept { Kept self.old.world }
         ensures done { OnOk result (Lands (help (state_of self.old.world)) (state_of self.new.world) (with_word_added (help (state_of self.old.world)).raw (names_at (after_help self.old.world.files) id) w)) }
-        ensures plain { OnOk result (with_word_added (plain (state_of self.old.world)) (names_at (after_help self.old.world.files) id) w ≡ Ok (plain (state_of self.new.world))) }
+        ensures plain { OnOk result (with_word_added (plain_of self.old.world) (names_at (after_help self.old.world.files) id) w ≡ Ok (plain_of self.new.world)) }
         ensures file { is_file (entry_at self.new.world.files id) ≡ true }
         ensures names { names_at self.new.world.files id ≡ names_at (after_help self.old.world.files) id }
         ensures refused { IfErr result (λ e. FileRefused (state_of self.old.world) (λ m. with_word_added m (names_at (after_help self.old.world.files) id) w) e) }

@@ -4,7 +4,7 @@ ghost use Rattle.its_records.specs.Tree.{least_free};
 ghost use Rattle.its_jobs.specs.Table.{job_at};
 ghost use Rattle.its_plain.specs.OperatorJobs.{after_load, with_holder};
 ghost use Rattle.its_stepped.specs.State.{plain};
-ghost use Rattle.its_world.specs.World.{state_of};
+ghost use Rattle.its_world.specs.World.{state_of, plain_of};
 ghost use Rattle.its_monitor.specs.Kept.{Kept, Loads, Alters};
 ghost use Rattle.its_monitor.specs.Loading.{no_console, LoadRefused};
 ghost use Rattle.its_world.specs.Made.{JobMade};
@@ -26,7 +26,7 @@ impl Monitor {
     pub fn load_job(&mut self, u: Word, j: Word, console: Option<u8>) -> Result<u8, Refusal>
         requires kept { Kept self.old.world }
         ensures done { IfOk result (λ s. Loads (state_of self.old.world) (state_of self.new.world) (after_load (state_of self.old.world).raw u j console) s) }
-        ensures plain { IfOk result (λ s. after_load (plain (state_of self.old.world)) u j console ≡ Ok (plain (state_of self.new.world), s)) }
+        ensures plain { IfOk result (λ s. after_load (plain_of self.old.world) u j console ≡ Ok (plain_of self.new.world, s)) }
         ensures slot { IfOk result (λ s. s < slots) }
         ensures there { OnOk result (no_console console ≡ false) }
         ensures refused { IfErr result (λ e. LoadRefused (state_of self.old.world) u j console e) }

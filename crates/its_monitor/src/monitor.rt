@@ -8,7 +8,7 @@ ghost use Rattle.its_stepped.specs.State.{plain, no_state};
 ghost use Rattle.its_stepped.specs.Tick.{tick};
 ghost use Rattle.its_stepped.specs.Lines.{paces_of, after_ticks};
 ghost use Rattle.its_world.specs.Filed.{Blocked};
-ghost use Rattle.its_world.specs.World.{frame_at, state_of};
+ghost use Rattle.its_world.specs.World.{state_of, call_in, plain_of};
 ghost use Rattle.its_tick.specs.Kept.{Kept};
 ghost use Rattle.its_tick.specs.Beside.{AllBeside};
 ghost use Rattle.its_tick.specs.Pages.{pages_ticked};
@@ -44,13 +44,13 @@ impl Monitor {
         requires can { Kept self.old.world ⊎ InRing self.old.world slot }
         ensures state { Kept self.old.world → state_of self.new.world ≡ (tick (state_of self.old.world) slot).state }
         ensures pace { Kept self.old.world → result ≡ (tick (state_of self.old.world) slot).pace }
-        ensures licensed { Kept self.old.world → Licensed (plain (state_of self.old.world)) slot result (plain (state_of self.new.world)) }
-        ensures once { Kept self.old.world → result ≡ Pace.Step → EachByte (plain (state_of self.old.world)) slot (plain (state_of self.new.world)) }
+        ensures licensed { Kept self.old.world → Licensed (plain_of self.old.world) slot result (plain_of self.new.world) }
+        ensures once { Kept self.old.world → result ≡ Pace.Step → EachByte (plain_of self.old.world) slot (plain_of self.new.world) }
         ensures others { Kept self.old.world → AllBeside (state_of self.old.world) (state_of self.new.world) slot result }
         ensures pages { Kept self.old.world → self.new.world.core.frames ≡ pages_ticked (state_of self.old.world) slot self.old.world.core.frames }
         ensures kept { Kept self.old.world → Kept self.new.world }
         ensures ring { InRing self.old.world slot → (result ≡ Pace.Wait) × (self.new.world ≡ self.old.world) }
-        ensures waits { is_waiting (frame_at self.old.world.frames.items slot) ≡ true → ((result ≡ Pace.Wait) ↔ Blocked self.old.world slot) }
+        ensures waits { is_waiting (call_in self.old.world slot) ≡ true → ((result ≡ Pace.Wait) ↔ Blocked self.old.world slot) }
     {
         its_tick::tick(&mut self.world, slot)
     }
@@ -74,7 +74,7 @@ impl Monitor {
     pub fn running(&self, slot: u8) -> bool
         requires slot { slot < slots }
         ensures raw { result ≡ runs (state_of self.now.world).raw slot }
-        ensures plain { result ≡ runs (plain (state_of self.now.world)) slot }
+        ensures plain { result ≡ runs (plain_of self.now.world) slot }
     {
         its_tick::running(&self.world, slot)
     }

@@ -5,7 +5,7 @@ ghost use Rattle.its_core.specs.Cores.{core_at};
 ghost use Rattle.its_plain.specs.OperatorJobs.{any_barred, is_barred, with_page_protected, words_barred};
 ghost use Rattle.its_stepped.specs.State.{plain};
 ghost use Rattle.its_stepped.specs.Unwind.{unwound};
-ghost use Rattle.its_world.specs.World.{state_of, CoreBecomes};
+ghost use Rattle.its_world.specs.World.{state_of, CoreBecomes, plain_of};
 ghost use Rattle.its_pclsr.specs.Apart.{CoresOff};
 ghost use Rattle.its_monitor.specs.Kept.{Kept, Lands, Refused};
 
@@ -22,7 +22,7 @@ impl Monitor {
         requires slot { slot < slots }
         requires kept { Kept self.old.world }
         ensures done { OnOk result (Lands (unwound (state_of self.old.world) slot) (state_of self.new.world) (with_page_protected (unwound (state_of self.old.world) slot).raw slot page)) }
-        ensures plain { OnOk result (with_page_protected (plain (state_of self.old.world)) slot page ≡ Ok (plain (state_of self.new.world))) }
+        ensures plain { OnOk result (with_page_protected (plain_of self.old.world) slot page ≡ Ok (plain_of self.new.world)) }
         ensures refused { IfErr result (λ e. Refused (state_of self.old.world) (unwound (state_of self.old.world) slot) (λ m. with_page_protected m slot page) e) }
         ensures same { OnErr result (self.new ≡ self.old) }
         ensures cores { OnOk result (CoresOff self.old.world self.new.world slot) }
@@ -46,7 +46,7 @@ impl Monitor {
         requires end { a + n ≤ 2 ^ 18 }
         requires kept { Kept self.now.world }
         ensures calmed { result ≡ words_barred (unwound (state_of self.now.world) slot).raw slot a n }
-        ensures plain { result ≡ words_barred (plain (state_of self.now.world)) slot a n }
+        ensures plain { result ≡ words_barred (plain_of self.now.world) slot a n }
     {
         let world = &self.world;
         match present(world, slot) {

@@ -4,9 +4,9 @@ ghost use Rattle.its_calls.specs.Calls.{frame_seen};
 ghost use Rattle.its_core.specs.Cores.{core_at};
 ghost use Rattle.its_plain.specs.Arguments.{place_of_input};
 ghost use Rattle.its_plain.specs.Decide.{call_named};
-ghost use Rattle.its_stepped.specs.State.{mine, plain};
+ghost use Rattle.its_stepped.specs.State.{mine};
 ghost use Rattle.its_stepped.specs.Lines.{peeked, state_shown, name_shown, name_read, first_shown, second_shown, word_of_input, word_shown, ask_in, byte_shown};
-ghost use Rattle.its_world.specs.World.{state_of};
+ghost use Rattle.its_world.specs.World.{state_of, plain_of};
 ghost use Rattle.its_monitor.specs.Kept.{Kept};
 ghost use Rattle.its_monitor.specs.Peeking.{Shows};
 
@@ -28,7 +28,7 @@ impl Monitor {
         requires kept { Kept self.now.world }
         ensures shown { IfOk result (λ p. p ≡ peeked (state_of self.now.world) slot) }
         ensures some { OnOk result (is_some ((state_of self.now.world).raw.jobs slot) ≡ true) }
-        ensures refused { IfErr result (λ e. (e ≡ Refusal.NoJob) × ((state_of self.now.world).raw.jobs slot ≡ None) × ((plain (state_of self.now.world)).jobs slot ≡ None)) }
+        ensures refused { IfErr result (λ e. (e ≡ Refusal.NoJob) × ((state_of self.now.world).raw.jobs slot ≡ None) × ((plain_of self.now.world).jobs slot ≡ None)) }
     {
         let world = &self.world;
         if world.registers(slot).is_none() {

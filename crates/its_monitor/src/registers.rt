@@ -5,7 +5,7 @@ ghost use Rattle.its_plain.specs.Job.{pc_word};
 ghost use Rattle.its_plain.specs.OperatorJobs.{on_registers, after_go, after_stop, after_cont, after_int, state_shown, shown};
 ghost use Rattle.its_stepped.specs.State.{plain};
 ghost use Rattle.its_stepped.specs.Unwind.{unwound};
-ghost use Rattle.its_world.specs.World.{state_of};
+ghost use Rattle.its_world.specs.World.{state_of, plain_of};
 ghost use Rattle.its_pclsr.specs.Apart.{CoresOff};
 ghost use Rattle.its_monitor.specs.Kept.{Kept, Lands, Refused, Calm};
 
@@ -24,7 +24,7 @@ impl Monitor {
         requires address { a < 2 ^ 18 }
         requires kept { Kept self.old.world }
         ensures done { OnOk result (Lands (unwound (state_of self.old.world) slot) (state_of self.new.world) (on_registers (unwound (state_of self.old.world) slot).raw slot (after_go a))) }
-        ensures plain { OnOk result (on_registers (plain (state_of self.old.world)) slot (after_go a) ≡ Ok (plain (state_of self.new.world))) }
+        ensures plain { OnOk result (on_registers (plain_of self.old.world) slot (after_go a) ≡ Ok (plain_of self.new.world)) }
         ensures refused { IfErr result (λ e. Refused (state_of self.old.world) (unwound (state_of self.old.world) slot) (λ m. on_registers m slot (after_go a)) e) }
         ensures same { OnErr result (self.new ≡ self.old) }
         ensures cores { OnOk result (CoresOff self.old.world self.new.world slot) }
@@ -45,7 +45,7 @@ impl Monitor {
         requires slot { slot < slots }
         requires kept { Kept self.old.world }
         ensures done { OnOk result (Lands (unwound (state_of self.old.world) slot) (state_of self.new.world) (on_registers (unwound (state_of self.old.world) slot).raw slot after_stop)) }
-        ensures plain { OnOk result (on_registers (plain (state_of self.old.world)) slot after_stop ≡ Ok (plain (state_of self.new.world))) }
+        ensures plain { OnOk result (on_registers (plain_of self.old.world) slot after_stop ≡ Ok (plain_of self.new.world)) }
         ensures refused { IfErr result (λ e. Refused (state_of self.old.world) (unwound (state_of self.old.world) slot) (λ m. on_registers m slot after_stop) e) }
         ensures same { OnErr result (self.new ≡ self.old) }
         ensures cores { OnOk result (CoresOff self.old.world self.new.world slot) }
@@ -64,7 +64,7 @@ impl Monitor {
         requires slot { slot < slots }
         requires kept { Kept self.old.world }
         ensures done { OnOk result (Lands (unwound (state_of self.old.world) slot) (state_of self.new.world) (on_registers (unwound (state_of self.old.world) slot).raw slot after_cont)) }
-        ensures plain { OnOk result (on_registers (plain (state_of self.old.world)) slot after_cont ≡ Ok (plain (state_of self.new.world))) }
+        ensures plain { OnOk result (on_registers (plain_of self.old.world) slot after_cont ≡ Ok (plain_of self.new.world)) }
         ensures refused { IfErr result (λ e. Refused (state_of self.old.world) (unwound (state_of self.old.world) slot) (λ m. on_registers m slot after_cont) e) }
         ensures same { OnErr result (self.new ≡ self.old) }
         ensures cores { OnOk result (CoresOff self.old.world self.new.world slot) }
@@ -82,7 +82,7 @@ impl Monitor {
         requires slot { slot < slots }
         requires kept { Kept self.old.world }
         ensures done { OnOk result (Lands (unwound (state_of self.old.world) slot) (state_of self.new.world) (on_registers (unwound (state_of self.old.world) slot).raw slot (after_int v w))) }
-        ensures plain { OnOk result (on_registers (plain (state_of self.old.world)) slot (after_int v w) ≡ Ok (plain (state_of self.new.world))) }
+        ensures plain { OnOk result (on_registers (plain_of self.old.world) slot (after_int v w) ≡ Ok (plain_of self.new.world)) }
         ensures refused { IfErr result (λ e. Refused (state_of self.old.world) (unwound (state_of self.old.world) slot) (λ m. on_registers m slot (after_int v w)) e) }
         ensures same { OnErr result (self.new ≡ self.old) }
         ensures cores { OnOk result (CoresOff self.old.world self.new.world slot) }
@@ -100,9 +100,9 @@ impl Monitor {
         requires slot { slot < slots }
         requires kept { Kept self.old.world }
         ensures shown { IfOk result (λ x. state_shown (unwound (state_of self.old.world) slot).raw slot ≡ Ok x) }
-        ensures plain { IfOk result (λ x. state_shown (plain (state_of self.old.world)) slot ≡ Ok x) }
+        ensures plain { IfOk result (λ x. state_shown (plain_of self.old.world) slot ≡ Ok x) }
         ensures unwinds { OnOk result (state_of self.new.world ≡ unwound (state_of self.old.world) slot) }
-        ensures leaves { plain (state_of self.new.world) ≡ plain (state_of self.old.world) }
+        ensures leaves { plain_of self.new.world ≡ plain_of self.old.world }
         ensures refused { IfErr result (λ e. Refused (state_of self.old.world) (unwound (state_of self.old.world) slot) (λ m. state_shown m slot) e) }
         ensures same { OnErr result (self.new ≡ self.old) }
         ensures cores { OnOk result (CoresOff self.old.world self.new.world slot) }

@@ -3,7 +3,7 @@ ghost use Rattle.its_word.specs.Limits.{slots, most_symbols};
 ghost use Rattle.its_plain.specs.OperatorSymbols.{symbol_shown, with_symbol_kept};
 ghost use Rattle.its_plain.specs.OperatorVersion.{with_version};
 ghost use Rattle.its_stepped.specs.State.{plain};
-ghost use Rattle.its_world.specs.World.{state_of, symbols_at};
+ghost use Rattle.its_world.specs.World.{state_of, symbols_at, plain_of};
 ghost use Rattle.its_monitor.specs.Kept.{Kept, Lands, Refused};
 
 use super::monitor::Monitor;
@@ -21,7 +21,7 @@ impl Monitor {
         requires known { (1 ≤ v) × (v ≤ 2) }
         requires kept { Kept self.old.world }
         ensures done { Lands (state_of self.old.world) (state_of self.new.world) (Ok (with_version (state_of self.old.world).raw v)) }
-        ensures plain { with_version (plain (state_of self.old.world)) v ≡ plain (state_of self.new.world) }
+        ensures plain { with_version (plain_of self.old.world) v ≡ plain_of self.new.world }
         ensures core { self.new.world.core ≡ self.old.world.core }
         ensures kept { Kept self.new.world }
     {
@@ -38,7 +38,7 @@ impl Monitor {
         requires slot { slot < slots }
         requires kept { Kept self.old.world }
         ensures done { OnOk result (Lands (state_of self.old.world) (state_of self.new.world) (with_symbol_kept (state_of self.old.world).raw slot name a)) }
-        ensures plain { OnOk result (with_symbol_kept (plain (state_of self.old.world)) slot name a ≡ Ok (plain (state_of self.new.world))) }
+        ensures plain { OnOk result (with_symbol_kept (plain_of self.old.world) slot name a ≡ Ok (plain_of self.new.world)) }
         ensures refused { IfErr result (λ e. Refused (state_of self.old.world) (state_of self.old.world) (λ m. with_symbol_kept m slot name a) e) }
         ensures same { OnErr result (self.new ≡ self.old) }
         ensures core { self.new.world.core ≡ self.old.world.core }

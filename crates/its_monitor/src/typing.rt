@@ -2,7 +2,7 @@ ghost use Rattle.std.specs.Prelude.{◌≡◌, ◌<◌, ◌≤◌, ◌↔◌, �
 ghost use Rattle.its_word.specs.Console.{most_waiting};
 ghost use Rattle.its_plain.specs.OperatorConsoles.{with_typed, after_drain};
 ghost use Rattle.its_stepped.specs.State.{plain};
-ghost use Rattle.its_world.specs.World.{state_of};
+ghost use Rattle.its_world.specs.World.{state_of, plain_of};
 ghost use Rattle.its_monitor.specs.Kept.{Kept, Lands};
 
 use super::monitor::Monitor;
@@ -17,7 +17,7 @@ impl Monitor {
         ensures there { OnOk result (console < 8) }
         ensures waits { IfOk result (λ room. IsTrue room ↔ (length ((state_of self.old.world).raw.consoles console).input < most_waiting)) }
         ensures done { OnOk result (Lands (state_of self.old.world) (state_of self.new.world) (Ok (with_typed console (b ∷ []) (state_of self.old.world).raw))) }
-        ensures plain { OnOk result (plain (state_of self.new.world) ≡ with_typed console (b ∷ []) (plain (state_of self.old.world))) }
+        ensures plain { OnOk result (plain_of self.new.world ≡ with_typed console (b ∷ []) (plain_of self.old.world)) }
         ensures refused { IfErr result (λ e. (e ≡ Refusal.NoConsole) × (8 ≤ console)) }
         ensures same { OnErr result (self.new ≡ self.old) }
         ensures core { self.new.world.core ≡ self.old.world.core }
@@ -37,7 +37,7 @@ impl Monitor {
         ensures there { OnOk result (console < 8) }
         ensures first { IfOk result (λ b. b ≡ slice_get ((state_of self.old.world).raw.consoles console).output 0) }
         ensures done { OnOk result (Lands (state_of self.old.world) (state_of self.new.world) (Ok (after_drain console 1 (state_of self.old.world).raw))) }
-        ensures plain { OnOk result (plain (state_of self.new.world) ≡ after_drain console 1 (plain (state_of self.old.world))) }
+        ensures plain { OnOk result (plain_of self.new.world ≡ after_drain console 1 (plain_of self.old.world)) }
         ensures refused { IfErr result (λ e. (e ≡ Refusal.NoConsole) × (8 ≤ console)) }
         ensures same { OnErr result (self.new ≡ self.old) }
         ensures core { self.new.world.core ≡ self.old.world.core }

@@ -8,7 +8,7 @@ ghost use Rattle.its_plain.specs.OperatorJobs.{with_word_loaded, word_seen, afte
 ghost use Rattle.its_plain.specs.Machine.{core_of};
 ghost use Rattle.its_stepped.specs.State.{plain};
 ghost use Rattle.its_stepped.specs.Unwind.{unwound};
-ghost use Rattle.its_world.specs.World.{state_of, frames_after, with_frames, CoreBecomes};
+ghost use Rattle.its_world.specs.World.{state_of, frames_after, with_frames, CoreBecomes, plain_of};
 ghost use Rattle.its_pclsr.specs.Apart.{CoresOff};
 ghost use Rattle.its_machine.specs.Refusals.{refusal_of};
 ghost use Rattle.its_monitor.specs.Kept.{Kept, Lands, Refused, Calmed, undepositable, unloadable, frames_loaded};
@@ -27,9 +27,9 @@ impl Monitor {
         requires address { a < 2 ^ 18 }
         requires kept { Kept self.old.world }
         ensures word { IfOk result (λ x. word_seen (unwound (state_of self.old.world) slot).raw slot a ≡ Ok x) }
-        ensures plain { IfOk result (λ x. word_seen (plain (state_of self.old.world)) slot a ≡ Ok x) }
+        ensures plain { IfOk result (λ x. word_seen (plain_of self.old.world) slot a ≡ Ok x) }
         ensures unwinds { OnOk result (state_of self.new.world ≡ unwound (state_of self.old.world) slot) }
-        ensures leaves { plain (state_of self.new.world) ≡ plain (state_of self.old.world) }
+        ensures leaves { plain_of self.new.world ≡ plain_of self.old.world }
         ensures refused { IfErr result (λ e. Refused (state_of self.old.world) (unwound (state_of self.old.world) slot) (λ m. word_seen m slot a) e) }
         ensures same { OnErr result (self.new ≡ self.old) }
         ensures cores { OnOk result (CoresOff self.old.world self.new.world slot) }
@@ -56,7 +56,7 @@ impl Monitor {
         requires address { a < 2 ^ 18 }
         requires kept { Kept self.old.world }
         ensures done { OnOk result (Lands (unwound (state_of self.old.world) slot) (state_of self.new.world) (after_deposit (unwound (state_of self.old.world) slot).raw slot a w)) }
-        ensures plain { OnOk result (after_deposit (plain (state_of self.old.world)) slot a w ≡ Ok (plain (state_of self.new.world))) }
+        ensures plain { OnOk result (after_deposit (plain_of self.old.world) slot a w ≡ Ok (plain_of self.new.world)) }
         ensures refused { IfErr result (λ e. Refused (state_of self.old.world) (unwound (state_of self.old.world) slot) (λ m. after_deposit m slot a w) e) }
         ensures same { OnErr result (self.new ≡ self.old) }
         ensures cores { OnOk result (CoresOff self.old.world self.new.world slot) }
@@ -81,7 +81,7 @@ impl Monitor {
         requires address { a < 2 ^ 18 }
         requires kept { Kept self.old.world }
         ensures done { OnOk result (Lands (unwound (state_of self.old.world) slot) (state_of self.new.world) (with_word_loaded (unwound (state_of self.old.world) slot).raw slot a w)) }
-        ensures plain { OnOk result (with_word_loaded (plain (state_of self.old.world)) slot a w ≡ Ok (plain (state_of self.new.world))) }
+        ensures plain { OnOk result (with_word_loaded (plain_of self.old.world) slot a w ≡ Ok (plain_of self.new.world)) }
         ensures refused { IfErr result (λ e. Refused (state_of self.old.world) (unwound (state_of self.old.world) slot) (λ m. with_word_loaded m slot a w) e) }
         ensures same { OnErr result (self.new ≡ self.old) }
         ensures pages { OnOk result (self.new.world.core.frames ≡ frames_loaded (is_some (word_at (core_of ((unwound (state_of self.old.world) slot).raw.jobs slot)) a)) slot (a / 1024) (frames_after (clear_at self.old.world.core slot) None slot self.old.world.core.frames)) }

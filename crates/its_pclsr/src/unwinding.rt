@@ -13,7 +13,7 @@ ghost use Rattle.its_stepped.specs.Unwind.{left, unwind_one as unwind_one_of, un
 ghost use Rattle.its_stepped.specs.OneChange.{OneChange};
 ghost use Rattle.its_stepped.specs.SlotSame.{SlotSame};
 ghost use Rattle.its_stepped.specs.Sound.{MovingPays, Sound};
-ghost use Rattle.its_world.specs.World.{state_of, frame_at, frames_after, Becomes, CoreBecomes, JobBecomes};
+ghost use Rattle.its_world.specs.World.{state_of, frames_after, Becomes, CoreBecomes, JobBecomes, call_in, plain_of};
 ghost use Rattle.its_pclsr.specs.Apart.{CoresOff};
 ghost use Rattle.its_pclsr.specs.Owed.{IsNext};
 ghost use Rattle.its_pclsr.specs.Parts.{NextMade, Taken};
@@ -32,13 +32,13 @@ use its_world::World;
 #[tactic(auto, using(crate::proofs::UnwindingLaws::one_fewer, crate::proofs::UnwindingLaws::one_changes, crate::proofs::UnwindingLaws::one_same, crate::proofs::UnwindingLaws::unwind_keeps, crate::proofs::UnwindingLaws::one_pages))]
 pub fn unwind_one(w: &mut World, slot: u8)
     requires slot { slot < slots }
-    requires frame { is_some (frame_at w.old.frames.items slot) ≡ true }
+    requires frame { is_some (call_in w.old slot) ≡ true }
     requires sound { Sound (state_of w.old) }
     requires tidy { Tidy w.old }
     ensures row { state_of w.new ≡ unwind_one_of (state_of w.old) slot }
     ensures fewer { left (state_of w.new) slot + 1 ≡ left (state_of w.old) slot }
     ensures change { OneChange (state_of w.old) (state_of w.new) slot }
-    ensures same { plain (state_of w.new) ≡ plain (state_of w.old) }
+    ensures same { plain_of w.new ≡ plain_of w.old }
     ensures cores { CoresOff w.old w.new slot }
     ensures pages { w.new.core.frames ≡ frames_after ((state_of w.old).reserved slot) ((unwind_one_of (state_of w.old) slot).reserved slot) slot w.old.core.frames }
     ensures tidy { Tidy w.new }
@@ -51,7 +51,7 @@ pub fn unwind_one(w: &mut World, slot: u8)
 #[tactic(auto, using(crate::proofs::ApartLaws::off_one, crate::proofs::ApartLaws::off_same))]
 fn step(w: &mut World, slot: u8)
     requires slot { slot < slots }
-    requires frame { is_some (frame_at w.old.frames.items slot) ≡ true }
+    requires frame { is_some (call_in w.old slot) ≡ true }
     requires sound { Sound (state_of w.old) }
     requires tidy { Tidy w.old }
     ensures row { state_of w.new ≡ unwind_one_of (state_of w.old) slot }
@@ -103,10 +103,10 @@ fn step(w: &mut World, slot: u8)
 #[tactic(auto, using(crate::proofs::ApartLaws::off_back))]
 fn back(w: &mut World, slot: u8)
     requires slot { slot < slots }
-    requires request { is_some (request_in (frame_at w.old.frames.items slot)) ≡ true }
+    requires request { is_some (request_in (call_in w.old slot)) ≡ true }
     requires page { is_some (clear_at w.old.core slot) ≡ true }
     requires tidy { Tidy w.old }
-    ensures row { IfSome (request_in (frame_at w.old.frames.items slot)) (λ r. Becomes w.old w.new slot (core_at w.old.core slot) (job_at w.old.jobs slot) (Some (asked r.site r.ask)) None) }
+    ensures row { IfSome (request_in (call_in w.old slot)) (λ r. Becomes w.old w.new slot (core_at w.old.core slot) (job_at w.old.jobs slot) (Some (asked r.site r.ask)) None) }
     ensures cores { CoresOff w.old w.new slot }
     ensures tidy { Tidy w.new }
 {
@@ -119,10 +119,10 @@ fn back(w: &mut World, slot: u8)
 fn pay(w: &mut World, slot: u8, store: Store, next: Next)
     requires slot { slot < slots }
     requires job { is_some (job_at w.old.jobs slot) ≡ true }
-    requires request { is_some (request_in (frame_at w.old.frames.items slot)) ≡ true }
+    requires request { is_some (request_in (call_in w.old slot)) ≡ true }
     requires can { can_store (core_at w.old.core slot) (place store) ≡ true }
     requires tidy { Tidy w.old }
-    ensures row { IfSome (request_in (frame_at w.old.frames.items slot)) (λ r. Becomes w.old w.new slot (stored (core_at w.old.core slot) (store ∷ [])) (job_at w.old.jobs slot) (Some (gone_to next r)) (clear_at w.old.core slot)) }
+    ensures row { IfSome (request_in (call_in w.old slot)) (λ r. Becomes w.old w.new slot (stored (core_at w.old.core slot) (store ∷ [])) (job_at w.old.jobs slot) (Some (gone_to next r)) (clear_at w.old.core slot)) }
     ensures cores { CoresOff w.old w.new slot }
     ensures tidy { Tidy w.new }
 {
@@ -134,10 +134,10 @@ fn pay(w: &mut World, slot: u8, store: Store, next: Next)
 fn pay_held(w: &mut World, slot: u8, store: Store, owes: u8)
     requires slot { slot < slots }
     requires job { is_some (job_at w.old.jobs slot) ≡ true }
-    requires request { is_some (request_in (frame_at w.old.frames.items slot)) ≡ true }
+    requires request { is_some (request_in (call_in w.old slot)) ≡ true }
     requires can { can_store (core_at w.old.core slot) (place store) ≡ true }
     requires tidy { Tidy w.old }
-    ensures row { IfSome (request_in (frame_at w.old.frames.items slot)) (λ r. Becomes w.old w.new slot (stored (core_at w.old.core slot) (store ∷ [])) (job_at w.old.jobs slot) (Some (holding r.site r.ask None owes)) (clear_at w.old.core slot)) }
+    ensures row { IfSome (request_in (call_in w.old slot)) (λ r. Becomes w.old w.new slot (stored (core_at w.old.core slot) (store ∷ [])) (job_at w.old.jobs slot) (Some (holding r.site r.ask None owes)) (clear_at w.old.core slot)) }
     ensures cores { CoresOff w.old w.new slot }
     ensures tidy { Tidy w.new }
 {
@@ -174,7 +174,7 @@ fn held_store(core: &Core, slot: u8, ask: &Ask, at: u32, byte: Word) -> Store
 #[tactic(auto, using(crate::proofs::ApartLaws::off_one, crate::proofs::ApartLaws::off_back, crate::proofs::ApartLaws::off_alike, crate::proofs::ApartLaws::off_then))]
 fn unwind_ending(w: &mut World, slot: u8)
     requires slot { slot < slots }
-    requires ending { is_some (ending_in (frame_at w.old.frames.items slot)) ≡ true }
+    requires ending { is_some (ending_in (call_in w.old slot)) ≡ true }
     requires sound { Sound (state_of w.old) }
     requires tidy { Tidy w.old }
     ensures row { state_of w.new ≡ unwind_one_of (state_of w.old) slot }
@@ -197,7 +197,7 @@ fn unwind_ending(w: &mut World, slot: u8)
 /// Takes the first step that is still pending.
 fn take_step(w: &mut World, slot: u8) -> Owed
     requires slot { slot < slots }
-    requires ending { is_some (ending_in (frame_at w.old.frames.items slot)) ≡ true }
+    requires ending { is_some (ending_in (call_in w.old slot)) ≡ true }
     requires sound { Sound (state_of w.old) }
     requires tidy { Tidy w.old }
     ensures taken { Taken w.old w.new slot result }
@@ -285,7 +285,7 @@ pub fn unwind(w: &mut World, slot: u8)
     ensures few { left (state_of w.old) slot ≤ 4 }
     ensures none { (state_of w.new).frames slot ≡ None }
     ensures left { (state_of w.new).raw.jobs slot ≡ option_map (seen ((state_of w.old).frames slot)) ((state_of w.old).raw.jobs slot) }
-    ensures same { plain (state_of w.new) ≡ plain (state_of w.old) }
+    ensures same { plain_of w.new ≡ plain_of w.old }
     ensures others { (k : ℕ) → k ≢ slot → SlotSame (state_of w.old) (state_of w.new) k }
     ensures cores { CoresOff w.old w.new slot }
     ensures pages { w.new.core.frames ≡ frames_after ((state_of w.old).reserved slot) None slot w.old.core.frames }

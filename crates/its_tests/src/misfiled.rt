@@ -4,7 +4,7 @@ ghost use Rattle.std.specs.Prelude.{◌≡◌, ◌<◌, true, IsTrue, IfOk, leng
 ghost use Rattle.its_links.specs.Lists.{list_at, count};
 ghost use Rattle.its_word.specs.Limits.{slots};
 ghost use Rattle.its_monitor.specs.Kept.{Kept};
-ghost use Rattle.its_world.specs.World.{frame_at};
+ghost use Rattle.its_world.specs.World.{call_in};
 ghost use Rattle.its_tick.specs.Ticks.{InRing, is_waiting};
 
 use its_calls::View;
@@ -78,7 +78,7 @@ fn put_in(rings: &mut Links, slot: u8)
 /// Whether the call of a slot was found not ready.
 fn waits(w: &World, slot: u8) -> bool
     requires { slot < slots }
-    ensures { IsTrue result → is_waiting (frame_at w.now.frames.items slot) ≡ true }
+    ensures { IsTrue result → is_waiting (call_in w.now slot) ≡ true }
 {
     matches!(w.frame(slot), View::Waiting { .. })
 }

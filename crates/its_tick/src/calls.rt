@@ -13,7 +13,7 @@ ghost use Rattle.its_stepped.specs.Duty.{IsTried};
 ghost use Rattle.its_stepped.specs.State.{with_slot};
 ghost use Rattle.its_stepped.specs.Tick.{helps, reserves, tick_in};
 ghost use Rattle.its_stepped.specs.Unwind.{unwind_one as unwind_one_of};
-ghost use Rattle.its_world.specs.World.{frame_at, frames_after, raw_at, state_of, PageBecomes};
+ghost use Rattle.its_world.specs.World.{frames_after, state_of, PageBecomes, call_in, raw_in};
 ghost use Rattle.its_tick.specs.Kept.{Kept};
 ghost use Rattle.its_tick.specs.Pages.{pages_in};
 ghost use Rattle.its_tick.specs.Ticks.{asked_in, pace_of, pace_decoded, state_decoded, ticked, IsClearing};
@@ -36,9 +36,9 @@ const QUARTERS: u8 = 4;
 pub fn in_call(w: &mut World, slot: u8) -> Pace
     requires slot { slot < slots }
     requires kept { Kept w.old }
-    requires frame { is_some (frame_at w.old.frames.items slot) ≡ true }
-    ensures row { IfSome (raw_at w.old.files w.old.core w.old.jobs w.old.alarms.items slot) (λ q. tick_in (state_of w.old) slot q (frame_at w.old.frames.items slot) ≡ ticked (state_of w.new) result) }
-    ensures pages { IfSome (raw_at w.old.files w.old.core w.old.jobs w.old.alarms.items slot) (λ q. w.new.core.frames ≡ pages_in (state_of w.old) slot q (frame_at w.old.frames.items slot) w.old.core.frames) }
+    requires frame { is_some (call_in w.old slot) ≡ true }
+    ensures row { IfSome (raw_in w.old slot) (λ q. tick_in (state_of w.old) slot q (call_in w.old slot) ≡ ticked (state_of w.new) result) }
+    ensures pages { IfSome (raw_in w.old slot) (λ q. w.new.core.frames ≡ pages_in (state_of w.old) slot q (call_in w.old slot) w.old.core.frames) }
     ensures tidy { Tidy w.new }
 {
     match w.frame(slot) {
@@ -64,7 +64,7 @@ pub fn in_call(w: &mut World, slot: u8) -> Pace
 fn pay(w: &mut World, slot: u8) -> Pace
     requires slot { slot < slots }
     requires kept { Kept w.old }
-    requires frame { is_some (frame_at w.old.frames.items slot) ≡ true }
+    requires frame { is_some (call_in w.old slot) ≡ true }
     ensures row { state_of w.new ≡ unwind_one_of (state_of w.old) slot }
     ensures pace { result ≡ Pace.Work }
     ensures pages { w.new.core.frames ≡ frames_after ((state_of w.old).reserved slot) ((unwind_one_of (state_of w.old) slot).reserved slot) slot w.old.core.frames }
@@ -78,9 +78,9 @@ fn pay(w: &mut World, slot: u8) -> Pace
 fn parse(w: &mut World, slot: u8) -> Pace
     requires slot { slot < slots }
     requires kept { Kept w.old }
-    requires frame { is_some (entered_in (frame_at w.old.frames.items slot)) ≡ true }
-    ensures row { IfSome (raw_at w.old.files w.old.core w.old.jobs w.old.alarms.items slot) (λ q. tick_in (state_of w.old) slot q (frame_at w.old.frames.items slot) ≡ ticked (state_of w.new) result) }
-    ensures pages { IfSome (raw_at w.old.files w.old.core w.old.jobs w.old.alarms.items slot) (λ q. w.new.core.frames ≡ pages_in (state_of w.old) slot q (frame_at w.old.frames.items slot) w.old.core.frames) }
+    requires frame { is_some (entered_in (call_in w.old slot)) ≡ true }
+    ensures row { IfSome (raw_in w.old slot) (λ q. tick_in (state_of w.old) slot q (call_in w.old slot) ≡ ticked (state_of w.new) result) }
+    ensures pages { IfSome (raw_in w.old slot) (λ q. w.new.core.frames ≡ pages_in (state_of w.old) slot q (call_in w.old slot) w.old.core.frames) }
     ensures tidy { Tidy w.new }
 {
     let answer = w.parse(slot);
@@ -91,9 +91,9 @@ fn parse(w: &mut World, slot: u8) -> Pace
 fn fetch(w: &mut World, slot: u8) -> Pace
     requires slot { slot < slots }
     requires kept { Kept w.old }
-    requires frame { is_some (parsed_in (frame_at w.old.frames.items slot)) ≡ true }
-    ensures row { IfSome (raw_at w.old.files w.old.core w.old.jobs w.old.alarms.items slot) (λ q. tick_in (state_of w.old) slot q (frame_at w.old.frames.items slot) ≡ ticked (state_of w.new) result) }
-    ensures pages { IfSome (raw_at w.old.files w.old.core w.old.jobs w.old.alarms.items slot) (λ q. w.new.core.frames ≡ pages_in (state_of w.old) slot q (frame_at w.old.frames.items slot) w.old.core.frames) }
+    requires frame { is_some (parsed_in (call_in w.old slot)) ≡ true }
+    ensures row { IfSome (raw_in w.old slot) (λ q. tick_in (state_of w.old) slot q (call_in w.old slot) ≡ ticked (state_of w.new) result) }
+    ensures pages { IfSome (raw_in w.old slot) (λ q. w.new.core.frames ≡ pages_in (state_of w.old) slot q (call_in w.old slot) w.old.core.frames) }
     ensures tidy { Tidy w.new }
 {
     let answer = w.fetch(slot);
@@ -105,7 +105,7 @@ fn fetch(w: &mut World, slot: u8) -> Pace
 fn decoded(w: &mut World, slot: u8, answer: Result<(), Fault>) -> Pace
     requires slot { slot < slots }
     requires job { is_some (job_at w.old.jobs slot) ≡ true }
-    requires frame { IfErr answer (λ f. frame_at w.old.frames.items slot ≡ None) }
+    requires frame { IfErr answer (λ f. call_in w.old slot ≡ None) }
     requires tidy { Tidy w.old }
     ensures row { state_of w.new ≡ state_decoded (state_of w.old) slot answer }
     ensures pace { result ≡ pace_decoded answer }
@@ -127,7 +127,7 @@ fn decoded(w: &mut World, slot: u8, answer: Result<(), Fault>) -> Pace
 fn set_fault(w: &mut World, slot: u8, fault: Fault)
     requires slot { slot < slots }
     requires job { is_some (job_at w.old.jobs slot) ≡ true }
-    requires frame { frame_at w.old.frames.items slot ≡ None }
+    requires frame { call_in w.old slot ≡ None }
     requires tidy { Tidy w.old }
     ensures row { state_of w.new ≡ with_slot (state_of w.old) slot (with_fault fault) None }
     ensures pages { w.new.core.frames ≡ w.old.core.frames }
@@ -143,10 +143,10 @@ fn set_fault(w: &mut World, slot: u8, fault: Fault)
 fn prepare(w: &mut World, slot: u8, page: bool) -> Pace
     requires slot { slot < slots }
     requires kept { Kept w.old }
-    requires frame { is_some (asked_in (frame_at w.old.frames.items slot)) ≡ true }
-    requires page { IfSome (asked_in (frame_at w.old.frames.items slot)) (λ a. page ≡ reserves a) }
-    ensures row { IfSome (raw_at w.old.files w.old.core w.old.jobs w.old.alarms.items slot) (λ q. tick_in (state_of w.old) slot q (frame_at w.old.frames.items slot) ≡ ticked (state_of w.new) result) }
-    ensures pages { IfSome (raw_at w.old.files w.old.core w.old.jobs w.old.alarms.items slot) (λ q. w.new.core.frames ≡ pages_in (state_of w.old) slot q (frame_at w.old.frames.items slot) w.old.core.frames) }
+    requires frame { is_some (asked_in (call_in w.old slot)) ≡ true }
+    requires page { IfSome (asked_in (call_in w.old slot)) (λ a. page ≡ reserves a) }
+    ensures row { IfSome (raw_in w.old slot) (λ q. tick_in (state_of w.old) slot q (call_in w.old slot) ≡ ticked (state_of w.new) result) }
+    ensures pages { IfSome (raw_in w.old slot) (λ q. w.new.core.frames ≡ pages_in (state_of w.old) slot q (call_in w.old slot) w.old.core.frames) }
     ensures tidy { Tidy w.new }
 {
     if page {
@@ -185,9 +185,9 @@ fn clear_next(w: &mut World, slot: u8, clear: u8, owes: u8) -> Pace
     requires slot { slot < slots }
     requires kept { Kept w.old }
     requires quarter { clear < 4 }
-    requires holds { IsClearing (frame_at w.old.frames.items slot) clear owes }
-    ensures row { IfSome (raw_at w.old.files w.old.core w.old.jobs w.old.alarms.items slot) (λ q. tick_in (state_of w.old) slot q (frame_at w.old.frames.items slot) ≡ ticked (state_of w.new) result) }
-    ensures pages { IfSome (raw_at w.old.files w.old.core w.old.jobs w.old.alarms.items slot) (λ q. w.new.core.frames ≡ pages_in (state_of w.old) slot q (frame_at w.old.frames.items slot) w.old.core.frames) }
+    requires holds { IsClearing (call_in w.old slot) clear owes }
+    ensures row { IfSome (raw_in w.old slot) (λ q. tick_in (state_of w.old) slot q (call_in w.old slot) ≡ ticked (state_of w.new) result) }
+    ensures pages { IfSome (raw_in w.old slot) (λ q. w.new.core.frames ≡ pages_in (state_of w.old) slot q (call_in w.old slot) w.old.core.frames) }
     ensures tidy { Tidy w.new }
 {
     clear_quarter(w, slot, clear);
@@ -216,10 +216,10 @@ fn clear_quarter(w: &mut World, slot: u8, q: u8)
 fn attempt(w: &mut World, slot: u8) -> Pace
     requires slot { slot < slots }
     requires kept { Kept w.old }
-    requires stands { is_some (standing_of (frame_at w.old.frames.items slot)) ≡ true }
-    requires clear { IfSome (standing_of (frame_at w.old.frames.items slot)) (λ f. IsTried f.page) }
-    ensures row { IfSome (raw_at w.old.files w.old.core w.old.jobs w.old.alarms.items slot) (λ q. tick_in (state_of w.old) slot q (frame_at w.old.frames.items slot) ≡ ticked (state_of w.new) result) }
-    ensures pages { IfSome (raw_at w.old.files w.old.core w.old.jobs w.old.alarms.items slot) (λ q. w.new.core.frames ≡ pages_in (state_of w.old) slot q (frame_at w.old.frames.items slot) w.old.core.frames) }
+    requires stands { is_some (standing_of (call_in w.old slot)) ≡ true }
+    requires clear { IfSome (standing_of (call_in w.old slot)) (λ f. IsTried f.page) }
+    ensures row { IfSome (raw_in w.old slot) (λ q. tick_in (state_of w.old) slot q (call_in w.old slot) ≡ ticked (state_of w.new) result) }
+    ensures pages { IfSome (raw_in w.old slot) (λ q. w.new.core.frames ≡ pages_in (state_of w.old) slot q (call_in w.old slot) w.old.core.frames) }
     ensures tidy { Tidy w.new }
 {
     make_ready(w, slot);
@@ -233,11 +233,11 @@ fn attempt(w: &mut World, slot: u8) -> Pace
 fn decide_in(w: &World, slot: u8) -> Decision
     requires slot { slot < slots }
     requires job { is_some (job_at w.now.jobs slot) ≡ true }
-    requires stands { is_some (standing_of (frame_at w.now.frames.items slot)) ≡ true }
+    requires stands { is_some (standing_of (call_in w.now slot)) ≡ true }
     requires tidy { Tidy w.now }
     requires forest { Forest (state_of w.now).raw }
-    requires unmarked { IfSome (standing_of (frame_at w.now.frames.items slot)) (λ f. IfSome (raw_at w.now.files w.now.core w.now.jobs w.now.alarms.items slot) (λ q. helps q f.ask ≡ true → w.now.files.mark ≡ None)) }
-    ensures { IfSome (standing_of (frame_at w.now.frames.items slot)) (λ f. IfSome (raw_at w.now.files w.now.core w.now.jobs w.now.alarms.items slot) (λ q. result ≡ decision (state_of w.now).raw slot q f.ask)) }
+    requires unmarked { IfSome (standing_of (call_in w.now slot)) (λ f. IfSome (raw_in w.now slot) (λ q. helps q f.ask ≡ true → w.now.files.mark ≡ None)) }
+    ensures { IfSome (standing_of (call_in w.now slot)) (λ f. IfSome (raw_in w.now slot) (λ q. result ≡ decision (state_of w.now).raw slot q f.ask)) }
 {
     let (ask, _) = standing(w, slot);
     decide(w, slot, ask)

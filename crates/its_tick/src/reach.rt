@@ -8,7 +8,7 @@ ghost use Rattle.its_plain.specs.Decide.{reach, with_below};
 ghost use Rattle.its_stepped.specs.Forest.{Forest};
 ghost use Rattle.its_stepped.specs.Sound.{Sound};
 ghost use Rattle.its_stepped.specs.Unwind.{all_unwound, unwound};
-ghost use Rattle.its_world.specs.World.{frames_after, raw_at, state_of};
+ghost use Rattle.its_world.specs.World.{frames_after, state_of, raw_in};
 ghost use Rattle.its_tick.specs.Ticks.{call_asked, closes_job, logs_out, slots_in, RootFits};
 
 use call_basic::target_of;
@@ -102,7 +102,7 @@ pub fn reach_of(w: &World, slot: u8, ask: &Ask, call: CallName) -> Reach
     requires job { is_some (job_at w.now.jobs slot) ≡ true }
     requires forest { Forest (state_of w.now).raw }
     requires call { call_asked ask.now ≡ Some call }
-    ensures slots { IfSome (raw_at w.now.files w.now.core w.now.jobs w.now.alarms.items slot) (λ q. slots_in result (state_of w.now).raw slot (superior_at w.now.jobs slot) ≡ reach (state_of w.now).raw slot q ask.now) }
+    ensures slots { IfSome (raw_in w.now slot) (λ q. slots_in result (state_of w.now).raw slot (superior_at w.now.jobs slot) ≡ reach (state_of w.now).raw slot q ask.now) }
     ensures root { RootFits result }
 {
     if logs_out(call) {
@@ -121,7 +121,7 @@ fn reach_into(w: &World, slot: u8, ask: &Ask, call: CallName) -> Reach
     requires forest { Forest (state_of w.now).raw }
     requires call { call_asked ask.now ≡ Some call }
     requires stays { logs_out call ≡ false }
-    ensures slots { IfSome (raw_at w.now.files w.now.core w.now.jobs w.now.alarms.items slot) (λ q. slots_in result (state_of w.now).raw slot (superior_at w.now.jobs slot) ≡ reach (state_of w.now).raw slot q ask.now) }
+    ensures slots { IfSome (raw_in w.now slot) (λ q. slots_in result (state_of w.now).raw slot (superior_at w.now.jobs slot) ≡ reach (state_of w.now).raw slot q ask.now) }
     ensures root { RootFits result }
 {
     match target_of(w, slot, ask) {

@@ -11,7 +11,7 @@ ghost use Rattle.its_stepped.specs.Forest.{Forest};
 ghost use Rattle.its_stepped.specs.Duty.{IsTried};
 ghost use Rattle.its_stepped.specs.Tick.{after_help_if, helps};
 ghost use Rattle.its_stepped.specs.Unwind.{all_unwound, help};
-ghost use Rattle.its_world.specs.World.{frame_at, raw_at, state_of};
+ghost use Rattle.its_world.specs.World.{state_of, call_in, raw_in};
 ghost use Rattle.its_tick.specs.Kept.{Kept};
 ghost use Rattle.its_tick.specs.Ticks.{call_asked, slots_in, RootFits};
 
@@ -35,9 +35,9 @@ struct Needs {
 pub fn make_ready(w: &mut World, slot: u8)
     requires slot { slot < slots }
     requires kept { Kept w.old }
-    requires stands { is_some (standing_of (frame_at w.old.frames.items slot)) ≡ true }
-    ensures row { IfSome (standing_of (frame_at w.old.frames.items slot)) (λ f. IfSome (raw_at w.old.files w.old.core w.old.jobs w.old.alarms.items slot) (λ q. state_of w.new ≡ after_help_if (helps q f.ask) (all_unwound (reach (state_of w.old).raw slot q f.ask) (state_of w.old)))) }
-    ensures pages { IfSome (standing_of (frame_at w.old.frames.items slot)) (λ f. IfSome (raw_at w.old.files w.old.core w.old.jobs w.old.alarms.items slot) (λ q. w.new.core.frames ≡ pages_unwound (reach (state_of w.old).raw slot q f.ask) (state_of w.old) w.old.core.frames)) }
+    requires stands { is_some (standing_of (call_in w.old slot)) ≡ true }
+    ensures row { IfSome (standing_of (call_in w.old slot)) (λ f. IfSome (raw_in w.old slot) (λ q. state_of w.new ≡ after_help_if (helps q f.ask) (all_unwound (reach (state_of w.old).raw slot q f.ask) (state_of w.old)))) }
+    ensures pages { IfSome (standing_of (call_in w.old slot)) (λ f. IfSome (raw_in w.old slot) (λ q. w.new.core.frames ≡ pages_unwound (reach (state_of w.old).raw slot q f.ask) (state_of w.old) w.old.core.frames)) }
     ensures tidy { Tidy w.new }
 {
     let needs = needs_in(w, slot);
@@ -49,11 +49,11 @@ pub fn make_ready(w: &mut World, slot: u8)
 fn needs_in(w: &World, slot: u8) -> Needs
     requires slot { slot < slots }
     requires job { is_some (job_at w.now.jobs slot) ≡ true }
-    requires stands { is_some (standing_of (frame_at w.now.frames.items slot)) ≡ true }
+    requires stands { is_some (standing_of (call_in w.now slot)) ≡ true }
     requires forest { Forest (state_of w.now).raw }
-    ensures slots { IfSome (standing_of (frame_at w.now.frames.items slot)) (λ f. IfSome (raw_at w.now.files w.now.core w.now.jobs w.now.alarms.items slot) (λ q. slots_in result.reach (state_of w.now).raw slot (superior_at w.now.jobs slot) ≡ reach (state_of w.now).raw slot q f.ask)) }
+    ensures slots { IfSome (standing_of (call_in w.now slot)) (λ f. IfSome (raw_in w.now slot) (λ q. slots_in result.reach (state_of w.now).raw slot (superior_at w.now.jobs slot) ≡ reach (state_of w.now).raw slot q f.ask)) }
     ensures root { RootFits result.reach }
-    ensures helps { IfSome (standing_of (frame_at w.now.frames.items slot)) (λ f. IfSome (raw_at w.now.files w.now.core w.now.jobs w.now.alarms.items slot) (λ q. result.on_files ≡ helps q f.ask)) }
+    ensures helps { IfSome (standing_of (call_in w.now slot)) (λ f. IfSome (raw_in w.now slot) (λ q. result.on_files ≡ helps q f.ask)) }
 {
     let (ask, _) = standing(w, slot);
     needs_of(w, slot, ask)
@@ -65,9 +65,9 @@ fn needs_of(w: &World, slot: u8, ask: &Ask) -> Needs
     requires slot { slot < slots }
     requires job { is_some (job_at w.now.jobs slot) ≡ true }
     requires forest { Forest (state_of w.now).raw }
-    ensures slots { IfSome (raw_at w.now.files w.now.core w.now.jobs w.now.alarms.items slot) (λ q. slots_in result.reach (state_of w.now).raw slot (superior_at w.now.jobs slot) ≡ reach (state_of w.now).raw slot q ask.now) }
+    ensures slots { IfSome (raw_in w.now slot) (λ q. slots_in result.reach (state_of w.now).raw slot (superior_at w.now.jobs slot) ≡ reach (state_of w.now).raw slot q ask.now) }
     ensures root { RootFits result.reach }
-    ensures helps { IfSome (raw_at w.now.files w.now.core w.now.jobs w.now.alarms.items slot) (λ q. result.on_files ≡ helps q ask.now) }
+    ensures helps { IfSome (raw_in w.now slot) (λ q. result.on_files ≡ helps q ask.now) }
 {
     match call_asked(ask) {
         Some(call) => Needs {
@@ -95,7 +95,7 @@ fn call_asked(ask: &Ask) -> Option<CallName>
 /// Whether a call of a slot's job is one on files.
 fn is_on_files(w: &World, slot: u8, ask: &Ask, call: CallName) -> bool
     requires call { call_asked ask.now ≡ Some call }
-    ensures { IfSome (raw_at w.now.files w.now.core w.now.jobs w.now.alarms.items slot) (λ q. result ≡ helps q ask.now) }
+    ensures { IfSome (raw_in w.now slot) (λ q. result ≡ helps q ask.now) }
 {
     match call.row().files {
         OnFiles::Never => false,

@@ -7,7 +7,7 @@ ghost use Rattle.its_stepped.specs.State.{plain};
 ghost use Rattle.its_stepped.specs.Tick.{tick as tick_of};
 ghost use Rattle.its_stepped.specs.Lines.{paces_of, after_ticks as so_many};
 ghost use Rattle.its_world.specs.Filed.{Blocked};
-ghost use Rattle.its_world.specs.World.{frame_at, state_of};
+ghost use Rattle.its_world.specs.World.{state_of, call_in, plain_of};
 ghost use Rattle.its_tick.specs.Kept.{Kept};
 ghost use Rattle.its_tick.specs.Beside.{AllBeside};
 ghost use Rattle.its_tick.specs.Pages.{pages_ticked};
@@ -27,12 +27,12 @@ pub fn tick(w: &mut World, slot: u8) -> Pace
     requires can { Kept w.old ⊎ InRing w.old slot }
     ensures state { Kept w.old → state_of w.new ≡ (tick_of (state_of w.old) slot).state }
     ensures pace { Kept w.old → result ≡ (tick_of (state_of w.old) slot).pace }
-    ensures licensed { Kept w.old → Licensed (plain (state_of w.old)) slot result (plain (state_of w.new)) }
+    ensures licensed { Kept w.old → Licensed (plain_of w.old) slot result (plain_of w.new) }
     ensures others { Kept w.old → AllBeside (state_of w.old) (state_of w.new) slot result }
     ensures pages { Kept w.old → w.new.core.frames ≡ pages_ticked (state_of w.old) slot w.old.core.frames }
     ensures kept { Kept w.old → Kept w.new }
     ensures ring { InRing w.old slot → (result ≡ Pace.Wait) × (w.new ≡ w.old) }
-    ensures waits { is_waiting (frame_at w.old.frames.items slot) ≡ true → ((result ≡ Pace.Wait) ↔ Blocked w.old slot) }
+    ensures waits { is_waiting (call_in w.old slot) ≡ true → ((result ≡ Pace.Wait) ↔ Blocked w.old slot) }
 {
     if waits_on(w, slot) {
         return Pace::Wait;
@@ -62,7 +62,7 @@ fn go_on(w: &mut World, slot: u8) -> Pace
     requires kept { Kept w.old }
     ensures state { state_of w.new ≡ (tick_of (state_of w.old) slot).state }
     ensures pace { result ≡ (tick_of (state_of w.old) slot).pace }
-    ensures licensed { Licensed (plain (state_of w.old)) slot result (plain (state_of w.new)) }
+    ensures licensed { Licensed (plain_of w.old) slot result (plain_of w.new) }
     ensures others { AllBeside (state_of w.old) (state_of w.new) slot result }
     ensures pages { w.new.core.frames ≡ pages_ticked (state_of w.old) slot w.old.core.frames }
     ensures kept { Kept w.new }
@@ -128,7 +128,7 @@ pub fn steps(w: &mut World, slot: u8, n: u32) -> u32
 pub fn running(w: &World, slot: u8) -> bool
     requires slot { slot < slots }
     ensures raw { result ≡ runs (state_of w.now).raw slot }
-    ensures plain { result ≡ runs (plain (state_of w.now)) slot }
+    ensures plain { result ≡ runs (plain_of w.now) slot }
 {
     match w.jobs.job(slot) {
         Some(job) => !job.stopped,

@@ -11,7 +11,7 @@ ghost use Rattle.its_stepped.specs.Commit.{effects_on};
 ghost use Rattle.its_stepped.specs.Sound.{Sound};
 ghost use Rattle.its_stepped.specs.Tick.{after_delivery, unit_on};
 ghost use Rattle.its_stepped.specs.Unwind.{all_unwound};
-ghost use Rattle.its_world.specs.World.{state_of, frame_at, raw_at, CoreBecomes, JobBecomes};
+ghost use Rattle.its_world.specs.World.{state_of, CoreBecomes, JobBecomes, call_in, raw_in};
 ghost use Rattle.its_tick.specs.Kept.{Kept};
 ghost use Rattle.its_pclsr.specs.Pages.{pages_unwound};
 ghost use Rattle.pdp_exec.specs.Answer.{IsCalled};
@@ -33,10 +33,10 @@ pub fn deliver_to(w: &mut World, slot: u8, job: Job)
     requires slot { slot < slots }
     requires kept { Kept w.old }
     requires job { job_at w.old.jobs slot ≡ Some job }
-    requires frame { frame_at w.old.frames.items slot ≡ None }
+    requires frame { call_in w.old slot ≡ None }
     requires deliverable { deliverable job ≡ true }
-    ensures row { IfSome (raw_at w.old.files w.old.core w.old.jobs w.old.alarms.items slot) (λ q. state_of w.new ≡ after_delivery (state_of w.old) slot q (delivered q.core q.job)) }
-    ensures pages { IfSome (raw_at w.old.files w.old.core w.old.jobs w.old.alarms.items slot) (λ q. w.new.core.frames ≡ pages_unwound (informed_slots (delivered q.core q.job).stops q.superior) (state_of w.old) w.old.core.frames) }
+    ensures row { IfSome (raw_in w.old slot) (λ q. state_of w.new ≡ after_delivery (state_of w.old) slot q (delivered q.core q.job)) }
+    ensures pages { IfSome (raw_in w.old slot) (λ q. w.new.core.frames ≡ pages_unwound (informed_slots (delivered q.core q.job).stops q.superior) (state_of w.old) w.old.core.frames) }
     ensures tidy { Tidy w.new }
 {
     let mut after = job;
@@ -118,9 +118,9 @@ pub fn make_unit(w: &mut World, slot: u8) -> Pace
     requires slot { slot < slots }
     requires kept { Kept w.old }
     requires job { is_some (job_at w.old.jobs slot) ≡ true }
-    requires frame { frame_at w.old.frames.items slot ≡ None }
+    requires frame { call_in w.old slot ≡ None }
     requires quiet { IfSome (job_at w.old.jobs slot) (λ j. deliverable j ≡ false) }
-    ensures row { IfSome (raw_at w.old.files w.old.core w.old.jobs w.old.alarms.items slot) (λ q. unit_on (state_of w.old) slot (unit_of q.core q.job) ≡ ticked (state_of w.new) result) }
+    ensures row { IfSome (raw_in w.old slot) (λ q. unit_on (state_of w.old) slot (unit_of q.core q.job) ≡ ticked (state_of w.new) result) }
     ensures pages { w.new.core.frames ≡ w.old.core.frames }
     ensures tidy { Tidy w.new }
 {
@@ -139,9 +139,9 @@ fn make_any(w: &mut World, slot: u8) -> Pace
     requires slot { slot < slots }
     requires kept { Kept w.old }
     requires job { is_some (job_at w.old.jobs slot) ≡ true }
-    requires frame { frame_at w.old.frames.items slot ≡ None }
+    requires frame { call_in w.old slot ≡ None }
     requires quiet { IfSome (job_at w.old.jobs slot) (λ j. deliverable j ≡ false) }
-    ensures row { IfSome (raw_at w.old.files w.old.core w.old.jobs w.old.alarms.items slot) (λ q. unit_on (state_of w.old) slot (unit_of q.core q.job) ≡ ticked (state_of w.new) result) }
+    ensures row { IfSome (raw_in w.old slot) (λ q. unit_on (state_of w.old) slot (unit_of q.core q.job) ≡ ticked (state_of w.new) result) }
     ensures pages { w.new.core.frames ≡ w.old.core.frames }
     ensures tidy { Tidy w.new }
 {
@@ -173,7 +173,7 @@ fn enter_near(w: &mut World, slot: u8, call: Near)
     requires job { is_some (job_at w.old.jobs slot) ≡ true }
     requires called { IfSome (job_at w.old.jobs slot) (λ j. unit_of (core_at w.old.core slot) j ≡ Called (near_site j.pc call)) }
     requires tidy { Tidy w.old }
-    ensures row { IfSome (raw_at w.old.files w.old.core w.old.jobs w.old.alarms.items slot) (λ q. unit_on (state_of w.old) slot (unit_of q.core q.job) ≡ ticked (state_of w.new) Pace.Work) }
+    ensures row { IfSome (raw_in w.old slot) (λ q. unit_on (state_of w.old) slot (unit_of q.core q.job) ≡ ticked (state_of w.new) Pace.Work) }
     ensures pages { w.new.core.frames ≡ w.old.core.frames }
     ensures tidy { Tidy w.new }
 {
@@ -196,7 +196,7 @@ fn pc_of(w: &World, slot: u8) -> u32
 fn unit_in_place(w: &mut World, slot: u8) -> bool
     requires slot { slot < slots }
     requires job { is_some (job_at w.old.jobs slot) ≡ true }
-    requires frame { frame_at w.old.frames.items slot ≡ None }
+    requires frame { call_in w.old slot ≡ None }
     requires pc { IfSome (job_at w.old.jobs slot) (λ j. j.pc < 2 ^ 18) }
     requires quiet { IfSome (job_at w.old.jobs slot) (λ j. deliverable j ≡ false) }
     ensures { UnitIn w.old w.new slot (λ j. unit_of (core_at w.old.core slot) j) result }
@@ -209,7 +209,7 @@ fn unit_in_place(w: &mut World, slot: u8) -> bool
 pub fn units_in_place(w: &mut World, slot: u8, n: u32) -> u32
     requires slot { slot < slots }
     requires job { is_some (job_at w.old.jobs slot) ≡ true }
-    requires frame { frame_at w.old.frames.items slot ≡ None }
+    requires frame { call_in w.old slot ≡ None }
     requires pc { IfSome (job_at w.old.jobs slot) (λ j. j.pc < 2 ^ 18) }
     ensures few { result ≤ n }
     ensures made { UnitsMade w.old w.new slot result n }
@@ -230,7 +230,7 @@ fn enter(w: &mut World, slot: u8)
     requires pc { IfSome (job_at w.old.jobs slot) (λ j. j.pc < 2 ^ 18) }
     requires called { IfSome (job_at w.old.jobs slot) (λ j. IsCalled (unit_of (core_at w.old.core slot) j)) }
     requires tidy { Tidy w.old }
-    ensures row { IfSome (raw_at w.old.files w.old.core w.old.jobs w.old.alarms.items slot) (λ q. unit_on (state_of w.old) slot (unit_of q.core q.job) ≡ ticked (state_of w.new) Pace.Work) }
+    ensures row { IfSome (raw_in w.old slot) (λ q. unit_on (state_of w.old) slot (unit_of q.core q.job) ≡ ticked (state_of w.new) Pace.Work) }
     ensures pages { w.new.core.frames ≡ w.old.core.frames }
     ensures tidy { Tidy w.new }
 {

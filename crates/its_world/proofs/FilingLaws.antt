@@ -18,7 +18,7 @@ refiled old new s p o e put = record {
   others = put.others;
 }
 
--- a slot that is on no list and belongs on none is where it belongs
+-- a slot that is on no list and belongs on none is on the list to which it belongs: none
 is_off : (b : Bool) → not b ≡ true → b ≡ false
 is_off true h = sym h
 is_off false h = refl

@@ -14,9 +14,9 @@ use Rattle.its_files.specs.declared.entry.Mark.{Mark as FilesMark}
 use Rattle.its_files.specs.declared.entry.Parts.{Parts}
 use Rattle.its_files.specs.declared.entry.Parts.TheVariants.{Replace, Link, Free}
 use Rattle.its_frame.specs.declared.frame.Frame.{Frame}
-use Rattle.its_plain.specs.Machine.{Symbol, File, Pipe, Whole}
+use Rattle.its_plain.specs.Machine.{Symbol, File, Machine, Pipe, Whole}
 use Rattle.its_plain.specs.Change.{in_job}
-use Rattle.its_stepped.specs.State.{Part, UnlinkOld, LinkNew, FreeOld, Mark, State}
+use Rattle.its_stepped.specs.State.{Part, UnlinkOld, LinkNew, FreeOld, Mark, State, plain}
 pub use Rattle.its_machine.specs.Parts.{chan_of, closed_channels, bare, chans_of, raw_of, alarm_at, raw_at, no_symbols, symbols_at, raw_machine}
 use Rattle.its_pipes.specs.Pipes.{piped}
 pub use Rattle.its_world.specs.Filed.{frame_at, console_at, holder_at}
@@ -56,6 +56,16 @@ state_of w = record {
   reserved = clear_at w.core;
   mark = mark_of w.files;
 }
+
+-- the call in progress of a slot; its core and job in the raw machine; and the plain machine of a world
+abbrev pub call_in : World → ℕ → Option Frame
+call_in w k = frame_at w.frames.items k
+
+abbrev pub raw_in : World → ℕ → Option Whole
+raw_in w k = raw_at w.files w.core w.jobs w.alarms.items k
+
+abbrev pub plain_of : World → Machine
+plain_of w = plain (state_of w)
 
 -- the job of a slot changed, with the frame and the page that it has
 abbrev pub in_raw : State → ℕ → (Whole → Whole) → State

@@ -10,7 +10,7 @@ ghost use Rattle.its_stepped.specs.TwoParts.{fetch_of, parse_of};
 ghost use Rattle.its_stepped.specs.Unwind.{due};
 ghost use Rattle.its_word.specs.Limits.{slots};
 ghost use Rattle.its_world.specs.Filed.{SlotWritten};
-ghost use Rattle.its_world.specs.World.{frame_at, FrameBecomes};
+ghost use Rattle.its_world.specs.World.{FrameBecomes, call_in};
 
 use super::world::World;
 use arrayvec::ArrayVec;
@@ -23,7 +23,7 @@ impl World {
     #[inline]
     pub fn frame(&self, slot: u8) -> View<'_>
         requires { slot < slots }
-        ensures { frame_seen result ≡ frame_at self.now.frames.items slot }
+        ensures { frame_seen result ≡ call_in self.now slot }
     {
         self.frames[usize::from(slot)].view()
     }
@@ -85,10 +85,10 @@ impl World {
     /// The block of the call of a slot is read. At a fault the job is in user mode again.
     pub fn parse(&mut self, slot: u8) -> Result<(), Fault>
         requires slot { slot < slots }
-        requires entered { is_some (entered_in (frame_at self.old.frames.items slot)) ≡ true }
-        requires fits { IfSome (entered_in (frame_at self.old.frames.items slot)) SiteFits }
-        ensures written { IfSome (entered_in (frame_at self.old.frames.items slot)) (λ s. FrameBecomes self.old self.new slot (after_parse s (parse_of (core_at self.old.core slot) s))) }
-        ensures fault { IfSome (entered_in (frame_at self.old.frames.items slot)) (λ s. fault_of result ≡ fault_of (parse_of (core_at self.old.core slot) s)) }
+        requires entered { is_some (entered_in (call_in self.old slot)) ≡ true }
+        requires fits { IfSome (entered_in (call_in self.old slot)) SiteFits }
+        ensures written { IfSome (entered_in (call_in self.old slot)) (λ s. FrameBecomes self.old self.new slot (after_parse s (parse_of (core_at self.old.core slot) s))) }
+        ensures fault { IfSome (entered_in (call_in self.old slot)) (λ s. fault_of result ≡ fault_of (parse_of (core_at self.old.core slot) s)) }
     {
         let answer = self.write_parse(slot);
         self.refile(slot);
@@ -99,10 +99,10 @@ impl World {
     #[tactic(auto, using(crate::proofs::WorldLaws::frame_written))]
     fn write_parse(&mut self, slot: u8) -> Result<(), Fault>
         requires slot { slot < slots }
-        requires entered { is_some (entered_in (frame_at self.old.frames.items slot)) ≡ true }
-        requires fits { IfSome (entered_in (frame_at self.old.frames.items slot)) SiteFits }
-        ensures written { IfSome (entered_in (frame_at self.old.frames.items slot)) (λ s. SlotWritten self.old self.new slot (job_at self.old.jobs slot) (after_parse s (parse_of (core_at self.old.core slot) s))) }
-        ensures fault { IfSome (entered_in (frame_at self.old.frames.items slot)) (λ s. fault_of result ≡ fault_of (parse_of (core_at self.old.core slot) s)) }
+        requires entered { is_some (entered_in (call_in self.old slot)) ≡ true }
+        requires fits { IfSome (entered_in (call_in self.old slot)) SiteFits }
+        ensures written { IfSome (entered_in (call_in self.old slot)) (λ s. SlotWritten self.old self.new slot (job_at self.old.jobs slot) (after_parse s (parse_of (core_at self.old.core slot) s))) }
+        ensures fault { IfSome (entered_in (call_in self.old slot)) (λ s. fault_of result ≡ fault_of (parse_of (core_at self.old.core slot) s)) }
     {
         self.frames[usize::from(slot)].parse(&self.core, slot)
     }
@@ -110,11 +110,11 @@ impl World {
     /// The arguments of the call of a slot are found, and their values are taken. At a fault the job is in user mode again.
     pub fn fetch(&mut self, slot: u8) -> Result<(), Fault>
         requires slot { slot < slots }
-        requires parsed { is_some (parsed_in (frame_at self.old.frames.items slot)) ≡ true }
-        requires fits { IfSome (parsed_in (frame_at self.old.frames.items slot)) (λ f. SiteFits f.site) }
-        requires words { IfSome (parsed_in (frame_at self.old.frames.items slot)) (λ f. f.site.channel ≡ None → 2 ≤ length f.block.items) }
-        ensures written { IfSome (parsed_in (frame_at self.old.frames.items slot)) (λ f. FrameBecomes self.old self.new slot (after_fetch f.site (fetch_of (core_at self.old.core slot) f.site f.block))) }
-        ensures fault { IfSome (parsed_in (frame_at self.old.frames.items slot)) (λ f. fault_of result ≡ fault_of (fetch_of (core_at self.old.core slot) f.site f.block)) }
+        requires parsed { is_some (parsed_in (call_in self.old slot)) ≡ true }
+        requires fits { IfSome (parsed_in (call_in self.old slot)) (λ f. SiteFits f.site) }
+        requires words { IfSome (parsed_in (call_in self.old slot)) (λ f. f.site.channel ≡ None → 2 ≤ length f.block.items) }
+        ensures written { IfSome (parsed_in (call_in self.old slot)) (λ f. FrameBecomes self.old self.new slot (after_fetch f.site (fetch_of (core_at self.old.core slot) f.site f.block))) }
+        ensures fault { IfSome (parsed_in (call_in self.old slot)) (λ f. fault_of result ≡ fault_of (fetch_of (core_at self.old.core slot) f.site f.block)) }
     {
         let answer = self.write_fetch(slot);
         self.refile(slot);
@@ -125,11 +125,11 @@ impl World {
     #[tactic(auto, using(crate::proofs::WorldLaws::frame_written))]
     fn write_fetch(&mut self, slot: u8) -> Result<(), Fault>
         requires slot { slot < slots }
-        requires parsed { is_some (parsed_in (frame_at self.old.frames.items slot)) ≡ true }
-        requires fits { IfSome (parsed_in (frame_at self.old.frames.items slot)) (λ f. SiteFits f.site) }
-        requires words { IfSome (parsed_in (frame_at self.old.frames.items slot)) (λ f. f.site.channel ≡ None → 2 ≤ length f.block.items) }
-        ensures written { IfSome (parsed_in (frame_at self.old.frames.items slot)) (λ f. SlotWritten self.old self.new slot (job_at self.old.jobs slot) (after_fetch f.site (fetch_of (core_at self.old.core slot) f.site f.block))) }
-        ensures fault { IfSome (parsed_in (frame_at self.old.frames.items slot)) (λ f. fault_of result ≡ fault_of (fetch_of (core_at self.old.core slot) f.site f.block)) }
+        requires parsed { is_some (parsed_in (call_in self.old slot)) ≡ true }
+        requires fits { IfSome (parsed_in (call_in self.old slot)) (λ f. SiteFits f.site) }
+        requires words { IfSome (parsed_in (call_in self.old slot)) (λ f. f.site.channel ≡ None → 2 ≤ length f.block.items) }
+        ensures written { IfSome (parsed_in (call_in self.old slot)) (λ f. SlotWritten self.old self.new slot (job_at self.old.jobs slot) (after_fetch f.site (fetch_of (core_at self.old.core slot) f.site f.block))) }
+        ensures fault { IfSome (parsed_in (call_in self.old slot)) (λ f. fault_of result ≡ fault_of (fetch_of (core_at self.old.core slot) f.site f.block)) }
     {
         self.frames[usize::from(slot)].fetch(&self.core, slot)
     }
@@ -137,8 +137,8 @@ impl World {
     /// The call of a slot goes on.
     pub fn go_to(&mut self, slot: u8, next: Next)
         requires slot { slot < slots }
-        requires request { is_some (request_in (frame_at self.old.frames.items slot)) ≡ true }
-        ensures { IfSome (request_in (frame_at self.old.frames.items slot)) (λ r. FrameBecomes self.old self.new slot (Some (gone_to next r))) }
+        requires request { is_some (request_in (call_in self.old slot)) ≡ true }
+        ensures { IfSome (request_in (call_in self.old slot)) (λ r. FrameBecomes self.old self.new slot (Some (gone_to next r))) }
     {
         self.write_go_to(slot, next);
         self.refile(slot);
@@ -148,8 +148,8 @@ impl World {
     #[tactic(auto, using(crate::proofs::WorldLaws::frame_written))]
     fn write_go_to(&mut self, slot: u8, next: Next)
         requires slot { slot < slots }
-        requires request { is_some (request_in (frame_at self.old.frames.items slot)) ≡ true }
-        ensures { IfSome (request_in (frame_at self.old.frames.items slot)) (λ r. SlotWritten self.old self.new slot (job_at self.old.jobs slot) (Some (gone_to next r))) }
+        requires request { is_some (request_in (call_in self.old slot)) ≡ true }
+        ensures { IfSome (request_in (call_in self.old slot)) (λ r. SlotWritten self.old self.new slot (job_at self.old.jobs slot) (Some (gone_to next r))) }
     {
         self.frames[usize::from(slot)].go_to(next);
     }
@@ -157,8 +157,8 @@ impl World {
     /// A part of the call of a slot is done: its last inputs get new values, and it goes on.
     pub fn go_on(&mut self, slot: u8, values: &[Word], next: Next)
         requires slot { slot < slots }
-        requires request { is_some (request_in (frame_at self.old.frames.items slot)) ≡ true }
-        ensures { IfSome (request_in (frame_at self.old.frames.items slot)) (λ r. FrameBecomes self.old self.new slot (Some (gone_to next (request r.site (with_new_values r.ask values.now))))) }
+        requires request { is_some (request_in (call_in self.old slot)) ≡ true }
+        ensures { IfSome (request_in (call_in self.old slot)) (λ r. FrameBecomes self.old self.new slot (Some (gone_to next (request r.site (with_new_values r.ask values.now))))) }
     {
         self.write_go_on(slot, values, next);
         self.refile(slot);
@@ -168,8 +168,8 @@ impl World {
     #[tactic(auto, using(crate::proofs::WorldLaws::frame_written))]
     fn write_go_on(&mut self, slot: u8, values: &[Word], next: Next)
         requires slot { slot < slots }
-        requires request { is_some (request_in (frame_at self.old.frames.items slot)) ≡ true }
-        ensures { IfSome (request_in (frame_at self.old.frames.items slot)) (λ r. SlotWritten self.old self.new slot (job_at self.old.jobs slot) (Some (gone_to next (request r.site (with_new_values r.ask values.now))))) }
+        requires request { is_some (request_in (call_in self.old slot)) ≡ true }
+        ensures { IfSome (request_in (call_in self.old slot)) (λ r. SlotWritten self.old self.new slot (job_at self.old.jobs slot) (Some (gone_to next (request r.site (with_new_values r.ask values.now))))) }
     {
         self.frames[usize::from(slot)].go_on(values, next);
     }
@@ -177,8 +177,8 @@ impl World {
     /// The call of a slot is decided, and these steps are pending, in order.
     pub fn end(&mut self, slot: u8, owed: ArrayVec<Owed, 4>)
         requires slot { slot < slots }
-        requires request { is_some (request_in (frame_at self.old.frames.items slot)) ≡ true }
-        ensures { IfSome (request_in (frame_at self.old.frames.items slot)) (λ r. FrameBecomes self.old self.new slot (Some (ending r.site r.ask owed.items))) }
+        requires request { is_some (request_in (call_in self.old slot)) ≡ true }
+        ensures { IfSome (request_in (call_in self.old slot)) (λ r. FrameBecomes self.old self.new slot (Some (ending r.site r.ask owed.items))) }
     {
         self.write_end(slot, owed);
         self.refile(slot);
@@ -188,8 +188,8 @@ impl World {
     #[tactic(auto, using(crate::proofs::WorldLaws::frame_written))]
     fn write_end(&mut self, slot: u8, owed: ArrayVec<Owed, 4>)
         requires slot { slot < slots }
-        requires request { is_some (request_in (frame_at self.old.frames.items slot)) ≡ true }
-        ensures { IfSome (request_in (frame_at self.old.frames.items slot)) (λ r. SlotWritten self.old self.new slot (job_at self.old.jobs slot) (Some (ending r.site r.ask owed.items))) }
+        requires request { is_some (request_in (call_in self.old slot)) ≡ true }
+        ensures { IfSome (request_in (call_in self.old slot)) (λ r. SlotWritten self.old self.new slot (job_at self.old.jobs slot) (Some (ending r.site r.ask owed.items))) }
     {
         self.frames[usize::from(slot)].end(owed);
     }
@@ -198,10 +198,10 @@ impl World {
     /// marked is not the call's own (`mine`).
     pub fn next_step(&mut self, slot: u8, mine: bool) -> Owed
         requires slot { slot < slots }
-        requires ending { is_some (ending_in (frame_at self.old.frames.items slot)) ≡ true }
-        requires some { IfSome (ending_in (frame_at self.old.frames.items slot)) (λ f. 0 < length (due mine f.owed.items)) }
-        ensures written { IfSome (ending_in (frame_at self.old.frames.items slot)) (λ f. FrameBecomes self.old self.new slot (Some (after_step mine f))) }
-        ensures step { IfSome (ending_in (frame_at self.old.frames.items slot)) (λ f. result ≡ slice_index_or (due mine f.owed.items) 0 result) }
+        requires ending { is_some (ending_in (call_in self.old slot)) ≡ true }
+        requires some { IfSome (ending_in (call_in self.old slot)) (λ f. 0 < length (due mine f.owed.items)) }
+        ensures written { IfSome (ending_in (call_in self.old slot)) (λ f. FrameBecomes self.old self.new slot (Some (after_step mine f))) }
+        ensures step { IfSome (ending_in (call_in self.old slot)) (λ f. result ≡ slice_index_or (due mine f.owed.items) 0 result) }
     {
         let answer = self.write_next_step(slot, mine);
         self.refile(slot);
@@ -212,10 +212,10 @@ impl World {
     #[tactic(auto, using(crate::proofs::WorldLaws::frame_written))]
     fn write_next_step(&mut self, slot: u8, mine: bool) -> Owed
         requires slot { slot < slots }
-        requires ending { is_some (ending_in (frame_at self.old.frames.items slot)) ≡ true }
-        requires some { IfSome (ending_in (frame_at self.old.frames.items slot)) (λ f. 0 < length (due mine f.owed.items)) }
-        ensures written { IfSome (ending_in (frame_at self.old.frames.items slot)) (λ f. SlotWritten self.old self.new slot (job_at self.old.jobs slot) (Some (after_step mine f))) }
-        ensures step { IfSome (ending_in (frame_at self.old.frames.items slot)) (λ f. result ≡ slice_index_or (due mine f.owed.items) 0 result) }
+        requires ending { is_some (ending_in (call_in self.old slot)) ≡ true }
+        requires some { IfSome (ending_in (call_in self.old slot)) (λ f. 0 < length (due mine f.owed.items)) }
+        ensures written { IfSome (ending_in (call_in self.old slot)) (λ f. SlotWritten self.old self.new slot (job_at self.old.jobs slot) (Some (after_step mine f))) }
+        ensures step { IfSome (ending_in (call_in self.old slot)) (λ f. result ≡ slice_index_or (due mine f.owed.items) 0 result) }
     {
         self.frames[usize::from(slot)].next_step(mine)
     }

@@ -53,7 +53,7 @@ impl World {
     ghost use Rattle.its_core.specs.Cores.{core_at, clear_at, IsEmpty};
     ghost use Rattle.its_jobs.specs.Table.{job_at, superior_at, NoJobs};
     ghost use Rattle.its_word.specs.Core.{store, can_store, put as put_at, page_of};
-    ghost use Rattle.its_world.specs.World.{frame_at, console_at, holder_at, alarm_at, CoreBecomes, JobBecomes, FrameBecomes, PageBecomes, ConsoleBecomes, HolderBecomes, ClockBecomes, symbols_at, SymbolsBecome, VersionBecomes, typed_at, drained_at};
+    ghost use Rattle.its_world.specs.World.{frame_at, console_at, holder_at, alarm_at, CoreBecomes, JobBecomes, FrameBecomes, PageBecomes, ConsoleBecomes, HolderBecomes, ClockBecomes, symbols_at, SymbolsBecome, VersionBecomes, typed_at, drained_at, call_in};
     ghost use Rattle.its_plain.specs.Change.{after_take, after_put};
     ghost use Rattle.its_files.specs.Files.{no_files};
     ghost use Rattle.its_pipes.specs.Pipes.{piped};
@@ -65,7 +65,7 @@ impl World {
     pub fn open(alloc: Global) -> Result<World, NoMemory>
         ensures cores { IfOk result (λ w. IsEmpty w.core) }
         ensures jobs { IfOk result (λ w. NoJobs w.jobs) }
-        ensures frames { IfOk result (λ w. (k : ℕ) → frame_at w.frames.items k ≡ None) }
+        ensures frames { IfOk result (λ w. (k : ℕ) → call_in w k ≡ None) }
         ensures consoles { IfOk result (λ w. (c : ℕ) → console_at w.consoles.items c ≡ quiet_console) }
         ensures holders { IfOk result (λ w. (c : ℕ) → holder_at w.holders c ≡ None) }
         ensures files { IfOk result (λ w. w.files ≡ no_files) }
@@ -114,7 +114,7 @@ impl World {
     fn write_registers(&mut self, slot: u8, job: Job)
         requires slot { slot < slots }
         requires some { is_some (job_at self.old.jobs slot) ≡ true }
-        ensures { SlotWritten self.old self.new slot (Some job) (frame_at self.old.frames.items slot) }
+        ensures { SlotWritten self.old self.new slot (Some job) (call_in self.old slot) }
     {
         if let Some(j) = self.jobs.job_mut(slot) {
             *j = job;
@@ -174,7 +174,7 @@ impl World {
     /// Whether a slot's job is inside a call.
     pub fn has_frame(&self, slot: u8) -> bool
         requires { slot < slots }
-        ensures { result ≡ is_some (frame_at self.now.frames.items slot) }
+        ensures { result ≡ is_some (call_in self.now slot) }
     {
         self.frames[usize::from(slot)].is_some()
     }

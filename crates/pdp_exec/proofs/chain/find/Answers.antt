@@ -33,7 +33,7 @@ loop-step-preserved c = record {
   along = along_more _ _ _ _ _ _ _ _ _ c.loop-step.invariant.along c.loop-step-test.true (ap Ok (sym c.in-Target.is) ∙ c.in_ok-r.ensures.step) c.chain_step.ensures.reads;
 }
 
--- all steps are made
+-- there is no step left
 pub returns-clause-found : goal.returns-clause-found
 returns-clause-found c = (along_over _ _ _ _ _ _ c.loop-step.invariant.along (omega arith)).answer_is
 
