@@ -132,11 +132,6 @@ drained_by n x = record x { output = drop n x.output }
 drained_then : (m : Machine) (c j : ℕ) → after_drain c j (after_drain c 1 m) ≡ after_drain c (1 + j) m
 drained_then m c j = on_then m c (drained_by 1) (drained_by j) (drained_by (1 + j)) (λ x. ap (λ bs. record x { output = bs }) (drop-drop j 1 x.output))
 
-taken_none : (j : ℕ) (xs : List ℕ) → None ≡ slice_get xs 0 → take j (drop 1 xs) ≡ take (suc j) xs
-taken_none zero [] h = refl
-taken_none (suc j) [] h = refl
-taken_none j (x ∷ xs) h = cc
-
 taken_some : (j b : ℕ) (xs : List ℕ) → Some b ≡ slice_get xs 0 → b ∷ take j (drop 1 xs) ≡ take (suc j) xs
 taken_some j b [] h = cc
 taken_some j b (x ∷ xs) h = let e : b ≡ x = cc in ap (λ y. y ∷ take j xs) e
@@ -171,12 +166,34 @@ draining_some v now next c n k b bytes more h so d e f =
     (ap (λ l. l ++ take j (drop 1 (now.raw.consoles c).output)) f ∙ append_assoc bytes (b ∷ []) (take j (drop 1 (now.raw.consoles c).output))
     ∙ ap (λ l. bytes ++ l) (taken_some j b (now.raw.consoles c).output e))
 
-pub draining_none : (v now next : State) (c n k : ℕ) (bytes more : List ℕ) → k < n → DrainedSo v now c n k bytes → Lands now next (Ok (after_drain c 1 now.raw))
-    → None ≡ slice_get (now.raw.consoles c).output 0 → more ≡ bytes → DrainedSo v next c n (k + 1) more
-draining_none v now next c n k bytes more h so d e f =
-    let j = n - (k + 1) in
-    draining_next v now next c n k bytes more h so d
-    (ap (λ l. l ++ take j (drop 1 (now.raw.consoles c).output)) f ∙ ap (λ l. bytes ++ l) (taken_none j (now.raw.consoles c).output e))
+-- no byte waits
+no_first : (xs : List ℕ) → None ≡ slice_get xs 0 → xs ≡ []
+no_first [] h = refl
+no_first (x ∷ xs) h = cc
+
+drop_none : (i j : ℕ) (xs : List ℕ) → xs ≡ [] → drop i xs ≡ drop j xs
+drop_none zero zero [] h = refl
+drop_none zero (suc j) [] h = refl
+drop_none (suc i) zero [] h = refl
+drop_none (suc i) (suc j) [] h = refl
+drop_none i j (x ∷ xs) h = cc
+
+take_none : (j : ℕ) (xs : List ℕ) → xs ≡ [] → take j xs ≡ []
+take_none zero [] h = refl
+take_none (suc j) [] h = refl
+take_none j (x ∷ xs) h = cc
+
+drained_empty : (m : Machine) (c i j : ℕ) → (m.consoles c).output ≡ [] → after_drain c i m ≡ after_drain c j m
+drained_empty m c i j e =
+    ap (λ bs. record m { consoles = changed m.consoles c (record (m.consoles c) { output = bs }) }) (drop_none i j (m.consoles c).output e)
+
+pub draining_stop : (v now next : State) (c n k : ℕ) (bytes : List ℕ) → DrainedSo v now c n k bytes → Lands now next (Ok (after_drain c 1 now.raw))
+    → None ≡ slice_get (now.raw.consoles c).output 0 → (bytes ≡ take n (v.raw.consoles c).output) × Lands v next (Ok (after_drain c n v.raw))
+draining_stop v now next c n k bytes so d f =
+    let e : (now.raw.consoles c).output ≡ [] = no_first (now.raw.consoles c).output f in (
+      sym (ap (λ x. bytes ++ x) (take_none (n - k) (now.raw.consoles c).output e) ∙ append-nil bytes) ∙ so.taken,
+      record { is = ap Ok (sym so.whole ∙ drained_empty now.raw c (n - k) 1 e ∙ landed now next _ d); rest = still v now next _ so.raw d },
+    )
 
 pub draining_end : (v now : State) (c n k : ℕ) (bytes : List ℕ) → k ≡ n → DrainedSo v now c n k bytes
     → (bytes ≡ take n (v.raw.consoles c).output) × Lands v now (Ok (after_drain c n v.raw))

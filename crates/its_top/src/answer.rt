@@ -9,12 +9,14 @@ ghost use Rattle.its_top.specs.Causes.{FlowCause};
 ghost use Rattle.its_top.specs.Answer.{Answered, FindsStart, Tells, block_of};
 
 use super::flow::Flow;
-use super::performing::{Runs, paces_of, perform};
-use super::printing::{print, print_reply};
+use super::performing::{paces_of, perform};
+use super::printing::print;
 use super::progress::Progress;
-use super::shown::Reply;
+use super::room::Room;
+use super::writing::tell;
 use its_io::Sink;
 use its_monitor::Monitor;
+use its_print::print_ticks;
 use its_records::Event;
 
 /// The answer to an event: what it does to the monitor and to the block, and what it shows.
@@ -23,7 +25,7 @@ pub fn answer<K: Sink>(
     m: &mut Monitor,
     p: &mut Progress,
     event: &Event,
-    runs: &mut Runs,
+    room: &mut Room,
     out: &mut K,
 ) -> Flow
     requires sound { Kept m.old.world }
@@ -37,13 +39,13 @@ pub fn answer<K: Sink>(
     ensures cause { FlowCause result (K.faults out.old) (K.faults out.new) }
 {
     let number = p.number;
-    let performed = perform(m, p, event, runs);
-    print(m, number, &performed, runs, out)
+    let performed = perform(m, p, event, &mut room.runs);
+    print(m, number, &performed, &room.runs, &mut room.line, out)
 }
 
-/// Ticks a slot n times, and writes the `T` line of the letters. The room for the letters loses what it had before.
+/// Ticks a slot n times, and writes the `T` line of the letters. The room loses what it had before.
 #[tactic(auto, using(crate::proofs::WritingLaws::told_as))]
-pub fn tick_line<K: Sink>(m: &mut Monitor, s: u8, n: u32, runs: &mut Runs, out: &mut K) -> Flow
+pub fn tick_line<K: Sink>(m: &mut Monitor, s: u8, n: u32, room: &mut Room, out: &mut K) -> Flow
     requires sound { Kept m.old.world }
     requires slot { s < slots }
     requires few { n ≤ 512 }
@@ -52,7 +54,9 @@ pub fn tick_line<K: Sink>(m: &mut Monitor, s: u8, n: u32, runs: &mut Runs, out: 
     ensures sound { Kept m.new.world }
     ensures cause { FlowCause result (K.faults out.old) (K.faults out.new) }
 {
-    runs.clear();
-    paces_of(m, s, n, runs);
-    print_reply(&Reply::Ticks { s }, runs, out)
+    room.runs.clear();
+    room.line.clear();
+    paces_of(m, s, n, &mut room.runs);
+    print_ticks(s, &room.runs, &mut room.line);
+    tell(out, &room.line, Flow::On)
 }

@@ -1,8 +1,9 @@
 //! RUN: turns in a circle of slots, after its line.
-ghost use Rattle.std.specs.Prelude.{◌≡◌, ◌<◌, ◌≤◌, IfSome};
+ghost use Rattle.std.specs.Prelude.{◌≡◌, ◌<◌, ◌≤◌, ◌-◌, IfSome};
 ghost use Rattle.its_word.specs.Limits.{slots};
 ghost use Rattle.its_session.specs.Fits.{EventFits};
-ghost use Rattle.its_plain.specs.Turns.{turn_after};
+ghost use Rattle.its_robin.specs.Robin.{first_running};
+ghost use Rattle.its_plain.specs.Turns.{runs, turn_after};
 ghost use Rattle.its_world.specs.World.{state_of};
 ghost use Rattle.its_monitor.specs.Kept.{Kept};
 ghost use Rattle.its_top.specs.Causes.{FlowCause};
@@ -10,12 +11,11 @@ ghost use Rattle.its_top.specs.Answer.{Circled, FindsStart, Follows, block_of};
 
 use super::answer::{answer, tick_line};
 use super::flow::Flow;
-use super::performing::Runs;
 use super::progress::Progress;
+use super::room::Room;
 use its_io::Sink;
 use its_monitor::Monitor;
 use its_records::Event;
-use its_robin::next;
 use its_word::SLOTS;
 
 /// The highest slot: before the first turn of a session it is the last one.
@@ -29,7 +29,7 @@ pub fn follow<K: Sink>(
     p: &mut Progress,
     last: &mut u8,
     event: &Event,
-    runs: &mut Runs,
+    room: &mut Room,
     out: &mut K,
 ) -> Flow
     requires sound { Kept m.old.world }
@@ -45,8 +45,8 @@ pub fn follow<K: Sink>(
     ensures cause { FlowCause result (K.faults out.old) (K.faults out.new) }
 {
     match event {
-        Event::Run { n, q } => circle(m, last, *n, *q, runs, out),
-        _ => answer(m, p, event, runs, out),
+        Event::Run { n, q } => circle(m, last, *n, *q, room, out),
+        _ => answer(m, p, event, room, out),
     }
 }
 
@@ -57,7 +57,7 @@ fn circle<K: Sink>(
     last: &mut u8,
     n: u32,
     q: u32,
-    runs: &mut Runs,
+    room: &mut Room,
     out: &mut K,
 ) -> Flow
     requires sound { Kept m.old.world }
@@ -73,7 +73,7 @@ fn circle<K: Sink>(
             return Flow::On;
         };
         *last = slot;
-        let flow = tick_line(m, slot, q, runs, out);
+        let flow = tick_line(m, slot, q, room, out);
         if !flow.goes_on() {
             return flow;
         }
@@ -81,16 +81,31 @@ fn circle<K: Sink>(
     Flow::On
 }
 
-/// The slot whose turn it is, after a turn of slot `last`; None if no job runs.
-#[tactic(auto, using(its_plain::proofs::WhoRunsLaws::turn_found, its_plain::proofs::WhoRunsLaws::turn_is_slot, its_plain::proofs::WhoRunsLaws::runs_start, its_plain::proofs::WhoRunsLaws::runs_next))]
+/// The slot whose turn it is, after a turn of slot `last`; None if no job runs. The slots after it are looked at first.
+#[tactic(auto, using(its_robin::proofs::RobinLaws::turn_behind, its_robin::proofs::RobinLaws::turn_around))]
 fn turn_after(m: &Monitor, last: u8) -> Option<u8>
     requires last { last < slots }
     ensures turn { result ≡ turn_after (state_of m.now.world).raw last }
     ensures slot { IfSome result (λ s. s < slots) }
 {
-    let mut runs = [false; SLOTS];
-    for slot in 0..SLOTS {
-        runs[slot] = m.running(slot as u8);
+    match first_running(m, last + 1, SLOTS as u8) {
+        Some(slot) => Some(slot),
+        None => first_running(m, 0, last + 1),
     }
-    next(&runs, last)
+}
+
+/// The first slot whose job runs, of those from one on and before another.
+#[tactic(auto, using(its_robin::proofs::RobinLaws::first_next, its_robin::proofs::RobinLaws::first_found, its_robin::proofs::RobinLaws::first_end))]
+fn first_running(m: &Monitor, from: u8, to: u8) -> Option<u8>
+    requires order { from ≤ to }
+    requires within { to ≤ slots }
+    ensures first { result ≡ first_running (runs (state_of m.now.world).raw) (to - from) from }
+    ensures slot { IfSome result (λ s. s < slots) }
+{
+    for slot in from..to {
+        if m.running(slot) {
+            return Some(slot);
+        }
+    }
+    None
 }

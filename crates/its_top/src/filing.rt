@@ -15,6 +15,7 @@ ghost use Rattle.its_top.specs.Performing.{Performed};
 
 use super::flow::Flow;
 use super::progress::Progress;
+use super::room::Bytes;
 use super::shown::{Over, Shown};
 use super::writing::tell;
 use arrayvec::ArrayVec;
@@ -114,7 +115,13 @@ fn count_files(m: &mut Monitor, d: Word) -> u32
 
 /// The lines of a directory, when no part of a close is pending: how many files it has, and the files.
 #[tactic(auto, using(crate::proofs::FilingLaws::tells_then, crate::proofs::FilingLaws::tells_cut))]
-pub fn print_files<K: Sink>(m: &mut Monitor, d: Word, count: u32, out: &mut K) -> Flow
+pub fn print_files<K: Sink>(
+    m: &mut Monitor,
+    d: Word,
+    count: u32,
+    line: &mut Bytes,
+    out: &mut K,
+) -> Flow
     requires sound { Kept m.old.world }
     requires unmarked { m.old.world.files.mark ≡ None }
     requires count { count ≡ length (files_in d (state_of m.old.world).raw.files) }
@@ -123,18 +130,24 @@ pub fn print_files<K: Sink>(m: &mut Monitor, d: Word, count: u32, out: &mut K) -
     ensures sound { Kept m.new.world }
     ensures cause { FlowCause result (K.faults out.old) (K.faults out.new) }
 {
-    let mut line = ArrayVec::new();
-    print_dir(d, count, &mut line);
-    let flow = tell(out, &line, Flow::On);
+    line.clear();
+    print_dir(d, count, line);
+    let flow = tell(out, line, Flow::On);
     if !flow.goes_on() {
         return flow;
     }
-    print_each_file(m, d, count, out)
+    print_each_file(m, d, count, line, out)
 }
 
 /// A line for each of the files of a directory, when no part of a close is pending.
 #[tactic(auto, using(crate::proofs::FilingLaws::listing_start, crate::proofs::FilingLaws::listing_end))]
-fn print_each_file<K: Sink>(m: &mut Monitor, d: Word, count: u32, out: &mut K) -> Flow
+fn print_each_file<K: Sink>(
+    m: &mut Monitor,
+    d: Word,
+    count: u32,
+    line: &mut Bytes,
+    out: &mut K,
+) -> Flow
     requires sound { Kept m.old.world }
     requires unmarked { m.old.world.files.mark ≡ None }
     requires count { count ≡ length (files_in d (state_of m.old.world).raw.files) }
@@ -145,7 +158,7 @@ fn print_each_file<K: Sink>(m: &mut Monitor, d: Word, count: u32, out: &mut K) -
 {
     for k in 0..count {
         if let Some(show) = m.dir(d, k) {
-            let flow = print_filed(show, out);
+            let flow = print_filed(show, line, out);
             if !flow.goes_on() {
                 return flow;
             }
@@ -155,13 +168,13 @@ fn print_each_file<K: Sink>(m: &mut Monitor, d: Word, count: u32, out: &mut K) -
 }
 
 /// The line of a file.
-fn print_filed<K: Sink>(show: FileShow, out: &mut K) -> Flow
+fn print_filed<K: Sink>(show: FileShow, line: &mut Bytes, out: &mut K) -> Flow
     ensures told { Tells result Flow.On (text_of_line (Filed show)) (K.written out.old) (K.written out.new) }
     ensures cause { FlowCause result (K.faults out.old) (K.faults out.new) }
 {
-    let mut line = ArrayVec::new();
-    print_file(&show, &mut line);
-    tell(out, &line, Flow::On)
+    line.clear();
+    print_file(&show, line);
+    tell(out, line, Flow::On)
 }
 
 /// SHOW: shows the words of a file.
@@ -184,6 +197,7 @@ pub fn print_words_of<K: Sink>(
     d: Word,
     x: Word,
     y: Word,
+    line: &mut Bytes,
     out: &mut K,
 ) -> Flow
     requires sound { Kept m.old.world }
@@ -195,18 +209,18 @@ pub fn print_words_of<K: Sink>(
     ensures cause { FlowCause result (K.faults out.old) (K.faults out.new) }
 {
     let count = m.file_length(id).unwrap_or(0);
-    let mut line = ArrayVec::new();
-    print_show(d, x, y, count, &mut line);
-    let flow = tell(out, &line, Flow::On);
+    line.clear();
+    print_show(d, x, y, count, line);
+    let flow = tell(out, line, Flow::On);
     if !flow.goes_on() {
         return flow;
     }
-    print_rows(m, id, count, out)
+    print_rows(m, id, count, line, out)
 }
 
 /// The lines of the words of a file, when no part of a close is pending.
 #[tactic(auto, using(crate::proofs::FilingLaws::standing_start, crate::proofs::FilingLaws::rows_start, crate::proofs::FilingLaws::rows_end))]
-fn print_rows<K: Sink>(m: &mut Monitor, id: u32, count: u32, out: &mut K) -> Flow
+fn print_rows<K: Sink>(m: &mut Monitor, id: u32, count: u32, line: &mut Bytes, out: &mut K) -> Flow
     requires sound { Kept m.old.world }
     requires unmarked { m.old.world.files.mark ≡ None }
     requires file { is_file (entry_at m.old.world.files id) ≡ true }
@@ -218,7 +232,7 @@ fn print_rows<K: Sink>(m: &mut Monitor, id: u32, count: u32, out: &mut K) -> Flo
 {
     for row in 0..count.div_ceil(ROW_WORDS) {
         let from = row * ROW_WORDS;
-        let flow = print_row_of(m, id, from, count, out);
+        let flow = print_row_of(m, id, from, count, line, out);
         if !flow.goes_on() {
             return flow;
         }
@@ -227,7 +241,14 @@ fn print_rows<K: Sink>(m: &mut Monitor, id: u32, count: u32, out: &mut K) -> Flo
 }
 
 /// One of them: up to eight words of a file from one on.
-fn print_row_of<K: Sink>(m: &mut Monitor, id: u32, from: u32, count: u32, out: &mut K) -> Flow
+fn print_row_of<K: Sink>(
+    m: &mut Monitor,
+    id: u32,
+    from: u32,
+    count: u32,
+    line: &mut Bytes,
+    out: &mut K,
+) -> Flow
     requires sound { Kept m.old.world }
     requires unmarked { m.old.world.files.mark ≡ None }
     requires file { is_file (entry_at m.old.world.files id) ≡ true }
@@ -239,9 +260,9 @@ fn print_row_of<K: Sink>(m: &mut Monitor, id: u32, from: u32, count: u32, out: &
     ensures cause { FlowCause result (K.faults out.old) (K.faults out.new) }
 {
     let words = row_of(m, id, from, count);
-    let mut line = ArrayVec::new();
-    print_row(&words, &mut line);
-    tell(out, &line, Flow::On)
+    line.clear();
+    print_row(&words, line);
+    tell(out, line, Flow::On)
 }
 
 /// Up to eight words of a file from one on.

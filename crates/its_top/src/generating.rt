@@ -15,8 +15,9 @@ ghost use Rattle.its_top.specs.Performing.{line_of};
 ghost use Rattle.its_top.specs.Generating.{marks, tally_of, counted, counts_text, tally_text, generated_tally, generated_text, PlayedOn};
 
 use super::counts::count_line;
-use super::performing::{Runs, perform};
+use super::performing::perform;
 use super::progress::Progress;
+use super::room::Runs;
 use super::shown::{Over, Reply, Shown};
 use super::status::Status;
 use arrayvec::ArrayVec;

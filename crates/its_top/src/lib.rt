@@ -18,6 +18,7 @@ mod listing;
 mod performing;
 mod printing;
 mod progress;
+mod room;
 mod run;
 mod shown;
 mod status;

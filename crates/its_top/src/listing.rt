@@ -6,15 +6,15 @@ ghost use Rattle.its_top.specs.Causes.{FlowCause};
 ghost use Rattle.its_top.specs.Answer.{Tells};
 
 use super::flow::Flow;
+use super::room::Bytes;
 use super::writing::tell;
-use arrayvec::ArrayVec;
 use its_io::Sink;
 use its_print::print_listed;
 use its_word::Word;
 
 /// A line for each of some words, which are in a slot from an address on.
 #[tactic(auto, using(crate::proofs::FilingLaws::writes_start))]
-pub fn list_words<K: Sink>(s: u8, a: u32, words: &[Word], out: &mut K) -> Flow
+pub fn list_words<K: Sink>(s: u8, a: u32, words: &[Word], line: &mut Bytes, out: &mut K) -> Flow
     requires start { a < 2 ^ 18 }
     requires few { length words.now ≤ 8 }
     ensures told { Tells result Flow.On (text (listed s a words.now)) (K.written out.old) (K.written out.new) }
@@ -22,7 +22,7 @@ pub fn list_words<K: Sink>(s: u8, a: u32, words: &[Word], out: &mut K) -> Flow
 {
     let mut place = a;
     for w in words {
-        let flow = list_word(s, place, *w, out);
+        let flow = list_word(s, place, *w, line, out);
         if !flow.goes_on() {
             return flow;
         }
@@ -32,11 +32,11 @@ pub fn list_words<K: Sink>(s: u8, a: u32, words: &[Word], out: &mut K) -> Flow
 }
 
 /// One of them.
-fn list_word<K: Sink>(s: u8, a: u32, word: Word, out: &mut K) -> Flow
+fn list_word<K: Sink>(s: u8, a: u32, word: Word, line: &mut Bytes, out: &mut K) -> Flow
     ensures told { Tells result Flow.On (text_of_line (Listed s a word)) (K.written out.old) (K.written out.new) }
     ensures cause { FlowCause result (K.faults out.old) (K.faults out.new) }
 {
-    let mut line = ArrayVec::new();
-    print_listed(s, a, word, &mut line);
-    tell(out, &line, Flow::On)
+    line.clear();
+    print_listed(s, a, word, line);
+    tell(out, line, Flow::On)
 }

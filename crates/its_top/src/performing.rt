@@ -18,15 +18,13 @@ ghost use Rattle.its_top.specs.Performing.{Performed, quiet};
 use super::consoles::{drain, load_job, type_in};
 use super::filing::{add_words, find_file, list_files, make_file};
 use super::progress::Progress;
+use super::room::Runs;
 use super::shown::{Over, Reply, Shown};
 use arrayvec::ArrayVec;
 use its_monitor::Monitor;
 use its_print::Run;
 use its_records::{Event, Pace, Refusal};
 use its_word::Word;
-
-/// Room for the letters of a line, as runs. A session makes it once: to make it costs more than a line.
-pub type Runs = ArrayVec<Run, 512>;
 
 /// Performs an event, unless the event ends the session. The letters of its ticks are then in the room for them, and nothing else is.
 #[tactic(auto, using(crate::proofs::PerformLaws::nothing_performed, crate::proofs::PerformLaws::run_performed, crate::proofs::PerformLaws::end_performed, crate::proofs::PerformLaws::end_file_performed, crate::proofs::PerformLaws::append_performed, crate::proofs::PerformLaws::version_performed, crate::proofs::PerformLaws::go_performed, crate::proofs::PerformLaws::words_performed, crate::proofs::PerformLaws::read_only_performed, crate::proofs::PerformLaws::symbol_performed, crate::proofs::PerformLaws::ticks_performed, crate::proofs::PerformLaws::typed_performed, crate::proofs::PerformLaws::drained_performed, crate::proofs::PerformLaws::int_performed, crate::proofs::PerformLaws::deposit_performed, crate::proofs::PerformLaws::stop_performed, crate::proofs::PerformLaws::cont_performed, crate::proofs::PerformLaws::clock_performed, crate::proofs::PerformLaws::console_fits, crate::proofs::PaceLaws::no_letters), unfolding(its_session::specs::Grammar::last_slot))]
@@ -316,7 +314,7 @@ pub fn type_bytes(m: &mut Monitor, c: u8, bytes: &[u8]) -> u32
 }
 
 /// Takes up to n bytes of output of a console.
-#[tactic(auto, using(crate::proofs::ConsoleLaws::draining_start, crate::proofs::ConsoleLaws::draining_some, crate::proofs::ConsoleLaws::draining_none, crate::proofs::ConsoleLaws::draining_end))]
+#[tactic(auto, using(crate::proofs::ConsoleLaws::draining_start, crate::proofs::ConsoleLaws::draining_some, crate::proofs::ConsoleLaws::draining_stop, crate::proofs::ConsoleLaws::draining_end))]
 pub fn drain_bytes(m: &mut Monitor, c: u8, n: u32) -> ArrayVec<u8, 64>
     requires sound { Kept m.old.world }
     requires console { c < 8 }
@@ -330,7 +328,7 @@ pub fn drain_bytes(m: &mut Monitor, c: u8, n: u32) -> ArrayVec<u8, 64>
     for _k in 0..n {
         match drain(m, c) {
             Some(b) => bytes.push(b),
-            None => {}
+            None => return bytes,
         }
     }
     bytes

@@ -11,10 +11,9 @@ ghost use Rattle.its_top.specs.Performing.{CanShow, line_of, lines_of, lines_ove
 use super::filing::{print_files, print_words_of};
 use super::flow::Flow;
 use super::listing::list_words;
-use super::performing::Runs;
+use super::room::{Bytes, Runs};
 use super::shown::{Over, Reply, Shown};
 use super::writing::{refuse_by, tell};
-use arrayvec::ArrayVec;
 use its_io::Sink;
 use its_monitor::Monitor;
 use its_print::{
@@ -29,6 +28,7 @@ pub fn print<K: Sink>(
     number: u32,
     performed: &Result<Shown, Over>,
     runs: &Runs,
+    line: &mut Bytes,
     out: &mut K,
 ) -> Flow
     requires sound { Kept m.old.world }
@@ -40,7 +40,7 @@ pub fn print<K: Sink>(
     ensures cause { FlowCause result (K.faults out.old) (K.faults out.new) }
 {
     match performed {
-        Ok(shown) => print_shown(m, shown, runs, out),
+        Ok(shown) => print_shown(m, shown, runs, line, out),
         Err(over) => print_over(*over, number, out),
     }
 }
@@ -59,7 +59,13 @@ fn print_over<K: Sink>(over: Over, number: u32, out: &mut K) -> Flow
 
 /// Writes the lines that an event shows.
 #[tactic(auto, using(crate::proofs::WritingLaws::tells_nothing, crate::proofs::WritingLaws::tells_one))]
-fn print_shown<K: Sink>(m: &mut Monitor, shown: &Shown, runs: &Runs, out: &mut K) -> Flow
+fn print_shown<K: Sink>(
+    m: &mut Monitor,
+    shown: &Shown,
+    runs: &Runs,
+    line: &mut Bytes,
+    out: &mut K,
+) -> Flow
     requires sound { Kept m.old.world }
     requires letters { length (paces_in runs.now.items) ≤ 512 }
     requires ready { CanShow shown.now m.old.world }
@@ -70,27 +76,27 @@ fn print_shown<K: Sink>(m: &mut Monitor, shown: &Shown, runs: &Runs, out: &mut K
 {
     match shown {
         Shown::Nothing => Flow::On,
-        Shown::Line(reply) => print_reply(reply, runs, out),
-        Shown::Listed { s, a, words } => list_words(*s, *a, words, out),
-        Shown::Files { d, count } => print_files(m, *d, *count, out),
-        Shown::File { id, d, x, y } => print_words_of(m, *id, *d, *x, *y, out),
+        Shown::Line(reply) => print_reply(reply, runs, line, out),
+        Shown::Listed { s, a, words } => list_words(*s, *a, words, line, out),
+        Shown::Files { d, count } => print_files(m, *d, *count, line, out),
+        Shown::File { id, d, x, y } => print_words_of(m, *id, *d, *x, *y, line, out),
     }
 }
 
 /// Writes a line.
 #[tactic(auto, using(crate::proofs::WritingLaws::told_as))]
-pub fn print_reply<K: Sink>(reply: &Reply, runs: &Runs, out: &mut K) -> Flow
+fn print_reply<K: Sink>(reply: &Reply, runs: &Runs, line: &mut Bytes, out: &mut K) -> Flow
     requires letters { length (paces_in runs.now.items) ≤ 512 }
     ensures told { Tells result Flow.On (text_of_line (line_of reply.now (paces_in runs.now.items))) (K.written out.old) (K.written out.new) }
     ensures cause { FlowCause result (K.faults out.old) (K.faults out.new) }
 {
-    let mut line = ArrayVec::new();
-    put_reply(reply, runs, &mut line);
-    tell(out, &line, Flow::On)
+    line.clear();
+    put_reply(reply, runs, line);
+    tell(out, line, Flow::On)
 }
 
 /// Puts the bytes of a line into an empty array.
-fn put_reply(reply: &Reply, runs: &Runs, line: &mut ArrayVec<u8, 2048>)
+fn put_reply(reply: &Reply, runs: &Runs, line: &mut Bytes)
     requires empty { line.old.items ≡ [] }
     requires letters { length (paces_in runs.now.items) ≤ 512 }
     ensures { line.new.items ≡ text_of_line (line_of reply.now (paces_in runs.now.items)) }

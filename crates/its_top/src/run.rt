@@ -13,11 +13,10 @@ ghost use Rattle.its_top.specs.Outcomes.{RunSays};
 
 use super::circle::{HIGHEST, follow};
 use super::flow::Flow;
-use super::performing::Runs;
 use super::progress::Progress;
+use super::room::Room;
 use super::status::Status;
 use super::writing::refuse;
-use arrayvec::ArrayVec;
 use its_io::{Sink, Source};
 use its_monitor::Monitor;
 use its_reader::{Found, Items};
@@ -66,13 +65,13 @@ fn run_items<S: Source, K: Sink>(m: &mut Monitor, src: &mut S, out: &mut K) -> S
         file,
     };
     let mut last = HIGHEST;
-    let mut runs = ArrayVec::new();
+    let mut room = Room::new();
     loop {
         let Ok(found) = items.next(src) else {
             return Status::ReadFault;
         };
         p.number = items.lines.number;
-        let flow = take(m, &mut p, &mut last, &found, &mut runs, out);
+        let flow = take(m, &mut p, &mut last, &found, &mut room, out);
         if !flow.goes_on() {
             return flow.status();
         }
@@ -86,7 +85,7 @@ fn take<K: Sink>(
     p: &mut Progress,
     last: &mut u8,
     found: &Found,
-    runs: &mut Runs,
+    room: &mut Room,
     out: &mut K,
 ) -> Flow
     requires sound { Kept m.old.world }
@@ -102,7 +101,7 @@ fn take<K: Sink>(
     ensures cause { FlowCause result (K.faults out.old) (K.faults out.new) }
 {
     match found {
-        Found::Line(event) => follow(m, p, last, event, runs, out),
+        Found::Line(event) => follow(m, p, last, event, room, out),
         Found::Bad(reason) => refuse(out, p.number, *reason),
         Found::Beyond => Flow::TooLong,
         Found::End => Flow::Ended,

@@ -6,6 +6,7 @@ ghost use Rattle.its_top.specs.Causes.{FlowCause};
 ghost use Rattle.its_top.specs.Answer.{Tells};
 
 use super::flow::Flow;
+use super::room::Bytes;
 use arrayvec::ArrayVec;
 use its_io::{Sink, write_all};
 use its_print::print_refusal;
@@ -13,7 +14,7 @@ use its_records::{Reason, Refusal};
 
 /// Writes the bytes of a line, after which the flow is `good`.
 #[tactic(auto, using(crate::proofs::WritingLaws::told_all, crate::proofs::WritingLaws::told_begun))]
-pub fn tell<K: Sink>(out: &mut K, line: &ArrayVec<u8, 2048>, good: Flow) -> Flow
+pub fn tell<K: Sink>(out: &mut K, line: &Bytes, good: Flow) -> Flow
     ensures told { Tells result good line.now.items (K.written out.old) (K.written out.new) }
     ensures later { K.faults out.old ≤ K.faults out.new }
     ensures unfailed { result ≢ Flow.Fault → K.faults out.new ≡ K.faults out.old }

@@ -26,6 +26,7 @@ fn on() -> Channel
 /// Jobs in slots 0 to 3 with these superiors; the first channel of each is open.
 fn jobs(rt: &impl Abort, alloc: Global, superiors: [Option<u8>; 4]) -> Result<Jobs, Fail>
     ensures jobs { IfOk result Elsewhere }
+    ensures limit { IfOk result (λ t. t.limit ≡ 64) }
 {
     let mut jobs = Jobs::open(alloc)?;
     for superior in superiors {
@@ -38,6 +39,7 @@ fn jobs(rt: &impl Abort, alloc: Global, superiors: [Option<u8>; 4]) -> Result<Jo
 fn add(rt: &impl Abort, jobs: &mut Jobs, superior: Option<u8>)
     requires { Elsewhere jobs.old }
     ensures jobs { Elsewhere jobs.new }
+    ensures limit { jobs.new.limit ≡ jobs.old.limit }
 {
     if let Some(s) = superior {
         assert!(rt; usize::from(s) < SLOTS);
@@ -54,6 +56,7 @@ fn open(jobs: &mut Jobs, k: u8)
     requires slot { k < slots }
     requires jobs { Elsewhere jobs.old }
     ensures jobs { Elsewhere jobs.new }
+    ensures limit { jobs.new.limit ≡ jobs.old.limit }
 {
     if let Some(job) = jobs.job_mut(k) {
         *job = opened(*job);

@@ -8,7 +8,7 @@ pub returns-then-no_console-clause-refused : goal.returns-then-no_console-clause
 returns-then-no_console-clause-refused c = NoSuch refl (sym c.no_console.ensures ∙ c.if-no_console.true)
 
 pub hold_console-requires : goal.hold_console-requires
-hold_console-requires c = console_there c.args.console (sym c.no_console.ensures ∙ c.if-no_console.false)
+hold_console-requires c = record { console = console_there c.args.console (sym c.no_console.ensures ∙ c.if-no_console.false) }
 
 pub returns-in-Ok-clause-done : goal.returns-in-Ok-clause-done
 returns-in-Ok-clause-done c = load_done _ _ _ _ _ _ _ c.requires.kept c.in-Ok.ensures.slot.0 c.in-Ok.ensures.made c.hold_console.ensures
