@@ -1,5 +1,5 @@
 -- How long lines are.
-use Rattle.std.proofs.Common.{◌≡◌, ◌≤◌, ◌+◌, ◌*◌, ◌==◌, ℕ, Bool, true, false, Option, Some, None, List, [], ◌∷◌, length, map, refl, inl, inr, arith, IfSome}
+use Rattle.std.proofs.Common.{◌≡◌, ◌<◌, ◌≤◌, ◌^◌, ◌+◌, ◌*◌, ◌==◌, ℕ, Bool, true, false, Option, Some, None, List, [], ◌∷◌, length, map, refl, inl, inr, arith, IfSome}
 use Rattle.std.proofs.lemmas.Bool.{cases_Bool}
 use Rattle.std.proofs.lemmas.List.{length-append}
 use Rattle.std.specs.List.{AllByRecursion}
@@ -136,3 +136,6 @@ pub longest : (l : Line) → IsPrinted l → length (text_of_line l) ≤ 1543
 unfolding text_of_line
 longest l h =
     omega (arith, length-append (spaced (keyword l) (fields_of l)) (10 ∷ []), length_spaced (keyword l) (fields_of l), room_of_fields l h, length-first l)
+
+pub ticks_short : (s : ℕ) (ps : List Pace) (xs : List ℕ) → xs ≡ text_of_line (Ticks s ps) → s < 2 ^ 8 → length ps ≤ 512 → length xs ≤ 1543
+ticks_short s ps xs is slot few = rw is (longest (Ticks s ps) (slot, few))

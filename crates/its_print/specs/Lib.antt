@@ -1,3 +1,4 @@
 pub mod Printing
 pub mod Sizes
 pub mod Runs
+pub mod Replies

@@ -2,6 +2,7 @@ ghost use Rattle.std.specs.Prelude.{◌≡◌, ◌≤◌, ◌<◌, ◌+◌, [], 
 ghost use Rattle.arrayvec.specs.ArrayVec.{array_vec_len};
 ghost use Rattle.its_word.specs.Text.{spaced};
 ghost use Rattle.its_print.specs.Printing.{Dir, Drained, Filed, Line, Listed, Loaded, Peeked, Refused, Row, Shown, State, Ticks, Typed, Words, job_fields, text_of_line};
+ghost use Rattle.its_print.specs.Replies.{FewParts, line_of};
 ghost use Rattle.its_print.specs.Runs.{paces_in};
 ghost use Rattle.its_print.specs.Sizes.{IsPrinted};
 
@@ -10,16 +11,43 @@ use super::put::{
     put, put_address, put_bytes, put_number, put_number_or_dash, put_runs, put_symbol, put_typed,
     put_word, put_word_or_dash, put_words,
 };
+use super::replies::Reply;
 use super::runs::Run;
 use arrayvec::ArrayVec;
 use its_records::{FileShow, JobShow, Peek, Reason};
 use its_word::Word;
 
+/// Writes a line, which has at most 1543 bytes, into an empty array.
+#[tactic(auto, using(crate::proofs::LongestLine::ticks_short))]
+pub fn print_reply(reply: &Reply, out: &mut ArrayVec<u8, 2048>)
+    requires empty { out.old.items ≡ [] }
+    requires few { FewParts reply.now }
+    ensures text { out.new.items ≡ text_of_line (line_of reply.now) }
+    ensures short { length out.new.items ≤ 1543 }
+{
+    match reply {
+        Reply::Loaded { s } => print_loaded(*s, out),
+        Reply::Ticks { s, runs } => print_ticks(*s, runs, out),
+        Reply::Typed { c, dropped } => print_typed(*c, *dropped, out),
+        Reply::Drained { c, bytes } => print_drained(*c, bytes, out),
+        Reply::Words { s, a, words } => print_words(*s, *a, words, out),
+        Reply::Listed { s, a, word } => print_listed(*s, *a, *word, out),
+        Reply::State { version, s, show } => print_state(*s, show, *version, out),
+        Reply::Peeked { s, peek } => print_peek(*s, peek, out),
+        Reply::Dir { d, n } => print_dir(*d, *n, out),
+        Reply::Filed { show } => print_file(show, out),
+        Reply::Shown { d, x, y, k } => print_show(*d, *x, *y, *k, out),
+        Reply::Row { words } => print_row(words, out),
+        Reply::Refused { n, reason } => print_refusal(*n, *reason, out),
+    }
+}
+
 /// `J s`: LOAD made a job in slot `s`.
 #[tactic(auto, unfolding(crate::specs::Printing::text_of_line, its_word::specs::Text::spaced))]
-pub fn print_loaded(s: u8, out: &mut ArrayVec<u8, 2048>)
+fn print_loaded(s: u8, out: &mut ArrayVec<u8, 2048>)
     requires { out.old.items ≡ [] }
-    ensures { out.new.items ≡ text_of_line (Loaded s) }
+    ensures text { out.new.items ≡ text_of_line (Loaded s) }
+    ensures short { length out.new.items ≤ 1543 }
 {
     out.push(b'J');
     put_number(out, u64::from(s));
@@ -28,7 +56,7 @@ pub fn print_loaded(s: u8, out: &mut ArrayVec<u8, 2048>)
 
 /// `T s` and the runs of equal letters of what at most 512 ticks of slot `s` did.
 #[tactic(auto, using(its_word::proofs::SpacedLaws::after_field), unfolding(crate::specs::Printing::text_of_line))]
-pub fn print_ticks(s: u8, runs: &[Run], out: &mut ArrayVec<u8, 2048>)
+fn print_ticks(s: u8, runs: &[Run], out: &mut ArrayVec<u8, 2048>)
     requires empty { out.old.items ≡ [] }
     requires few { length (paces_in runs.now) ≤ 512 }
     ensures { out.new.items ≡ text_of_line (Ticks s (paces_in runs.now)) }
@@ -41,9 +69,10 @@ pub fn print_ticks(s: u8, runs: &[Run], out: &mut ArrayVec<u8, 2048>)
 
 /// `Y c k`: TYPE on console `c`, when `dropped` bytes found no room.
 #[tactic(auto, unfolding(crate::specs::Printing::text_of_line, its_word::specs::Text::spaced))]
-pub fn print_typed(c: u8, dropped: u32, out: &mut ArrayVec<u8, 2048>)
+fn print_typed(c: u8, dropped: u32, out: &mut ArrayVec<u8, 2048>)
     requires { out.old.items ≡ [] }
-    ensures { out.new.items ≡ text_of_line (Typed c dropped) }
+    ensures text { out.new.items ≡ text_of_line (Typed c dropped) }
+    ensures short { length out.new.items ≤ 1543 }
 {
     out.push(b'Y');
     put_number(out, u64::from(c));
@@ -53,10 +82,11 @@ pub fn print_typed(c: u8, dropped: u32, out: &mut ArrayVec<u8, 2048>)
 
 /// `D c` and at most 64 bytes that DRAIN took from console `c`.
 #[tactic(auto, using(its_word::proofs::SpacedLaws::after_field), unfolding(crate::specs::Printing::text_of_line))]
-pub fn print_drained(c: u8, bytes: &[u8], out: &mut ArrayVec<u8, 2048>)
+fn print_drained(c: u8, bytes: &[u8], out: &mut ArrayVec<u8, 2048>)
     requires empty { out.old.items ≡ [] }
     requires few { length bytes.now ≤ 64 }
-    ensures { out.new.items ≡ text_of_line (Drained c bytes.now) }
+    ensures text { out.new.items ≡ text_of_line (Drained c bytes.now) }
+    ensures short { length out.new.items ≤ 1543 }
 {
     out.push(b'D');
     put_number(out, u64::from(c));
@@ -66,10 +96,11 @@ pub fn print_drained(c: u8, bytes: &[u8], out: &mut ArrayVec<u8, 2048>)
 
 /// `E s a` and the words (1 to 8) of slot `s` from address `a` on.
 #[tactic(auto, using(crate::proofs::LineLaws::after_two_fields), unfolding(crate::specs::Printing::text_of_line))]
-pub fn print_words(s: u8, a: u32, words: &[Word], out: &mut ArrayVec<u8, 2048>)
+fn print_words(s: u8, a: u32, words: &[Word], out: &mut ArrayVec<u8, 2048>)
     requires empty { out.old.items ≡ [] }
     requires few { length words.now ≤ 8 }
-    ensures { out.new.items ≡ text_of_line (Words s a words.now) }
+    ensures text { out.new.items ≡ text_of_line (Words s a words.now) }
+    ensures short { length out.new.items ≤ 1543 }
 {
     out.push(b'E');
     put_number(out, u64::from(s));
@@ -80,9 +111,10 @@ pub fn print_words(s: u8, a: u32, words: &[Word], out: &mut ArrayVec<u8, 2048>)
 
 /// `L s a text`: the word of slot `s` at address `a`, typed out.
 #[tactic(auto, unfolding(crate::specs::Printing::text_of_line, its_word::specs::Text::spaced))]
-pub fn print_listed(s: u8, a: u32, word: Word, out: &mut ArrayVec<u8, 2048>)
+fn print_listed(s: u8, a: u32, word: Word, out: &mut ArrayVec<u8, 2048>)
     requires { out.old.items ≡ [] }
-    ensures { out.new.items ≡ text_of_line (Listed s a word) }
+    ensures text { out.new.items ≡ text_of_line (Listed s a word) }
+    ensures short { length out.new.items ≤ 1543 }
 {
     out.push(b'L');
     put_number(out, u64::from(s));
@@ -92,9 +124,10 @@ pub fn print_listed(s: u8, a: u32, word: Word, out: &mut ArrayVec<u8, 2048>)
 }
 
 /// `S s u j sup con run pc p1 p2 m1 m2 d1 d2`: what STATE shows of slot `s`. In version 2 the symbol follows it.
-pub fn print_state(s: u8, show: &JobShow, version: u8, out: &mut ArrayVec<u8, 2048>)
+fn print_state(s: u8, show: &JobShow, version: u8, out: &mut ArrayVec<u8, 2048>)
     requires { out.old.items ≡ [] }
-    ensures { out.new.items ≡ text_of_line (State version s show.now) }
+    ensures text { out.new.items ≡ text_of_line (State version s show.now) }
+    ensures short { length out.new.items ≤ 1543 }
 {
     out.push(b'S');
     put_number(out, u64::from(s));
@@ -126,9 +159,10 @@ fn put_job(out: &mut ArrayVec<u8, 2048>, show: &JobShow)
 
 /// `P s state name left a b h`: what PEEK shows of slot `s`.
 #[tactic(auto, unfolding(crate::specs::Printing::text_of_line, its_word::specs::Text::spaced))]
-pub fn print_peek(s: u8, peek: &Peek, out: &mut ArrayVec<u8, 2048>)
+fn print_peek(s: u8, peek: &Peek, out: &mut ArrayVec<u8, 2048>)
     requires { out.old.items ≡ [] }
-    ensures { out.new.items ≡ text_of_line (Peeked s peek.now) }
+    ensures text { out.new.items ≡ text_of_line (Peeked s peek.now) }
+    ensures short { length out.new.items ≤ 1543 }
 {
     out.push(b'P');
     put_number(out, u64::from(s));
@@ -143,9 +177,10 @@ pub fn print_peek(s: u8, peek: &Peek, out: &mut ArrayVec<u8, 2048>)
 
 /// `R d n`: directory `d` has `n` files.
 #[tactic(auto, unfolding(crate::specs::Printing::text_of_line, its_word::specs::Text::spaced))]
-pub fn print_dir(d: Word, n: u32, out: &mut ArrayVec<u8, 2048>)
+fn print_dir(d: Word, n: u32, out: &mut ArrayVec<u8, 2048>)
     requires { out.old.items ≡ [] }
-    ensures { out.new.items ≡ text_of_line (Dir d n) }
+    ensures text { out.new.items ≡ text_of_line (Dir d n) }
+    ensures short { length out.new.items ≤ 1543 }
 {
     out.push(b'R');
     put_word(out, d);
@@ -155,9 +190,10 @@ pub fn print_dir(d: Word, n: u32, out: &mut ArrayVec<u8, 2048>)
 
 /// `F x y k`: a file of DIR, with its names and its length in words.
 #[tactic(auto, unfolding(crate::specs::Printing::text_of_line, its_word::specs::Text::spaced))]
-pub fn print_file(show: &FileShow, out: &mut ArrayVec<u8, 2048>)
+fn print_file(show: &FileShow, out: &mut ArrayVec<u8, 2048>)
     requires { out.old.items ≡ [] }
-    ensures { out.new.items ≡ text_of_line (Filed show.now) }
+    ensures text { out.new.items ≡ text_of_line (Filed show.now) }
+    ensures short { length out.new.items ≤ 1543 }
 {
     out.push(b'F');
     put_word(out, show.x);
@@ -168,9 +204,10 @@ pub fn print_file(show: &FileShow, out: &mut ArrayVec<u8, 2048>)
 
 /// `W d x y k`: the file of SHOW has `k` words.
 #[tactic(auto, unfolding(crate::specs::Printing::text_of_line, its_word::specs::Text::spaced))]
-pub fn print_show(d: Word, x: Word, y: Word, k: u32, out: &mut ArrayVec<u8, 2048>)
+fn print_show(d: Word, x: Word, y: Word, k: u32, out: &mut ArrayVec<u8, 2048>)
     requires { out.old.items ≡ [] }
-    ensures { out.new.items ≡ text_of_line (Shown d x y k) }
+    ensures text { out.new.items ≡ text_of_line (Shown d x y k) }
+    ensures short { length out.new.items ≤ 1543 }
 {
     out.push(b'W');
     put_word(out, d);
@@ -182,10 +219,11 @@ pub fn print_show(d: Word, x: Word, y: Word, k: u32, out: &mut ArrayVec<u8, 2048
 
 /// `/` and 1 to 8 of the words of the file of SHOW.
 #[tactic(auto, unfolding(crate::specs::Printing::text_of_line))]
-pub fn print_row(words: &[Word], out: &mut ArrayVec<u8, 2048>)
+fn print_row(words: &[Word], out: &mut ArrayVec<u8, 2048>)
     requires empty { out.old.items ≡ [] }
     requires few { length words.now ≤ 8 }
-    ensures { out.new.items ≡ text_of_line (Row words.now) }
+    ensures text { out.new.items ≡ text_of_line (Row words.now) }
+    ensures short { length out.new.items ≤ 1543 }
 {
     out.push(b'/');
     put_words(out, words);
@@ -194,9 +232,10 @@ pub fn print_row(words: &[Word], out: &mut ArrayVec<u8, 2048>)
 
 /// `? n reason`: line `n` of the session, from 1, is refused.
 #[tactic(auto, unfolding(crate::specs::Printing::text_of_line, its_word::specs::Text::spaced))]
-pub fn print_refusal(n: u32, reason: Reason, out: &mut ArrayVec<u8, 2048>)
+fn print_refusal(n: u32, reason: Reason, out: &mut ArrayVec<u8, 2048>)
     requires { out.old.items ≡ [] }
-    ensures { out.new.items ≡ text_of_line (Refused n reason) }
+    ensures text { out.new.items ≡ text_of_line (Refused n reason) }
+    ensures short { length out.new.items ≤ 1543 }
 {
     out.push(b'?');
     put_number(out, u64::from(n));

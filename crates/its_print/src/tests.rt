@@ -4,17 +4,17 @@ use its_records::{FileShow, JobShow, Pace, Peek, PeekState, Reason};
 use its_word::Word;
 
 macro_rules! prints {
-    ($rt:expr; $text:literal; $call:ident($($part:expr),*)) => {
+    ($rt:expr; $text:literal; $reply:expr) => {
         let mut out = ArrayVec::new();
-        $call($($part,)* &mut out);
+        print_reply(&$reply, &mut out);
         assert_eq!($rt; out.as_slice(), $text.as_slice());
     };
 }
 
 #[test]
 fn prints_ticks(rt: HostRuntime) {
-    prints!(rt; b"J 0\n"; print_loaded(0));
-    prints!(rt; b"J 77\n"; print_loaded(0o77));
+    prints!(rt; b"J 0\n"; Reply::Loaded { s: 0 });
+    prints!(rt; b"J 77\n"; Reply::Loaded { s: 0o77 });
     let (step, work, wait) = (
         Run {
             pace: Pace::Step,
@@ -29,27 +29,27 @@ fn prints_ticks(rt: HostRuntime) {
             more: 0,
         },
     );
-    prints!(rt; b"T 0 2*\n"; print_ticks(0, &[Run { more: 1, ..step }]));
-    prints!(rt; b"T 5 3-\n"; print_ticks(5, &[Run { pace: Pace::Off, more: 2 }]));
-    prints!(rt; b"T 0 2. 1* 1. 1w\n"; print_ticks(0, &[work, work, step, work, wait]));
-    prints!(rt; b"T 0 10.\n"; print_ticks(0, &[Run { more: 2, ..work }, Run { more: 4, ..work }]));
-    prints!(rt; b"T 0 100w\n"; print_ticks(0, &[Run { more: 63, ..wait }]));
+    prints!(rt; b"T 0 2*\n"; Reply::Ticks { s: 0, runs: &[Run { more: 1, ..step }] });
+    prints!(rt; b"T 5 3-\n"; Reply::Ticks { s: 5, runs: &[Run { pace: Pace::Off, more: 2 }] });
+    prints!(rt; b"T 0 2. 1* 1. 1w\n"; Reply::Ticks { s: 0, runs: &[work, work, step, work, wait] });
+    prints!(rt; b"T 0 10.\n"; Reply::Ticks { s: 0, runs: &[Run { more: 2, ..work }, Run { more: 4, ..work }] });
+    prints!(rt; b"T 0 100w\n"; Reply::Ticks { s: 0, runs: &[Run { more: 63, ..wait }] });
 }
 
 #[test]
 fn prints_bytes_and_words(rt: HostRuntime) {
-    prints!(rt; b"Y 0 0\n"; print_typed(0, 0));
-    prints!(rt; b"Y 7 40\n"; print_typed(7, 32));
-    prints!(rt; b"D 0 101\n"; print_drained(0, &[0o101]));
-    prints!(rt; b"D 0\n"; print_drained(0, &[]));
-    prints!(rt; b"D 1 12 0 177\n"; print_drained(1, &[0o12, 0, 0o177]));
-    prints!(rt; b"E 0 000200 000000000005\n"; print_words(0, 0o200, &[Word::new(5)]));
-    prints!(rt; b"E 0 000200 350700001000 000000000004\n"; print_words(0, 0o200, &[Word::new(0o350700001000), Word::new(4)]));
-    prints!(rt; b"E 77 777777 777777777777\n"; print_words(0o77, 0o777777, &[Word::ONES]));
-    prints!(rt; b"L 0 000100 MOVEI 1,5\n"; print_listed(0, 0o100, Word::new(0o201040000005)));
-    prints!(rt; b"L 137 777777 WORD 0,,0\n"; print_listed(0o137, 0o777777, Word::ZERO));
-    prints!(rt; b"L 77 000000 JRST 17,@777777(17)\n"; print_listed(0o77, 0, Word::new(0o254777777777)));
-    prints!(rt; b"/ 000000000123\n"; print_row(&[Word::new(0o123)]));
+    prints!(rt; b"Y 0 0\n"; Reply::Typed { c: 0, dropped: 0 });
+    prints!(rt; b"Y 7 40\n"; Reply::Typed { c: 7, dropped: 32 });
+    prints!(rt; b"D 0 101\n"; Reply::Drained { c: 0, bytes: &[0o101] });
+    prints!(rt; b"D 0\n"; Reply::Drained { c: 0, bytes: &[] });
+    prints!(rt; b"D 1 12 0 177\n"; Reply::Drained { c: 1, bytes: &[0o12, 0, 0o177] });
+    prints!(rt; b"E 0 000200 000000000005\n"; Reply::Words { s: 0, a: 0o200, words: &[Word::new(5)] });
+    prints!(rt; b"E 0 000200 350700001000 000000000004\n"; Reply::Words { s: 0, a: 0o200, words: &[Word::new(0o350700001000), Word::new(4)] });
+    prints!(rt; b"E 77 777777 777777777777\n"; Reply::Words { s: 0o77, a: 0o777777, words: &[Word::ONES] });
+    prints!(rt; b"L 0 000100 MOVEI 1,5\n"; Reply::Listed { s: 0, a: 0o100, word: Word::new(0o201040000005) });
+    prints!(rt; b"L 137 777777 WORD 0,,0\n"; Reply::Listed { s: 0o137, a: 0o777777, word: Word::ZERO });
+    prints!(rt; b"L 77 000000 JRST 17,@777777(17)\n"; Reply::Listed { s: 0o77, a: 0, word: Word::new(0o254777777777) });
+    prints!(rt; b"/ 000000000123\n"; Reply::Row { words: &[Word::new(0o123)] });
 }
 
 #[test]
@@ -69,7 +69,7 @@ fn prints_jobs(rt: HostRuntime) {
         d2: Word::ZERO,
         symbol: None,
     };
-    prints!(rt; b"S 0 650000000000 520000000000 - - RUN 010000000102 000000000000 000000000000 000000000000 000000000000 000000000000 000000000000\n"; print_state(0, &job, 1));
+    prints!(rt; b"S 0 650000000000 520000000000 - - RUN 010000000102 000000000000 000000000000 000000000000 000000000000 000000000000 000000000000\n"; Reply::State { version: 1, s: 0, show: &job });
     let inferior = JobShow {
         sup: Some(0),
         con: Some(0),
@@ -82,14 +82,14 @@ fn prints_jobs(rt: HostRuntime) {
         d2: Word::new(6),
         ..job
     };
-    prints!(rt; b"S 1 650000000000 520000000000 0 0 STOP 010000000102 000000000004 000000000001 000000000002 000000000003 000000000005 000000000006\n"; print_state(1, &inferior, 1));
+    prints!(rt; b"S 1 650000000000 520000000000 0 0 STOP 010000000102 000000000004 000000000001 000000000002 000000000003 000000000005 000000000006\n"; Reply::State { version: 1, s: 1, show: &inferior });
     let symbolic = JobShow {
         symbol: Some((Word::new(0o465757000000), 0o12)),
         ..inferior
     };
-    prints!(rt; b"S 1 650000000000 520000000000 0 0 STOP 010000000102 000000000004 000000000001 000000000002 000000000003 000000000005 000000000006\n"; print_state(1, &symbolic, 1));
-    prints!(rt; b"S 137 650000000000 520000000000 0 0 STOP 010000000102 000000000004 000000000001 000000000002 000000000003 000000000005 000000000006 465757000000 12\n"; print_state(0o137, &symbolic, 2));
-    prints!(rt; b"S 0 650000000000 520000000000 - - RUN 010000000102 000000000000 000000000000 000000000000 000000000000 000000000000 000000000000 - -\n"; print_state(0, &job, 2));
+    prints!(rt; b"S 1 650000000000 520000000000 0 0 STOP 010000000102 000000000004 000000000001 000000000002 000000000003 000000000005 000000000006\n"; Reply::State { version: 1, s: 1, show: &symbolic });
+    prints!(rt; b"S 137 650000000000 520000000000 0 0 STOP 010000000102 000000000004 000000000001 000000000002 000000000003 000000000005 000000000006 465757000000 12\n"; Reply::State { version: 2, s: 0o137, show: &symbolic });
+    prints!(rt; b"S 0 650000000000 520000000000 - - RUN 010000000102 000000000000 000000000000 000000000000 000000000000 000000000000 000000000000 - -\n"; Reply::State { version: 2, s: 0, show: &job });
 }
 
 #[test]
@@ -102,7 +102,7 @@ fn prints_peeks(rt: HostRuntime) {
         b: None,
         h: None,
     };
-    prints!(rt; b"P 0 USER - 0 - - -\n"; print_peek(0, &user));
+    prints!(rt; b"P 0 USER - 0 - - -\n"; Reply::Peeked { s: 0, peek: &user });
     let moving = Peek {
         state: PeekState::Moving,
         name: Some(Word::new(0o635157640000)),
@@ -111,7 +111,7 @@ fn prints_peeks(rt: HostRuntime) {
         b: Some(Word::new(5)),
         h: Some(Word::new(0o101)),
     };
-    prints!(rt; b"P 0 MOVING 635157640000 4 440700001000 000000000005 000000000101\n"; print_peek(0, &moving));
+    prints!(rt; b"P 0 MOVING 635157640000 4 440700001000 000000000005 000000000101\n"; Reply::Peeked { s: 0, peek: &moving });
     for (state, text) in [
         (PeekState::Entered, b"P 0 ENTERED - 0 - - -\n".as_slice()),
         (PeekState::Parsed, b"P 0 PARSED - 0 - - -\n"),
@@ -121,7 +121,13 @@ fn prints_peeks(rt: HostRuntime) {
         (PeekState::Ending, b"P 0 ENDING - 0 - - -\n"),
     ] {
         let mut out = ArrayVec::new();
-        print_peek(0, &Peek { state, ..user }, &mut out);
+        print_reply(
+            &Reply::Peeked {
+                s: 0,
+                peek: &Peek { state, ..user },
+            },
+            &mut out,
+        );
         assert_eq!(rt; out.as_slice(), text);
     }
 }
@@ -133,9 +139,9 @@ fn prints_files_and_refusals(rt: HostRuntime) {
         Word::new(0o410000000000),
         Word::new(0o420000000000),
     );
-    prints!(rt; b"R 440000000000 1\n"; print_dir(d, 1));
-    prints!(rt; b"F 410000000000 420000000000 2\n"; print_file(&FileShow { x, y, length: 2 }));
-    prints!(rt; b"W 440000000000 410000000000 420000000000 1\n"; print_show(d, x, y, 1));
+    prints!(rt; b"R 440000000000 1\n"; Reply::Dir { d, n: 1 });
+    prints!(rt; b"F 410000000000 420000000000 2\n"; Reply::Filed { show: &FileShow { x, y, length: 2 } });
+    prints!(rt; b"W 440000000000 410000000000 420000000000 1\n"; Reply::Shown { d, x, y, k: 1 });
     for (n, reason, text) in [
         (3, Reason::Cut, b"? 3 CUT\n".as_slice()),
         (1, Reason::Syntax, b"? 1 SYNTAX\n"),
@@ -151,7 +157,7 @@ fn prints_files_and_refusals(rt: HostRuntime) {
         (0o4000000, Reason::Cut, b"? 4000000 CUT\n"),
     ] {
         let mut out = ArrayVec::new();
-        print_refusal(n, reason, &mut out);
+        print_reply(&Reply::Refused { n, reason }, &mut out);
         assert_eq!(rt; out.as_slice(), text);
     }
 }

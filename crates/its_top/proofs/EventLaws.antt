@@ -1,5 +1,5 @@
 -- The result of one event.
-use Rattle.std.specs.Prelude.{◌≡◌, ◌≢◌, ℕ, ◌+◌, Bool, true, Some, Ok, Err, List, [], ◌∷◌, ◌++◌, refl}
+use Rattle.std.specs.Prelude.{◌≡◌, ◌≢◌, ℕ, ◌+◌, Bool, true, Ok, Err, List, [], ◌∷◌, ◌++◌, refl}
 use Rattle.std.proofs.Common.{sym, ◌∙◌, ap, append_assoc, append-nil}
 use Rattle.std.proofs.lemmas.Grind.{flat_map-append}
 use Rattle.its_records.specs.declared.calls.Pace.{Pace}
@@ -18,7 +18,6 @@ use Rattle.its_world.specs.World.{state_of}
 use Rattle.its_world.specs.declared.world.World.{World}
 use Rattle.its_records.specs.Refusals.{reason_of}
 use Rattle.its_top.specs.declared.shown.Over.TheVariants as overs
-use Rattle.its_top.specs.declared.shown.Reply.TheVariants as replies
 use Rattle.its_top.specs.declared.shown.Shown.{Shown}
 use Rattle.its_top.specs.declared.shown.Shown.TheVariants as shows
 use Rattle.its_top.specs.Telling.{Says, said, after, saying, goes_on_after}
@@ -70,7 +69,7 @@ does v c m b b' e s ps w touched h k f =
     }
 
 pub ticks : (v c : State) (b : Block) (e : Event) (s k : ℕ) (ps : List Pace) (w : World) → Comes v b e c (Done (Ticks s k)) → ps ≡ paces_of v s k → state_of w ≡ after_ticks v s k
-    → Performed (Ok (shows.Line (replies.Ticks s))) v b e ps w b
+    → Performed (Ok (shows.Ticks s)) v b e ps w b
 ticks v c b e s k ps w h f g = record {
   tells = λ n next. told_comes n v c b e (Done (Ticks s k)) next h
       ∙ ap (λ x. telling (printed.Ticks s x ∷ []) (next (after_ticks v s k) b)) (sym f) ∙ ap (λ x. telling (printed.Ticks s ps ∷ []) (next x b)) (sym g);
@@ -79,7 +78,7 @@ ticks v c b e s k ps w h f g = record {
 }
 
 pub peeks : (w : World) (c : State) (b : Block) (e : Event) (s : ℕ) (p : Peek) (ps : List Pace) → Comes (state_of w) b e c (Peeks s) → p ≡ peeked (state_of w) s
-    → Performed (Ok (shows.Line (replies.Peeked s p))) (state_of w) b e ps w b
+    → Performed (Ok (shows.Peeked s p)) (state_of w) b e ps w b
 peeks w c b e s p ps h f = record {
   tells = λ n next. told_comes n (state_of w) c b e (Peeks s) next h ∙ ap (λ x. telling (printed.Peeked s x ∷ []) (next (state_of w) b)) (sym f);
   goes = goes_unless c.raw b e (λ x. let l : Peeks s ≡ Done Quits = sym h.is ∙ x in cc);

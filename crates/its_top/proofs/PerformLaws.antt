@@ -33,7 +33,6 @@ use Rattle.its_monitor.specs.Kept as kept
 use Rattle.its_monitor.specs.Rung.{roused}
 use Rattle.its_top.specs.declared.shown.Over.{Over}
 use Rattle.its_top.specs.declared.shown.Over.TheVariants as overs
-use Rattle.its_top.specs.declared.shown.Reply.TheVariants as replies
 use Rattle.its_top.specs.declared.shown.Shown.{Shown}
 use Rattle.its_top.specs.declared.shown.Shown.TheVariants as shown
 use Rattle.its_top.specs.Answer.{block_of}
@@ -161,10 +160,10 @@ file_refused v b b' d x y e ps w h =
 
 -- lines that show something of a job
 pub load_performed : (v : State) (b : Block) (u j s : ℕ) (console : Option ℕ) (ps : List Pace) (w : World) → Loads v (state_of w) (after_load v.raw u j console) s
-    → Performed (Ok (shown.Line (replies.Loaded s))) v b (events.Load u j console) ps w (record b { slot = s })
+    → Performed (Ok (shown.Loaded s)) v b (events.Load u j console) ps w (record b { slot = s })
 unfolding lined operate after_calm
 load_performed v b u j s console ps w h =
-    does v v (state_of w).raw b (record b { slot = s }) (events.Load u j console) (shown.Line (replies.Loaded s)) ps w (only s) (record { calm = refl; is = ap (λ r. Done (by_load b r)) h.is }) h.rest tt
+    does v v (state_of w).raw b (record b { slot = s }) (events.Load u j console) (shown.Loaded s) ps w (only s) (record { calm = refl; is = ap (λ r. Done (by_load b r)) h.is }) h.rest tt
 
 pub load_refused : (v : State) (b b' : Block) (u j : ℕ) (console : Option ℕ) (e : Refusal) (ps : List Pace) (w : World) → kept.Refused v v (λ m. after_load m u j console) e
     → Performed (Err (overs.Refused e)) v b (events.Load u j console) ps w b'
@@ -172,10 +171,10 @@ unfolding lined operate after_calm
 load_refused v b b' u j console e ps w h = refuses v v b b' (events.Load u j console) e ps w (record { calm = refl; is = ap (λ x. Done (by_load b x)) h.calmed })
 
 pub exam_performed : (v : State) (b : Block) (s a k : ℕ) (ws : List ℕ) (ps : List Pace) (w : World) → examined (unwound v s).raw s a k ≡ Ok ws → state_of w ≡ unwound v s
-    → Performed (Ok (shown.Line (replies.Words s a (record { items = ws })))) v b (events.Exam s a k) ps w b
+    → Performed (Ok (shown.Words s a (record { items = ws }))) v b (events.Exam s a k) ps w b
 unfolding lined operate after_calm
 exam_performed v b s a k ws ps w h e =
-    does v (unwound v s) (unwound v s).raw b b (events.Exam s a k) (shown.Line (replies.Words s a (record { items = ws }))) ps w (only s)
+    does v (unwound v s) (unwound v s).raw b b (events.Exam s a k) (shown.Words s a (record { items = ws })) ps w (only s)
     (record { calm = refl; is = ap (λ x. Done (by_exam (unwound v s).raw b s (in_a_line s a) x)) h }) e tt
 
 pub exam_refused : (v : State) (b b' : Block) (s a k : ℕ) (r : Refusal) (ps : List Pace) (w : World) → examined (unwound v s).raw s a k ≡ Err (reason_of r) → Performed (Err (overs.Refused r)) v b (events.Exam s a k) ps w b'
@@ -200,19 +199,19 @@ unfolding state_of
 version_shown w = refl
 
 pub state_performed : (v : State) (b : Block) (s : ℕ) (show : JobShow) (ps : List Pace) (w : World) → state_shown (unwound v s).raw s ≡ Ok show → state_of w ≡ unwound v s
-    → Performed (Ok (shown.Line (replies.State w.version s show))) v b (events.State s) ps w b
+    → Performed (Ok (shown.State w.version s show)) v b (events.State s) ps w b
 unfolding lined operate after_calm
 state_performed v b s show ps w h e =
     let m = (unwound v s).raw in
     let version : m.version ≡ w.version = sym (version_shown w ∙ ap (λ (x : State). x.raw.version) e) in
-    does v (unwound v s) m b b (events.State s) (shown.Line (replies.State w.version s show)) ps w (only s)
+    does v (unwound v s) m b b (events.State s) (shown.State w.version s show) ps w (only s)
     (record { calm = refl; is = ap (λ x. Done (by_state m b s x)) h ∙ ap (λ x. Done (Does m (printed.State x s show ∷ []) (only s) b)) version }) e tt
 
 pub state_refused : (v : State) (b b' : Block) (s : ℕ) (r : Refusal) (ps : List Pace) (w : World) → state_shown (unwound v s).raw s ≡ Err (reason_of r) → Performed (Err (overs.Refused r)) v b (events.State s) ps w b'
 unfolding lined operate after_calm
 state_refused v b b' s r ps w h = refuses v (unwound v s) b b' (events.State s) r ps w (record { calm = refl; is = ap (λ x. Done (by_state (unwound v s).raw b s x)) h })
 
-pub ticks_performed : (v : State) (b : Block) (s k : ℕ) (ps : List Pace) (w : World) → ps ≡ paces_of v s k → state_of w ≡ after_ticks v s k → Performed (Ok (shown.Line (replies.Ticks s))) v b (events.Tick s k) ps w b
+pub ticks_performed : (v : State) (b : Block) (s k : ℕ) (ps : List Pace) (w : World) → ps ≡ paces_of v s k → state_of w ≡ after_ticks v s k → Performed (Ok (shown.Ticks s)) v b (events.Tick s k) ps w b
 unfolding lined operate after_calm
 ticks_performed v b s k ps w f g = ticks v v b (events.Tick s k) s k ps w (record { calm = refl; is = refl }) f g
 
@@ -221,7 +220,7 @@ there_peeks s (Some q) h = refl
 there_peeks s None h = cc
 
 pub peek_performed : (b : Block) (s : ℕ) (p : Peek) (ps : List Pace) (w : World) → is_some ((state_of w).raw.jobs s) ≡ true → p ≡ peeked (state_of w) s
-    → Performed (Ok (shown.Line (replies.Peeked s p))) (state_of w) b (events.Peek s) ps w b
+    → Performed (Ok (shown.Peeked s p)) (state_of w) b (events.Peek s) ps w b
 unfolding lined operate after_calm
 peek_performed b s p ps w h f = peeks w (state_of w) b (events.Peek s) s p ps (record { calm = refl; is = there_peeks s ((state_of w).raw.jobs s) h }) f
 
@@ -238,10 +237,10 @@ pub landed : (v v' : State) (m : Machine) → Lands v v' (Ok m) → m ≡ v'.raw
 landed v v' m h = let k : Ok m ≡ Ok v'.raw = h.is in cc
 
 pub typed_performed : (v : State) (b : Block) (c k : ℕ) (bytes : List ℕ) (ps : List Pace) (w : World) → k ≡ dropped (v.raw.consoles c) bytes → Lands v (state_of w) (Ok (with_typed c bytes v.raw))
-    → Performed (Ok (shown.Line (replies.Typed c k))) v b (events.TypeIn c (record { items = bytes })) ps w b
+    → Performed (Ok (shown.Typed c k)) v b (events.TypeIn c (record { items = bytes })) ps w b
 unfolding lined operate after_calm
 typed_performed v b c k bytes ps w e h =
-    does v v (state_of w).raw b b (events.TypeIn c (record { items = bytes })) (shown.Line (replies.Typed c k)) ps w nobody
+    does v v (state_of w).raw b b (events.TypeIn c (record { items = bytes })) (shown.Typed c k) ps w nobody
     (record {
       calm = refl;
       is = ap (λ m. Done (Does m (printed.Typed c (dropped (v.raw.consoles c) bytes) ∷ []) nobody b)) (landed v (state_of w) (with_typed c bytes v.raw) h)
@@ -249,10 +248,10 @@ typed_performed v b c k bytes ps w e h =
     }) h.rest tt
 
 pub drained_performed : (v : State) (b : Block) (c k : ℕ) (bytes : List ℕ) (ps : List Pace) (w : World) → bytes ≡ take k (v.raw.consoles c).output → Lands v (state_of w) (Ok (after_drain c k v.raw))
-    → Performed (Ok (shown.Line (replies.Drained c (record { items = bytes })))) v b (events.Drain c k) ps w b
+    → Performed (Ok (shown.Drained c (record { items = bytes }))) v b (events.Drain c k) ps w b
 unfolding lined operate after_calm
 drained_performed v b c k bytes ps w e h =
-    does v v (state_of w).raw b b (events.Drain c k) (shown.Line (replies.Drained c (record { items = bytes }))) ps w nobody
+    does v v (state_of w).raw b b (events.Drain c k) (shown.Drained c (record { items = bytes })) ps w nobody
     (record {
       calm = refl;
       is = ap (λ m. Done (Does m (printed.Drained c (take k (v.raw.consoles c).output) ∷ []) nobody b)) (landed v (state_of w) (after_drain c k v.raw) h)

@@ -35,7 +35,7 @@ use Rattle.its_top.specs.declared.shown.Over.TheVariants as overs
 use Rattle.its_top.specs.declared.shown.Shown.{Shown}
 use Rattle.its_top.specs.declared.shown.Shown.TheVariants as shown
 use Rattle.its_top.specs.Answer.{FindsStart, block_of}
-use Rattle.its_top.specs.Performing.{line_of, lines_shown, told_behind, Performed}
+use Rattle.its_top.specs.Performing.{lines_shown, told_behind, Performed}
 use Rattle.its_top.specs.Generating.{nothing, plus, mark_of, marks, tally_of, tally, items_of, counts_text, generated_tally, generated_text, counted, LeftOf, PlaySo, PlayedOn}
 use Rattle.its_top.proofs.PaceLaws.{runs_more}
 
@@ -91,8 +91,14 @@ tally_listed s a (w ∷ ws) = tally_zero (printed.Listed s a w) (printed.listed 
 -- the result of an event counts for its lines
 counts_for : (n : ℕ) (r : Result Shown Over) (ps : List Pace) (w : World) → tally (lines_shown n r ps w) ≡ counted r ps
 counts_for n (Ok shown.Nothing) ps w = tally_none
-counts_for n (Ok (shown.Line l)) ps w = tally_one (line_of l ps)
+counts_for n (Ok (shown.Loaded s)) ps w = tally_one (printed.Loaded s)
+counts_for n (Ok (shown.Ticks s)) ps w = tally_one (printed.Ticks s ps)
+counts_for n (Ok (shown.Typed c k)) ps w = tally_one (printed.Typed c k)
+counts_for n (Ok (shown.Drained c bytes)) ps w = tally_one (printed.Drained c bytes.items)
+counts_for n (Ok (shown.Words s a ws)) ps w = tally_one (printed.Words s a ws.items)
 counts_for n (Ok (shown.Listed s a ws)) ps w = tally_listed s a ws.items
+counts_for n (Ok (shown.State v s show)) ps w = tally_one (printed.State v s show)
+counts_for n (Ok (shown.Peeked s peek)) ps w = tally_one (printed.Peeked s peek)
 counts_for n (Ok (shown.Files d k)) ps w =
     let fs = files_in d (state_of w).raw.files in tally_zero (printed.Dir d (length fs)) (map filed_line fs) refl (tally_filed fs)
 counts_for n (Ok (shown.File id d x y)) ps w =

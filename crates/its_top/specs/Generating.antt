@@ -19,7 +19,6 @@ use Rattle.its_top.specs.declared.shown.Shown.{Shown}
 use Rattle.its_top.specs.declared.shown.Shown.TheVariants as shows
 use Rattle.its_top.specs.Answer.{block_of}
 use Rattle.its_top.specs.Counts.{count_line}
-use Rattle.its_top.specs.Performing.{line_of}
 
 abbrev pub nothing : Tally
 nothing = record { steps = 0; drained = 0 }
@@ -67,7 +66,8 @@ generated_text n = counts_text (length (generated_session n)) (generated_tally n
 
 -- what an event counts for, by its result and the letters of its ticks
 abbrev pub counted : Result Shown Over → List Pace → Tally
-counted (Ok (shows.Line r)) ps = tally_of (line_of r ps)
+counted (Ok (shows.Ticks s)) ps = tally_of (printed.Ticks s ps)
+counted (Ok (shows.Drained c bytes)) ps = tally_of (printed.Drained c bytes.items)
 counted _ ps = nothing
 
 -- what is counted so far, with what the events from line number n on count for, is all

@@ -1,6 +1,6 @@
 -- The result of an event that was performed: what it shows, and the state of the session after it.
 -- No promise rests on this.
-use Rattle.std.specs.Prelude.{◌≡◌, ◌<◌, ◌^◌, ℕ, ◌+◌, true, false, Some, Result, Ok, Err, IfOk, OnOk, None, List, [], ◌∷◌, length}
+use Rattle.std.specs.Prelude.{◌≡◌, ◌<◌, ◌^◌, ℕ, true, false, Result, Ok, Err, IfOk, None, List, [], ◌∷◌, length}
 use Rattle.its_files.specs.Files.{entry_at, is_file, words_at}
 use Rattle.its_records.specs.declared.calls.Pace.{Pace}
 use Rattle.its_records.specs.declared.session.Event.{Event}
@@ -17,29 +17,23 @@ use Rattle.its_world.specs.declared.world.World.{World}
 use Rattle.its_records.specs.Refusals.{reason_of}
 use Rattle.its_top.specs.declared.shown.Over.{Over}
 use Rattle.its_top.specs.declared.shown.Over.TheVariants as overs
-use Rattle.its_top.specs.declared.shown.Reply.{Reply}
-use Rattle.its_top.specs.declared.shown.Reply.TheVariants as replies
 use Rattle.its_top.specs.declared.shown.Shown.{Shown}
 use Rattle.its_top.specs.declared.shown.Shown.TheVariants as shows
 use Rattle.its_top.specs.declared.flow.Flow.{Flow}
 use Rattle.its_top.specs.declared.flow.Flow.TheVariants as flows
 use Rattle.its_top.specs.Telling.{goes_on_after}
 
--- a line, if these are the letters of the ticks
-abbrev pub line_of : Reply → List Pace → Line
-line_of (replies.Loaded s) ps = printed.Loaded s
-line_of (replies.Ticks s) ps = printed.Ticks s ps
-line_of (replies.Typed c n) ps = printed.Typed c n
-line_of (replies.Drained c bytes) ps = printed.Drained c bytes.items
-line_of (replies.Words s a words) ps = printed.Words s a words.items
-line_of (replies.State v s show) ps = printed.State v s show
-line_of (replies.Peeked s peek) ps = printed.Peeked s peek
-
--- the lines that are shown of a world
+-- the lines that are shown of a world, if these are the letters of the ticks
 abbrev pub lines_of : Shown → List Pace → World → List Line
 lines_of shows.Nothing ps w = []
-lines_of (shows.Line r) ps w = line_of r ps ∷ []
+lines_of (shows.Loaded s) ps w = printed.Loaded s ∷ []
+lines_of (shows.Ticks s) ps w = printed.Ticks s ps ∷ []
+lines_of (shows.Typed c n) ps w = printed.Typed c n ∷ []
+lines_of (shows.Drained c bytes) ps w = printed.Drained c bytes.items ∷ []
+lines_of (shows.Words s a words) ps w = printed.Words s a words.items ∷ []
 lines_of (shows.Listed s a words) ps w = printed.listed s a words.items
+lines_of (shows.State v s show) ps w = printed.State v s show ∷ []
+lines_of (shows.Peeked s peek) ps w = printed.Peeked s peek ∷ []
 lines_of (shows.Files d n) ps w = listing d (files_in d (state_of w).raw.files)
 lines_of (shows.File id d x y) ps w = shown_lines d x y (words_at w.files id)
 

@@ -16,7 +16,7 @@ use super::room::Room;
 use super::writing::tell;
 use its_io::Sink;
 use its_monitor::Monitor;
-use its_print::print_ticks;
+use its_print::Reply;
 use its_records::Event;
 
 /// The answer to an event: what it does to the monitor and to the block, and what it shows.
@@ -55,8 +55,7 @@ pub fn tick_line<K: Sink>(m: &mut Monitor, s: u8, n: u32, room: &mut Room, out: 
     ensures cause { FlowCause result (K.faults out.old) (K.faults out.new) }
 {
     room.runs.clear();
-    room.line.clear();
     paces_of(m, s, n, &mut room.runs);
-    print_ticks(s, &room.runs, &mut room.line);
-    tell(out, &room.line, Flow::On)
+    let runs = room.runs.as_slice();
+    tell(&mut room.line, out, &Reply::Ticks { s, runs }, Flow::On)
 }

@@ -8,7 +8,7 @@ use super::counts::count_line;
 use super::status::Status;
 use arrayvec::ArrayVec;
 use its_io::{Failed, Sink, Source, write_all};
-use its_print::print_refusal;
+use its_print::{Reply, print_reply};
 use its_reader::{Found, Items};
 use its_records::{Event, Reason};
 
@@ -101,7 +101,7 @@ fn report<K: Sink>(found: Checked, out: &mut K) -> Status
         Checked::Open(n) => write_text(out, &count_line(b"OK", u64::from(n)), Status::Done),
         Checked::Refused(n, reason) => {
             let mut line = ArrayVec::new();
-            print_refusal(n, reason, &mut line);
+            print_reply(&Reply::Refused { n, reason }, &mut line);
             write_text(out, &line, Status::Refused)
         }
         Checked::TooLong => Status::TooLong,

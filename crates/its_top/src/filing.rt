@@ -21,7 +21,7 @@ use super::writing::tell;
 use arrayvec::ArrayVec;
 use its_io::Sink;
 use its_monitor::Monitor;
-use its_print::{print_dir, print_file, print_row, print_show};
+use its_print::Reply;
 use its_records::{Event, FileShow, Refusal};
 use its_word::Word;
 
@@ -130,9 +130,7 @@ pub fn print_files<K: Sink>(
     ensures sound { Kept m.new.world }
     ensures cause { FlowCause result (K.faults out.old) (K.faults out.new) }
 {
-    line.clear();
-    print_dir(d, count, line);
-    let flow = tell(out, line, Flow::On);
+    let flow = tell(line, out, &Reply::Dir { d, n: count }, Flow::On);
     if !flow.goes_on() {
         return flow;
     }
@@ -172,9 +170,7 @@ fn print_filed<K: Sink>(show: FileShow, line: &mut Bytes, out: &mut K) -> Flow
     ensures told { Tells result Flow.On (text_of_line (Filed show)) (K.written out.old) (K.written out.new) }
     ensures cause { FlowCause result (K.faults out.old) (K.faults out.new) }
 {
-    line.clear();
-    print_file(&show, line);
-    tell(out, line, Flow::On)
+    tell(line, out, &Reply::Filed { show: &show }, Flow::On)
 }
 
 /// SHOW: shows the words of a file.
@@ -208,14 +204,12 @@ pub fn print_words_of<K: Sink>(
     ensures sound { Kept m.new.world }
     ensures cause { FlowCause result (K.faults out.old) (K.faults out.new) }
 {
-    let count = m.file_length(id).unwrap_or(0);
-    line.clear();
-    print_show(d, x, y, count, line);
-    let flow = tell(out, line, Flow::On);
+    let k = m.file_length(id).unwrap_or(0);
+    let flow = tell(line, out, &Reply::Shown { d, x, y, k }, Flow::On);
     if !flow.goes_on() {
         return flow;
     }
-    print_rows(m, id, count, line, out)
+    print_rows(m, id, k, line, out)
 }
 
 /// The lines of the words of a file, when no part of a close is pending.
@@ -260,9 +254,7 @@ fn print_row_of<K: Sink>(
     ensures cause { FlowCause result (K.faults out.old) (K.faults out.new) }
 {
     let words = row_of(m, id, from, count);
-    line.clear();
-    print_row(&words, line);
-    tell(out, line, Flow::On)
+    tell(line, out, &Reply::Row { words: &words }, Flow::On)
 }
 
 /// Up to eight words of a file from one on.

@@ -11,14 +11,13 @@ ghost use Rattle.its_world.specs.World.{state_of};
 ghost use Rattle.its_monitor.specs.Kept.{Kept};
 ghost use Rattle.its_print.specs.Runs.{paces_in};
 ghost use Rattle.its_top.specs.Checking.{WroteText};
-ghost use Rattle.its_top.specs.Performing.{line_of};
-ghost use Rattle.its_top.specs.Generating.{marks, tally_of, counted, counts_text, tally_text, generated_tally, generated_text, PlayedOn};
+ghost use Rattle.its_top.specs.Generating.{marks, counted, counts_text, tally_text, generated_tally, generated_text, PlayedOn};
 
 use super::counts::count_line;
 use super::performing::perform;
 use super::progress::Progress;
 use super::room::Runs;
-use super::shown::{Over, Reply, Shown};
+use super::shown::{Over, Shown};
 use super::status::Status;
 use arrayvec::ArrayVec;
 use its_io::{Failed, Sink, write_all};
@@ -164,42 +163,31 @@ fn play_on(m: &mut Monitor, play: &mut Play, event: &Event, runs: &mut Runs)
     play.over = performed.is_err();
 }
 
-/// What counts of the result of an event.
+/// What counts of the result of an event: the ticks that are marked, and the bytes that were drained.
 fn counted(performed: &Result<Shown, Over>, runs: &Runs) -> Tally
     requires letters { length (paces_in runs.now.items) ≤ 512 }
     ensures counted { result ≡ counted performed.now (paces_in runs.now.items) }
     ensures few { (result.steps ≤ 512) × (result.drained ≤ 64) }
 {
     match performed {
-        Ok(Shown::Line(reply)) => counted_line(reply, runs),
-        Ok(Shown::Nothing) => NOTHING,
-        Ok(Shown::Listed { .. }) => NOTHING,
-        Ok(Shown::Files { .. }) => NOTHING,
-        Ok(Shown::File { .. }) => NOTHING,
-        Err(_) => NOTHING,
-    }
-}
-
-/// What counts of a line: the ticks that are marked, and the bytes that were drained.
-fn counted_line(reply: &Reply, runs: &Runs) -> Tally
-    requires letters { length (paces_in runs.now.items) ≤ 512 }
-    ensures counted { result ≡ tally_of (line_of reply.now (paces_in runs.now.items)) }
-    ensures few { (result.steps ≤ 512) × (result.drained ≤ 64) }
-{
-    match reply {
-        Reply::Ticks { .. } => Tally {
+        Ok(Shown::Ticks { .. }) => Tally {
             steps: marks(runs),
             drained: 0,
         },
-        Reply::Drained { bytes, .. } => Tally {
+        Ok(Shown::Drained { bytes, .. }) => Tally {
             steps: 0,
             drained: bytes.len() as u64,
         },
-        Reply::Loaded { .. } => NOTHING,
-        Reply::Typed { .. } => NOTHING,
-        Reply::Words { .. } => NOTHING,
-        Reply::State { .. } => NOTHING,
-        Reply::Peeked { .. } => NOTHING,
+        Ok(Shown::Nothing) => NOTHING,
+        Ok(Shown::Loaded { .. }) => NOTHING,
+        Ok(Shown::Typed { .. }) => NOTHING,
+        Ok(Shown::Words { .. }) => NOTHING,
+        Ok(Shown::Listed { .. }) => NOTHING,
+        Ok(Shown::State { .. }) => NOTHING,
+        Ok(Shown::Peeked { .. }) => NOTHING,
+        Ok(Shown::Files { .. }) => NOTHING,
+        Ok(Shown::File { .. }) => NOTHING,
+        Err(_) => NOTHING,
     }
 }
 

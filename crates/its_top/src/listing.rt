@@ -9,7 +9,7 @@ use super::flow::Flow;
 use super::room::Bytes;
 use super::writing::tell;
 use its_io::Sink;
-use its_print::print_listed;
+use its_print::Reply;
 use its_word::Word;
 
 /// A line for each of some words, which are in a slot from an address on.
@@ -36,7 +36,5 @@ fn list_word<K: Sink>(s: u8, a: u32, word: Word, line: &mut Bytes, out: &mut K) 
     ensures told { Tells result Flow.On (text_of_line (Listed s a word)) (K.written out.old) (K.written out.new) }
     ensures cause { FlowCause result (K.faults out.old) (K.faults out.new) }
 {
-    line.clear();
-    print_listed(s, a, word, line);
-    tell(out, line, Flow::On)
+    tell(line, out, &Reply::Listed { s, a, word }, Flow::On)
 }

@@ -19,7 +19,7 @@ use super::consoles::{drain, load_job, type_in};
 use super::filing::{add_words, find_file, list_files, make_file};
 use super::progress::Progress;
 use super::room::Runs;
-use super::shown::{Over, Reply, Shown};
+use super::shown::{Over, Shown};
 use arrayvec::ArrayVec;
 use its_monitor::Monitor;
 use its_print::Run;
@@ -61,16 +61,16 @@ pub fn perform(
         Event::EndFile => Ok(Shown::Nothing),
         Event::Tick { s, n } => {
             paces_of(m, *s, *n, runs);
-            Ok(Shown::Line(Reply::Ticks { s: *s }))
+            Ok(Shown::Ticks { s: *s })
         }
         Event::Run { .. } => Ok(Shown::Nothing),
         Event::TypeIn { c, bytes } => {
             let dropped = type_bytes(m, *c, bytes);
-            Ok(Shown::Line(Reply::Typed { c: *c, dropped }))
+            Ok(Shown::Typed { c: *c, dropped })
         }
         Event::Drain { c, n } => {
             let bytes = drain_bytes(m, *c, *n);
-            Ok(Shown::Line(Reply::Drained { c: *c, bytes }))
+            Ok(Shown::Drained { c: *c, bytes })
         }
         Event::Clock { n } => quiet(m.advance(*n)),
         Event::Int { s, v, w } => quiet(m.interrupt(*s, *v, *w)),
@@ -115,7 +115,7 @@ fn load(
     match load_job(m, u, j, console) {
         Ok(s) => {
             p.slot = s;
-            Ok(Shown::Line(Reply::Loaded { s }))
+            Ok(Shown::Loaded { s })
         }
         Err(e) => Err(Over::Refused(e)),
     }
@@ -129,11 +129,11 @@ fn state(m: &mut Monitor, s: u8) -> Result<Shown, Over>
     ensures sound { Kept m.new.world }
 {
     match m.state(s) {
-        Ok(show) => Ok(Shown::Line(Reply::State {
+        Ok(show) => Ok(Shown::State {
             version: m.world.version,
             s,
             show,
-        })),
+        }),
         Err(e) => Err(Over::Refused(e)),
     }
 }
@@ -149,7 +149,7 @@ fn examine(m: &mut Monitor, s: u8, a: u32, n: u32) -> Result<Shown, Over>
     ensures sound { Kept m.new.world }
 {
     match words_of(m, s, a, n) {
-        Ok(words) => Ok(Shown::Line(Reply::Words { s, a, words })),
+        Ok(words) => Ok(Shown::Words { s, a, words }),
         Err(e) => Err(Over::Refused(e)),
     }
 }
@@ -177,7 +177,7 @@ fn peek(m: &Monitor, s: u8) -> Result<Shown, Over>
     ensures performed { (ps : List Pace) (b : Block) → Performed result (state_of m.now.world) b (Event.Peek s) ps m.now.world b }
 {
     match m.peek(s) {
-        Ok(peek) => Ok(Shown::Line(Reply::Peeked { s, peek })),
+        Ok(peek) => Ok(Shown::Peeked { s, peek }),
         Err(e) => Err(Over::Refused(e)),
     }
 }

@@ -1,24 +1,22 @@
 //! The result of an event is printed.
-ghost use Rattle.std.specs.Prelude.{◌≡◌, ◌≤◌, ◌-◌, [], IfOk, length};
+ghost use Rattle.std.specs.Prelude.{◌≡◌, ◌≤◌, ◌-◌, IfOk, length};
 ghost use Rattle.its_world.specs.World.{state_of};
 ghost use Rattle.its_monitor.specs.Kept.{Kept};
-ghost use Rattle.its_print.specs.Printing.{text_of_line, text};
+ghost use Rattle.its_print.specs.Printing.{text};
 ghost use Rattle.its_print.specs.Runs.{paces_in};
 ghost use Rattle.its_top.specs.Causes.{FlowCause};
 ghost use Rattle.its_top.specs.Answer.{Tells};
-ghost use Rattle.its_top.specs.Performing.{CanShow, line_of, lines_of, lines_over, lines_shown, flow_of, flow_over};
+ghost use Rattle.its_top.specs.Performing.{CanShow, lines_of, lines_over, lines_shown, flow_of, flow_over};
 
 use super::filing::{print_files, print_words_of};
 use super::flow::Flow;
 use super::listing::list_words;
 use super::room::{Bytes, Runs};
-use super::shown::{Over, Reply, Shown};
+use super::shown::{Over, Shown};
 use super::writing::{refuse_by, tell};
 use its_io::Sink;
 use its_monitor::Monitor;
-use its_print::{
-    print_drained, print_loaded, print_peek, print_state, print_ticks, print_typed, print_words,
-};
+use its_print::Reply;
 use its_records::Refusal;
 
 /// Writes the lines of the result of line `number`. The monitor is unchanged, and files are read from it.
@@ -76,38 +74,24 @@ fn print_shown<K: Sink>(
 {
     match shown {
         Shown::Nothing => Flow::On,
-        Shown::Line(reply) => print_reply(reply, runs, line, out),
+        Shown::Loaded { s } => tell(line, out, &Reply::Loaded { s: *s }, Flow::On),
+        Shown::Ticks { s } => tell(line, out, &Reply::Ticks { s: *s, runs }, Flow::On),
+        Shown::Typed { c, dropped } => {
+            let (c, dropped) = (*c, *dropped);
+            tell(line, out, &Reply::Typed { c, dropped }, Flow::On)
+        }
+        Shown::Drained { c, bytes } => tell(line, out, &Reply::Drained { c: *c, bytes }, Flow::On),
+        Shown::Words { s, a, words } => {
+            let (s, a) = (*s, *a);
+            tell(line, out, &Reply::Words { s, a, words }, Flow::On)
+        }
+        Shown::State { version, s, show } => {
+            let (version, s) = (*version, *s);
+            tell(line, out, &Reply::State { version, s, show }, Flow::On)
+        }
+        Shown::Peeked { s, peek } => tell(line, out, &Reply::Peeked { s: *s, peek }, Flow::On),
         Shown::Listed { s, a, words } => list_words(*s, *a, words, line, out),
         Shown::Files { d, count } => print_files(m, *d, *count, line, out),
         Shown::File { id, d, x, y } => print_words_of(m, *id, *d, *x, *y, line, out),
-    }
-}
-
-/// Writes a line.
-#[tactic(auto, using(crate::proofs::WritingLaws::told_as))]
-fn print_reply<K: Sink>(reply: &Reply, runs: &Runs, line: &mut Bytes, out: &mut K) -> Flow
-    requires letters { length (paces_in runs.now.items) ≤ 512 }
-    ensures told { Tells result Flow.On (text_of_line (line_of reply.now (paces_in runs.now.items))) (K.written out.old) (K.written out.new) }
-    ensures cause { FlowCause result (K.faults out.old) (K.faults out.new) }
-{
-    line.clear();
-    put_reply(reply, runs, line);
-    tell(out, line, Flow::On)
-}
-
-/// Puts the bytes of a line into an empty array.
-fn put_reply(reply: &Reply, runs: &Runs, line: &mut Bytes)
-    requires empty { line.old.items ≡ [] }
-    requires letters { length (paces_in runs.now.items) ≤ 512 }
-    ensures { line.new.items ≡ text_of_line (line_of reply.now (paces_in runs.now.items)) }
-{
-    match reply {
-        Reply::Loaded { s } => print_loaded(*s, line),
-        Reply::Ticks { s } => print_ticks(*s, runs, line),
-        Reply::Typed { c, dropped } => print_typed(*c, *dropped, line),
-        Reply::Drained { c, bytes } => print_drained(*c, bytes, line),
-        Reply::Words { s, a, words } => print_words(*s, *a, words, line),
-        Reply::State { version, s, show } => print_state(*s, show, *version, line),
-        Reply::Peeked { s, peek } => print_peek(*s, peek, line),
     }
 }

@@ -2,9 +2,10 @@ use arrayvec::ArrayVec;
 use its_records::{JobShow, Peek, Refusal};
 use its_word::Word;
 
-/// A line of the transcript. The letters of a `T` line are in the room for them.
+/// What an event shows after which the session goes on. The letters of its ticks are in the room for them.
 #[derive(Debug, PartialEq, Eq, Drop)]
-pub enum Reply {
+pub enum Shown {
+    Nothing,
     Loaded {
         s: u8,
     },
@@ -24,6 +25,12 @@ pub enum Reply {
         a: u32,
         words: ArrayVec<Word, 8>,
     },
+    /// Words of a slot from an address on, typed out, each in a line of its own.
+    Listed {
+        s: u8,
+        a: u32,
+        words: ArrayVec<Word, 8>,
+    },
     State {
         version: u8,
         s: u8,
@@ -32,19 +39,6 @@ pub enum Reply {
     Peeked {
         s: u8,
         peek: Peek,
-    },
-}
-
-/// What an event shows after which the session goes on.
-#[derive(Debug, PartialEq, Eq, Drop)]
-pub enum Shown {
-    Nothing,
-    Line(Reply),
-    /// Words of a slot from an address on, typed out, each in a line of its own.
-    Listed {
-        s: u8,
-        a: u32,
-        words: ArrayVec<Word, 8>,
     },
     /// The files of a directory, and how many there are: they are read while they are printed.
     Files {

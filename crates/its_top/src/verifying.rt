@@ -12,7 +12,7 @@ use super::counts::count_line;
 use super::status::Status;
 use arrayvec::ArrayVec;
 use its_io::{Sink, Source};
-use its_print::print_refusal;
+use its_print::{Reply, print_reply};
 use its_records::Reason;
 use its_verify::{Broken, Outcome, verify};
 use std::alloc::Global;
@@ -59,6 +59,6 @@ fn refuse<K: Sink>(n: u32, reason: Reason, out: &mut K) -> Status
     ensures status { (result ≡ Status.Refused) ⊎ (result ≡ Status.WriteFault) }
 {
     let mut line = ArrayVec::new();
-    print_refusal(n, reason, &mut line);
+    print_reply(&Reply::Refused { n, reason }, &mut line);
     write_text(out, &line, Status::Refused)
 }

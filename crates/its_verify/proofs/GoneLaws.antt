@@ -20,7 +20,6 @@ use Rattle.its_reader.specs.Bytes.{pending}
 use Rattle.its_reader.specs.Items.{Finds, found_fits, found_stands, is_last, place_found}
 use Rattle.its_reader.specs.Lines.{BetweenLines}
 use Rattle.its_plain.specs.Operator.{Block, no_block}
-use Rattle.its_plain.specs.Transcript.{Walk}
 use Rattle.its_plain.specs.Turns.{ticks_asked, turns_asked}
 use Rattle.its_direct.specs.Events.{MayStand, Speaks}
 use Rattle.its_direct.specs.declared.plain.Spot.{Spot}

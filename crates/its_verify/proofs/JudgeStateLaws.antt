@@ -1,5 +1,5 @@
 -- The state of a judge after a letter or a line.
-use Rattle.std.proofs.Common.{◌≡◌, ◌≢◌, ◌<◌, ◌≤◌, ◌+◌, ◌==◌, ◌&&◌, ◌||◌, ℕ, zero, suc, Bool, true, false, not, ltb, if◌then◌else◌, is_some, Option, Some, None, List, length, refl, sym, ap, subst, ◌∙◌, inl, inr, arith, replicate, slice_index_or, slice_set}
+use Rattle.std.proofs.Common.{◌≡◌, ◌≢◌, ◌<◌, ◌≤◌, ◌+◌, ◌==◌, ◌&&◌, ℕ, zero, suc, Bool, true, false, not, ltb, if◌then◌else◌, Option, Some, None, List, length, refl, sym, ap, subst, ◌∙◌, inl, inr, arith, replicate, slice_index_or, slice_set}
 use Rattle.std.proofs.lemmas.Bool.{cases_Bool, cases_eq, and_right, eq-eqb, ne_eqb, lt-ltb, false≢true}
 use Rattle.std.proofs.lemmas.Bool.Decides.{nat_tests}
 use Rattle.std.proofs.lemmas.List.{get_or-set_same, get_or-set_other, get_or_default}
@@ -9,13 +9,13 @@ use Rattle.its_records.specs.declared.calls.Pace.TheVariants.{Step, Work, Wait, 
 use Rattle.its_plain.specs.CallStep.{Transition, among, disturbed, disturbs_in, step, transition, is_made, makes, makes_in}
 use Rattle.its_plain.proofs.StepLaws.{step_by}
 use Rattle.its_plain.specs.Licence.{Dots, dots_after, dots_after_line, most_dots}
-use Rattle.its_plain.specs.Machine.{Machine, Whole}
+use Rattle.its_plain.specs.Machine.{Machine}
 use Rattle.its_plain.specs.Operator.{Block}
 use Rattle.its_plain.specs.Transcript.{Walk, walk_after, next_line}
 use Rattle.its_plain.specs.Turns.{is_running}
 use Rattle.its_direct.specs.Plain.{machine_of, is_touched}
-use Rattle.its_direct.specs.Events.{JobsStay, Kept}
-use Rattle.its_direct.specs.Steps.{LosesOnly, Makes, touches}
+use Rattle.its_direct.specs.Events.{Kept}
+use Rattle.its_direct.specs.Steps.{Makes, touches}
 use Rattle.its_direct.specs.declared.plain.Plain.{Plain}
 use Rattle.its_verify.specs.Letters.{led_to}
 use Rattle.its_verify.specs.JudgeState.{dots_of, walk_of, Sure, Forgets, ForgetsBelow, Led, LedIf, forgotten}

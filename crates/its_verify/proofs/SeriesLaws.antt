@@ -1,5 +1,5 @@
 -- So many steps of one job alone are so many `*`.
-use Rattle.std.proofs.Common.{◌≡◌, ◌≢◌, ◌<◌, ◌==◌, ◌||◌, ◌&&◌, not, ℕ, zero, suc, Bool, true, false, if◌then◌else◌, is_some, Option, Some, None, List, ◌∷◌, ◌++◌, length, replicate, refl, sym, ap, subst, ◌∙◌, inl, inr, slice_set}
+use Rattle.std.proofs.Common.{◌≡◌, ◌≢◌, ◌<◌, ◌==◌, ◌||◌, ◌&&◌, not, ℕ, zero, suc, Bool, true, false, if◌then◌else◌, is_some, Option, Some, None, List, ◌∷◌, ◌++◌, length, replicate, refl, sym, ap, ◌∙◌, inl, inr, slice_set}
 use Rattle.std.specs.Prelude.{option_and_then}
 use Rattle.std.proofs.lemmas.Bool.{cases_eq, eq-eqb, false≢true, ne_eqb}
 use Rattle.std.proofs.lemmas.List.{get_or-set_same, get_or-set_other}
@@ -12,7 +12,6 @@ use Rattle.its_plain.specs.Operator.{Block}
 use Rattle.its_plain.specs.Transcript.{Walk, after_letter}
 use Rattle.its_direct.specs.Plain.{machine_of}
 use Rattle.its_direct.specs.Series.{Series}
-use Rattle.its_direct.specs.declared.plain.Plain.{Plain}
 use Rattle.its_verify.specs.Letters.{paced}
 use Rattle.its_verify.specs.JudgeState.{RunLed, dots_of, walk_of}
 use Rattle.its_verify.specs.declared.judge.Judge.{Judge}

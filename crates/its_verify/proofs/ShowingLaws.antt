@@ -1,17 +1,14 @@
 -- Lines that an event shows, which are printed and then expected.
-use Rattle.std.proofs.Common.{◌≡◌, ◌<◌, ◌≤◌, ◌+◌, ◌*◌, ◌/◌, ◌%◌, ◌-◌, ◌^◌, ℕ, suc, Option, Some, None, Result, Ok, Err, IsOk, IfOk, IfSome, List, [], ◌∷◌, length, map, take, drop, min, slice_index_or, refl, add-one, sym, ap, subst, ◌∙◌, inl, inr, arith}
+use Rattle.std.proofs.Common.{◌≡◌, ◌<◌, ◌≤◌, ◌+◌, ◌*◌, ◌/◌, ◌%◌, ◌-◌, ℕ, suc, Option, Some, None, Result, Ok, Err, IsOk, IfOk, List, [], ◌∷◌, length, map, take, drop, min, slice_index_or, refl, add-one, sym, ap, subst, ◌∙◌, inl, inr, arith}
 use Rattle.std.proofs.Math.Seq.{drop-cons}
 use Rattle.std.proofs.Math.ListN.{drop_of_length-le}
 use Rattle.std.proofs.lemmas.Bool.{cases_eq, false≢true}
 use Rattle.std.proofs.Math.Nat.{min-eq_left}
-use Rattle.std.proofs.lemmas.List.{drop-drop, get_or_default, length-map}
-use Rattle.std.specs.List.{AllByRecursion}
+use Rattle.std.proofs.lemmas.List.{drop-drop, length-map}
 use Rattle.its_io.specs.declared.stream.Failed.{Failed}
 use Rattle.its_records.specs.declared.session.Reason.{Reason}
 use Rattle.its_files.specs.Files.{Store, file_at as file_of, words_at}
-use Rattle.its_print.specs.Printing.{Dir, Drained, Filed, Line, Listed, Loaded, Row, Shown, State, Typed, Words, listed, text_of_line}
-use Rattle.its_print.specs.Sizes.{Fits8, Fits32, IsPrinted}
-use Rattle.its_print.proofs.LongestLine.{longest}
+use Rattle.its_print.specs.Printing.{Dir, Filed, Line, Listed, Row, State, listed, text_of_line}
 use Rattle.its_records.specs.declared.show.FileShow.{FileShow}
 use Rattle.its_records.specs.declared.show.JobShow.{JobShow}
 use Rattle.its_plain.specs.Machine.{File, Machine, Names}
@@ -26,48 +23,14 @@ use Rattle.its_direct.specs.declared.plain.Plain.{Plain}
 use Rattle.its_verify.specs.TranscriptReader.{Forward, AtLine, Says, Stays, same_as}
 use Rattle.its_verify.proofs.TranscriptReaderLaws.{led_forward, nothing_on, says_then}
 use Rattle.its_verify.specs.Rulings.{Ruling, led, saying, expects}
-use Rattle.its_verify.specs.Showing.{BitsSo, LinesSo, names_line, shown_if, text_lines}
+use Rattle.its_verify.specs.Showing.{LinesSo, names_line, shown_if, text_lines}
 use Rattle.its_verify.specs.declared.outcome.Outcome.{Outcome}
 use Rattle.its_verify.specs.declared.transcript_reader.TranscriptReader.{TranscriptReader}
 
--- one line
-pub printed_short : (l : Line) (xs : List ℕ) → xs ≡ text_of_line l → IsPrinted l → length xs ≤ 1543
-printed_short l xs is p = rw is (longest l p)
-
-pub drained_short : (c : ℕ) (bs xs : List ℕ) → xs ≡ text_of_line (Drained c bs) → c < 2 ^ 8 → length bs ≤ 64 → AllByRecursion Fits8 bs → length xs ≤ 1543
-drained_short c bs xs is console few bits = printed_short (Drained c bs) xs is (console, few, bits)
-
-pub loaded_short : (s : ℕ) (xs : List ℕ) → xs ≡ text_of_line (Loaded s) → s < 2 ^ 8 → length xs ≤ 1543
-loaded_short s xs is slot = printed_short (Loaded s) xs is slot
-
-pub typed_short : (c n : ℕ) (xs : List ℕ) → xs ≡ text_of_line (Typed c n) → c < 2 ^ 8 → n < 2 ^ 32 → length xs ≤ 1543
-typed_short c n xs is console dropped = printed_short (Typed c n) xs is (console, dropped)
-
-pub words_short : (s a : ℕ) (ws xs : List ℕ) → xs ≡ text_of_line (Words s a ws) → s < 2 ^ 8 → length ws ≤ 8 → length xs ≤ 1543
-words_short s a ws xs is slot few = printed_short (Words s a ws) xs is (slot, few)
-
-pub listed_short : (s a w : ℕ) (xs : List ℕ) → xs ≡ text_of_line (Listed s a w) → s < 2 ^ 8 → w < 2 ^ 36 → length xs ≤ 1543
-listed_short s a w xs is slot word = printed_short (Listed s a w) xs is (slot, word)
-
-pub state_short : (v s : ℕ) (x : JobShow) (xs : List ℕ) → xs ≡ text_of_line (State v s x) → s < 2 ^ 8 → IfSome x.sup Fits8 → IfSome x.con Fits8 → IfSome x.symbol (λ y. Fits32 y.1) → length xs ≤ 1543
-state_short v s x xs is slot superior console symbol = printed_short (State v s x) xs is (slot, superior, console, symbol)
-
-pub dir_short : (d n : ℕ) (xs : List ℕ) → xs ≡ text_of_line (Dir d n) → n < 2 ^ 32 → length xs ≤ 1543
-dir_short d n xs is count = printed_short (Dir d n) xs is count
-
-pub filed_short : (x : FileShow) (xs : List ℕ) → xs ≡ text_of_line (Filed x) → x.length < 2 ^ 32 → length xs ≤ 1543
-filed_short x xs is count = printed_short (Filed x) xs is count
-
-pub names_short : (d x y k : ℕ) (xs : List ℕ) → xs ≡ text_of_line (Shown d x y k) → k < 2 ^ 32 → length xs ≤ 1543
-names_short d x y k xs is count = printed_short (Shown d x y k) xs is count
-
-pub row_short : (ws xs : List ℕ) → xs ≡ text_of_line (Row ws) → length ws ≤ 8 → length xs ≤ 1543
-row_short ws xs is few = printed_short (Row ws) xs is few
-
-pub printed_says : (l : Line) (xs : List ℕ) (o : Result (Option Outcome) Failed) (old new : TranscriptReader) (left rest : Option (List ℕ)) → xs ≡ text_of_line l → saying l ≡ same_as (text_of_line l)
-    → ((next : Ruling) → Says o old new left rest (led (same_as xs) (λ t. next)) next) → (next : Ruling) → Says o old new left rest (expects (l ∷ []) next) next
-printed_says l xs o old new left rest is same says next =
-    subst (λ (f : List ℕ → Option (List ℕ)). Says o old new left rest (led f (λ t. next)) next) (ap same_as is ∙ sym same) (says next)
+-- one line, whose text is expected
+pub reply_says : (l : Line) (o : Result (Option Outcome) Failed) (old new : TranscriptReader) (left rest : Option (List ℕ)) → saying l ≡ same_as (text_of_line l)
+    → ((next : Ruling) → Says o old new left rest (led (same_as (text_of_line l)) (λ t. next)) next) → (next : Ruling) → Says o old new left rest (expects (l ∷ []) next) next
+reply_says l o old new left rest same says next = subst (λ (f : List ℕ → Option (List ℕ)). Says o old new left rest (led f (λ t. next)) next) (sym same) (says next)
 
 -- lines that show a value that is there
 pub shown_says : {X E : Type 0} (show : X → List Line) (r : Result X E) (x : X) (o : Result (Option Outcome) Failed) (old new : TranscriptReader) (left rest : Option (List ℕ)) → IsOk r → IfOk r (λ y. x ≡ y)
@@ -91,17 +54,17 @@ lines_forward [] next h = h
 lines_forward (line ∷ lines) next h = led_forward (saying line) (λ text. expects lines next) (λ text. lines_forward lines next h)
 
 pub lines_start : (h : TranscriptReader) (left : Option (List ℕ)) (lines : List Line) → LinesSo h h left left lines lines
-lines_start h left lines next = nothing_on h left (expects lines next)
+lines_start h left lines = record { passes = λ next. nothing_on h left (expects lines next) }
 
 lines_then : (r o : Result (Option Outcome) Failed) (old now new : TranscriptReader) (left mid rest : Option (List ℕ)) (lines rests more : List Line) (l : Line) → r ≡ o → rests ≡ l ∷ more → LinesSo old now left mid lines rests
     → ((next : Ruling) → Says r now new mid rest (expects (l ∷ []) next) next) → (next : Ruling) → Says o old new left rest (expects lines next) (expects more next)
 lines_then r o old now new left mid rest lines rests more l is split so says next =
-    says_then o old now new left mid rest (expects lines next) (expects (l ∷ more) next) (expects more next) (subst (LinesSo old now left mid lines) split so next)
+    says_then o old now new left mid rest (expects lines next) (expects (l ∷ more) next) (expects more next) ((subst (LinesSo old now left mid lines) split so).passes next)
     (subst (λ q. Says q now new mid rest (expects (l ∷ []) (expects more next)) (expects more next)) is (says (expects more next)))
 
 pub lines_next : (r : Result (Option Outcome) Failed) (old now new : TranscriptReader) (left mid rest : Option (List ℕ)) (lines rests more : List Line) (l : Line) → r ≡ Ok None → rests ≡ l ∷ more → LinesSo old now left mid lines rests
     → ((next : Ruling) → Says r now new mid rest (expects (l ∷ []) next) next) → LinesSo old new left rest lines more
-lines_next r old now new left mid rest lines rests more l is split so says next = lines_then r (Ok None) old now new left mid rest lines rests more l is split so says next
+lines_next r old now new left mid rest lines rests more l is split so says = record { passes = λ next. lines_then r (Ok None) old now new left mid rest lines rests more l is split so says next }
 
 pub lines_stop : (r : Result (Option Outcome) Failed) (f : Outcome) (old now new : TranscriptReader) (left mid rest : Option (List ℕ)) (lines rests more : List Line) (l : Line) → r ≡ Ok (Some f) → rests ≡ l ∷ more → LinesSo old now left mid lines rests
     → ((next : Ruling) → Says r now new mid rest (expects (l ∷ []) next) next) → (next : Ruling) → Says (Ok (Some f)) old new left rest (expects lines next) next
@@ -113,7 +76,7 @@ lines_fail r e old now new left mid rest lines rests more l is split so says nex
     lines_then r (Err e) old now new left mid rest lines rests more l is split so says next (lines_forward more next forward)
 
 pub lines_end : (old now : TranscriptReader) (left rest : Option (List ℕ)) (lines more : List Line) → more ≡ [] → LinesSo old now left rest lines more → (next : Ruling) → Says (Ok None) old now left rest (expects lines next) next
-lines_end old now left rest lines more none so next = subst (LinesSo old now left rest lines) none so next
+lines_end old now left rest lines more none so next = (subst (LinesSo old now left rest lines) none so).passes next
 
 pub at_line_by : (r : Result (Option Outcome) Failed) (new : TranscriptReader) (rest : Option (List ℕ)) → r ≡ Ok None → Stays r new rest → AtLine new rest
 at_line_by r new rest is h = subst (λ q. Stays q new rest) is h
@@ -164,24 +127,6 @@ fail_says r e old new left rest l lines is first next forward =
 pub same_says : (o : Result (Option Outcome) Failed) (old new : TranscriptReader) (left rest : Option (List ℕ)) (lines more : List Line) → lines ≡ more
     → ((next : Ruling) → Says o old new left rest (expects lines next) next) → (next : Ruling) → Says o old new left rest (expects more next) next
 same_says o old new left rest lines more is says next = subst (λ (ls : List Line). Says o old new left rest (expects ls next) next) is (says next)
-
--- bytes
-pub bits_start : (bs : List ℕ) (k : ℕ) → k ≡ 0 → BitsSo k bs
-bits_start bs k none i below = absurd (omega arith)
-
-pub bits_next : (bs : List ℕ) (k b : ℕ) → k < length bs → b ≡ slice_index_or bs k b → b < 2 ^ 8 → BitsSo k bs → BitsSo (k + 1) bs
-bits_next bs k b within at few so i below =
-    elim (cases_eq i k) [
-      | inl same ↦ (let here : slice_index_or bs k 0 ≡ b = get_or_default bs k 0 b within ∙ sym at in rw same (rw here few))
-      | inr other ↦ so i (omega (arith, below, other))
-    ]
-
-all_bits : (bs : List ℕ) → ((i : ℕ) → i < length bs → slice_index_or bs i 0 < 2 ^ 8) → AllByRecursion Fits8 bs
-all_bits [] h = tt
-all_bits (b ∷ bs) h = (h 0 (omega arith), all_bits bs (λ i below. h (suc i) (omega (arith, below))))
-
-pub bits_end : (bs : List ℕ) (k : ℕ) → length bs ≤ k → BitsSo k bs → AllByRecursion Fits8 bs
-bits_end bs k all so = all_bits bs (λ i below. so i (omega (arith, below, all)))
 
 -- a line for each of some files
 pub filed_more : (files : Store) (ids : List ℕ) (k d : ℕ) → k < length ids

@@ -1,9 +1,8 @@
 -- The letters of a line, read byte by byte.
 use Rattle.std.proofs.Common.{◌≡◌, ◌≢◌, ◌<◌, ◌≤◌, ◌+◌, ◌==◌, ℕ, suc, true, false, Some, None, List, [], ◌∷◌, ◌++◌, length, replicate, drop, get_or, refl, add-one, sym, ap, ◌∙◌, arith, append_assoc, append-nil}
 use Rattle.std.proofs.Math.Seq.{drop-cons}
-use Rattle.std.proofs.lemmas.Bool.{and_right, eq-eqb, false_from_ne_true, false≢true, ne_eqb}
+use Rattle.std.proofs.lemmas.Bool.{and_right, eq-eqb, ne_eqb}
 use Rattle.std.proofs.lemmas.List.{length-append, length-replicate}
-use Rattle.std.proofs.lemmas.Slice.Eq.{bytes_eq-Decides}
 use Rattle.std.proofs.Math.ListN.{drop_of_length-le}
 use Rattle.std.specs.Prelude.{bytes_eq}
 use Rattle.its_records.specs.declared.calls.Pace.{Pace}
@@ -70,20 +69,13 @@ last_other most n t k all ps line i past told many other = λ e.
     (let long : length all ≡ length ps = ap length (at_last most n all ps line i past told) in other (sym many ∙ sym long ∙ e))
 
 -- the letters of a line
-pub ticks_read : (i k : ℕ) (line text : List ℕ) (ps : List Pace) → paces_from k 0 line ≡ ps → length ps ≡ k → text ≡ text_of_line (Ticks i ps) → bytes_eq text line ≡ true → ticks_in i k line ≡ Some ps
+pub ticks_read : (i k : ℕ) (line : List ℕ) (ps : List Pace) → paces_from k 0 line ≡ ps → length ps ≡ k → bytes_eq line (text_of_line (Ticks i ps)) ≡ true → ticks_in i k line ≡ Some ps
 unfolding ticks_in
-ticks_read i k line text ps read many printed same =
-    let is : text ≡ line = (bytes_eq-Decides text line).0 same in
-    let said : bytes_eq line (text_of_line (Ticks i ps)) ≡ true = (bytes_eq-Decides line (text_of_line (Ticks i ps))).1 (sym is ∙ printed) in
-    rw (read, eq-eqb (length ps) k many, said) refl
+ticks_read i k line ps read many said = rw (read, eq-eqb (length ps) k many, said) refl
 
-pub ticks_other : (i k : ℕ) (line text : List ℕ) (ps : List Pace) → paces_from k 0 line ≡ ps → text ≡ text_of_line (Ticks i ps) → bytes_eq text line ≡ false → ticks_in i k line ≡ None
+pub ticks_other : (i k : ℕ) (line : List ℕ) (ps : List Pace) → paces_from k 0 line ≡ ps → bytes_eq line (text_of_line (Ticks i ps)) ≡ false → ticks_in i k line ≡ None
 unfolding ticks_in
-ticks_other i k line text ps read printed other =
-    let no : bytes_eq line (text_of_line (Ticks i ps)) ≡ false =
-    false_from_ne_true _ (λ h. (let is : line ≡ text_of_line (Ticks i ps) = (bytes_eq-Decides line (text_of_line (Ticks i ps))).0 h in
-    let same = (bytes_eq-Decides text line).1 (printed ∙ sym is) in absurd (false≢true (sym other ∙ same)))) in
-    rw (read, no, and_right (length ps == k) false refl) refl
+ticks_other i k line ps read other = rw (read, other, and_right (length ps == k) false refl) refl
 
 pub ticks_few : (i k : ℕ) (line : List ℕ) → length (paces_from k 0 line) ≢ k → ticks_in i k line ≡ None
 unfolding ticks_in

@@ -466,22 +466,14 @@ finish_fails e h was new left rest buffer count ended none r number most at_line
     }
 
 -- a `?` line, and then the end
-pub refusal_short : (n : ℕ) (r : Reason) (line : List ℕ) → line ≡ text_of_line (Refused n r) → n < 2 ^ 32 → length line ≤ 1543
-refusal_short n r line is few = rw is (longest (Refused n r) few)
+pub refused_ends : (n : ℕ) (r : Reason) (result : Result Outcome Failed) (old mid : TranscriptReader) (left between rest : Option (List ℕ))
+    → ((next : Ruling) → Says (Ok None) old mid left between (expects (Refused n r ∷ []) next) next) → Concludes result mid between rest at_end → Concludes result old left rest (expects (Refused n r ∷ []) at_end)
+refused_ends n r result old mid left between rest says ends = concludes_then result old mid left between rest (expects (Refused n r ∷ []) at_end) at_end (says at_end) ends
 
--- with the bytes of the line that was printed
-printed_led : (n : ℕ) (r : Reason) (line : List ℕ) → line ≡ text_of_line (Refused n r) → led (same_as line) (λ t. at_end) ≡ expects (Refused n r ∷ []) at_end
-printed_led n r line is = ap (λ (xs : List ℕ). led (same_as xs) (λ t. at_end)) is
+pub refused_fails : (n : ℕ) (r : Reason) (e : Failed) (old mid : TranscriptReader) (left rest : Option (List ℕ))
+    → ((next : Ruling) → Says (Err e) old mid left rest (expects (Refused n r ∷ []) next) next) → Concludes (Err e) old left rest (expects (Refused n r ∷ []) at_end)
+refused_fails n r e old mid left rest says = says at_end end_forward
 
-pub refused_ends : (n : ℕ) (r : Reason) (line : List ℕ) (result : Result Outcome Failed) (old mid : TranscriptReader) (left between rest : Option (List ℕ)) → line ≡ text_of_line (Refused n r)
-    → ((next : Ruling) → Says (Ok None) old mid left between (led (same_as line) (λ t. next)) next) → Concludes result mid between rest at_end → Concludes result old left rest (expects (Refused n r ∷ []) at_end)
-refused_ends n r line result old mid left between rest is says ends =
-    subst (λ (j : Ruling). Concludes result old left rest j) (printed_led n r line is) (concludes_then result old mid left between rest (led (same_as line) (λ t. at_end)) at_end (says at_end) ends)
-
-pub refused_fails : (n : ℕ) (r : Reason) (line : List ℕ) (e : Failed) (old mid : TranscriptReader) (left rest : Option (List ℕ)) → line ≡ text_of_line (Refused n r)
-    → ((next : Ruling) → Says (Err e) old mid left rest (led (same_as line) (λ t. next)) next) → Concludes (Err e) old left rest (expects (Refused n r ∷ []) at_end)
-refused_fails n r line e old mid left rest is says = subst (λ (j : Ruling). Concludes (Err e) old left rest j) (printed_led n r line is) (says at_end end_forward)
-
-pub refused_lacks : (n : ℕ) (r : Reason) (line : List ℕ) (f : Outcome) (old mid : TranscriptReader) (left rest : Option (List ℕ)) → line ≡ text_of_line (Refused n r)
-    → ((next : Ruling) → Says (Ok (Some f)) old mid left rest (led (same_as line) (λ t. next)) next) → Concludes (Ok f) old left rest (expects (Refused n r ∷ []) at_end)
-refused_lacks n r line f old mid left rest is says = subst (λ (j : Ruling). Concludes (Ok f) old left rest j) (printed_led n r line is) (says at_end)
+pub refused_lacks : (n : ℕ) (r : Reason) (f : Outcome) (old mid : TranscriptReader) (left rest : Option (List ℕ))
+    → ((next : Ruling) → Says (Ok (Some f)) old mid left rest (expects (Refused n r ∷ []) next) next) → Concludes (Ok f) old left rest (expects (Refused n r ∷ []) at_end)
+refused_lacks n r f old mid left rest says = says at_end

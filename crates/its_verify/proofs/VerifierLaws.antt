@@ -11,7 +11,7 @@ use Rattle.its_records.specs.declared.session.Place.TheVariants as places
 use Rattle.its_session.specs.Events.{place_after}
 use Rattle.its_plain.specs.Operator.{Block}
 use Rattle.its_plain.specs.Transcript.{Walk}
-use Rattle.its_plain.specs.Turns.{runs, turn_after}
+use Rattle.its_plain.specs.Turns.{turn_after}
 use Rattle.its_direct.specs.Events.{MayStand, spot_place}
 use Rattle.its_direct.specs.Plain.{machine_of}
 use Rattle.its_direct.specs.declared.plain.Spot.{Spot}

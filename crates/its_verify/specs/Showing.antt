@@ -1,6 +1,6 @@
 -- What a line of a session shows, read from the machine after it.
 -- No promise rests on this.
-use Rattle.std.specs.Prelude.{◌<◌, ◌^◌, ℕ, Bool, true, false, IsOk, Result, Ok, Err, List, [], ◌∷◌, slice_index_or}
+use Rattle.std.specs.Prelude.{ℕ, Bool, true, false, IsOk, Result, Ok, Err, List, [], ◌∷◌}
 use Rattle.its_records.specs.declared.session.Event.{Event}
 use Rattle.its_records.specs.declared.session.Event.TheVariants as events
 use Rattle.its_print.specs.Printing.{Line, listed}
@@ -75,10 +75,5 @@ abbrev pub text_lines : Names → List ℕ → List Line
 text_lines n ws = shown_lines (name_in n 0) (name_in n 1) (name_in n 2) ws
 
 -- some lines were shown, and these are still to come
-abbrev pub LinesSo : TranscriptReader → TranscriptReader → Option (List ℕ) → Option (List ℕ) → List Line → List Line → Type 0
-LinesSo old now left rest lines more =
-    (next : Ruling) → PassesOn old now left rest (expects lines next) (expects more next)
-
--- each of the first k bytes has eight bits
-abbrev pub BitsSo : ℕ → List ℕ → Type 0
-BitsSo k bs = (i : ℕ) → i < k → slice_index_or bs i 0 < 2 ^ 8
+pub record LinesSo (old now : TranscriptReader) (left rest : Option (List ℕ)) (lines more : List Line) : Type 0 where
+  pub passes : (next : Ruling) → PassesOn old now left rest (expects lines next) (expects more next)

@@ -1,11 +1,10 @@
 //! The lines that an event shows, one after another.
-ghost use Rattle.std.specs.Prelude.{◌≡◌, ◌≤◌, ◌<◌, ◌+◌, ◌*◌, ◌/◌, ◌^◌, true, [], ◌∷◌, IfSome, IsOk, length, map, take, drop};
-ghost use Rattle.std.specs.List.{AllByRecursion, list_all};
+ghost use Rattle.std.specs.Prelude.{◌≡◌, ◌≤◌, ◌<◌, ◌+◌, ◌*◌, ◌/◌, ◌^◌, true, [], ◌∷◌, IsOk, length, map, take, drop};
+ghost use Rattle.std.specs.List.{list_all};
 ghost use Rattle.its_io.specs.Bytes.{HasCause};
 ghost use Rattle.its_word.specs.Limits.{slots};
 ghost use Rattle.its_files.specs.Files.{entry_at, is_file, file_at as file_of, words_at};
 ghost use Rattle.its_print.specs.Printing.{Dir, Drained, Filed, Row, State, listed};
-ghost use Rattle.its_print.specs.Sizes.{Fits8, Fits32};
 ghost use Rattle.its_session.specs.Fits.{EventFits};
 ghost use Rattle.its_plain.specs.OperatorFiles.{files_in, file_shown, filed_line, listing, rows};
 ghost use Rattle.its_plain.specs.OperatorJobs.{examined, state_shown};
@@ -17,14 +16,10 @@ ghost use Rattle.its_verify.specs.Showing.{IsThere, drained_lines, lines_of, loa
 
 use super::outcome::Outcome;
 use super::transcript_reader::TranscriptReader;
-use arrayvec::ArrayVec;
 use its_direct::{Answer, Plain};
 use its_io::{Failed, Source};
-use its_print::{
-    print_dir, print_drained, print_file, print_listed, print_loaded, print_row, print_show,
-    print_state, print_typed, print_words,
-};
-use its_records::{Event, FileShow, JobShow};
+use its_print::Reply;
+use its_records::Event;
 use its_word::Word;
 
 /// How many words a line of SHOW has.
@@ -61,7 +56,7 @@ pub(crate) fn show_event<S: Source>(
 }
 
 /// LOAD shows the slot.
-#[tactic(auto, using(crate::proofs::ShowingLaws::loaded_short, crate::proofs::ShowingLaws::printed_says, crate::proofs::TranscriptReaderLaws::nothing_on))]
+#[tactic(auto, using(crate::proofs::ShowingLaws::reply_says, crate::proofs::TranscriptReaderLaws::nothing_on))]
 fn show_loaded<S: Source>(
     reader: &mut TranscriptReader,
     src: &mut S,
@@ -73,11 +68,7 @@ fn show_loaded<S: Source>(
     ensures cause { HasCause (S.faults src.old) (S.faults src.new) result }
 {
     match answer {
-        Answer::Slot(s) => {
-            let mut line = ArrayVec::new();
-            print_loaded(*s, &mut line);
-            reader.expect(src, &line)
-        }
+        Answer::Slot(s) => reader.expect(src, &Reply::Loaded { s: *s }),
         Answer::Nothing => Ok(None),
         Answer::Dropped(_) => Ok(None),
         Answer::Drained(_) => Ok(None),
@@ -85,7 +76,7 @@ fn show_loaded<S: Source>(
 }
 
 /// TYPE shows how many bytes were dropped.
-#[tactic(auto, using(crate::proofs::ShowingLaws::typed_short, crate::proofs::ShowingLaws::printed_says, crate::proofs::TranscriptReaderLaws::nothing_on))]
+#[tactic(auto, using(crate::proofs::ShowingLaws::reply_says, crate::proofs::TranscriptReaderLaws::nothing_on))]
 fn show_typed<S: Source>(
     reader: &mut TranscriptReader,
     src: &mut S,
@@ -98,11 +89,7 @@ fn show_typed<S: Source>(
     ensures cause { HasCause (S.faults src.old) (S.faults src.new) result }
 {
     match answer {
-        Answer::Dropped(n) => {
-            let mut line = ArrayVec::new();
-            print_typed(c, *n, &mut line);
-            reader.expect(src, &line)
-        }
+        Answer::Dropped(n) => reader.expect(src, &Reply::Typed { c, dropped: *n }),
         Answer::Nothing => Ok(None),
         Answer::Slot(_) => Ok(None),
         Answer::Drained(_) => Ok(None),
@@ -110,7 +97,7 @@ fn show_typed<S: Source>(
 }
 
 /// DRAIN shows the bytes.
-#[tactic(auto, using(crate::proofs::TranscriptReaderLaws::nothing_on))]
+#[tactic(auto, using(crate::proofs::ShowingLaws::reply_says, crate::proofs::TranscriptReaderLaws::nothing_on))]
 fn show_drained<S: Source>(
     reader: &mut TranscriptReader,
     src: &mut S,
@@ -123,45 +110,18 @@ fn show_drained<S: Source>(
     ensures cause { HasCause (S.faults src.old) (S.faults src.new) result }
 {
     match answer {
-        Answer::Drained(bytes) => show_bytes(reader, src, c, bytes.as_slice()),
+        Answer::Drained(bytes) => {
+            let bytes = bytes.as_slice();
+            reader.expect(src, &Reply::Drained { c, bytes })
+        }
         Answer::Nothing => Ok(None),
         Answer::Slot(_) => Ok(None),
         Answer::Dropped(_) => Ok(None),
     }
 }
 
-/// The line of some bytes.
-#[tactic(auto, using(crate::proofs::ShowingLaws::drained_short, crate::proofs::ShowingLaws::printed_says))]
-fn show_bytes<S: Source>(
-    reader: &mut TranscriptReader,
-    src: &mut S,
-    c: u8,
-    bytes: &[u8],
-) -> Result<Option<Outcome>, Failed>
-    requires few { length bytes.now ≤ 64 }
-    requires at_line { AtLine reader.old (S.left src.old) }
-    ensures says { (next : Ruling) → Says result reader.old reader.new (S.left src.old) (S.left src.new) (expects (Drained c bytes.now ∷ []) next) next }
-    ensures stays { Stays result reader.new (S.left src.new) }
-    ensures cause { HasCause (S.faults src.old) (S.faults src.new) result }
-{
-    eight_bits(bytes);
-    let mut line = ArrayVec::new();
-    print_drained(c, bytes, &mut line);
-    reader.expect(src, &line)
-}
-
-/// Each of some bytes has eight bits.
-#[tactic(auto, using(crate::proofs::ShowingLaws::bits_start, crate::proofs::ShowingLaws::bits_next, crate::proofs::ShowingLaws::bits_end))]
-fn eight_bits(bytes: &[u8])
-    ensures { AllByRecursion Fits8 bytes.now }
-{
-    for b in bytes {
-        let _b = *b;
-    }
-}
-
 /// EXAM shows words in one line.
-#[tactic(auto, using(crate::proofs::ShowingLaws::words_say))]
+#[tactic(auto, using(crate::proofs::ShowingLaws::reply_says, crate::proofs::ShowingLaws::words_say))]
 fn show_words<S: Source>(
     reader: &mut TranscriptReader,
     src: &mut S,
@@ -182,27 +142,8 @@ fn show_words<S: Source>(
     let Ok(words) = plain.words(s, a, n) else {
         unreachable!()
     };
-    show_line(reader, src, s, a, words.as_slice())
-}
-
-/// The line of some words, which are in a slot from an address on.
-#[tactic(auto, using(crate::proofs::ShowingLaws::words_short, crate::proofs::ShowingLaws::printed_says))]
-fn show_line<S: Source>(
-    reader: &mut TranscriptReader,
-    src: &mut S,
-    s: u8,
-    a: u32,
-    words: &[Word],
-) -> Result<Option<Outcome>, Failed>
-    requires few { length words.now ≤ 8 }
-    requires at_line { AtLine reader.old (S.left src.old) }
-    ensures says { (next : Ruling) → Says result reader.old reader.new (S.left src.old) (S.left src.new) (expects (in_a_line s a words.now) next) next }
-    ensures stays { Stays result reader.new (S.left src.new) }
-    ensures cause { HasCause (S.faults src.old) (S.faults src.new) result }
-{
-    let mut line = ArrayVec::new();
-    print_words(s, a, words, &mut line);
-    reader.expect(src, &line)
+    let words = words.as_slice();
+    reader.expect(src, &Reply::Words { s, a, words })
 }
 
 /// LIST shows words typed out, each in a line of its own.
@@ -248,7 +189,12 @@ fn list_each<S: Source>(
 {
     let mut place = a;
     for w in words {
-        if let Some(outcome) = list_word(reader, src, s, place, *w)? {
+        let word = Reply::Listed {
+            s,
+            a: place,
+            word: *w,
+        };
+        if let Some(outcome) = reader.expect(src, &word)? {
             return Ok(Some(outcome));
         }
         place += 1;
@@ -256,27 +202,8 @@ fn list_each<S: Source>(
     Ok(None)
 }
 
-/// One of them.
-#[tactic(auto, using(crate::proofs::ShowingLaws::listed_short, crate::proofs::ShowingLaws::printed_says))]
-fn list_word<S: Source>(
-    reader: &mut TranscriptReader,
-    src: &mut S,
-    s: u8,
-    a: u32,
-    word: Word,
-) -> Result<Option<Outcome>, Failed>
-    requires at_line { AtLine reader.old (S.left src.old) }
-    ensures says { (next : Ruling) → Says result reader.old reader.new (S.left src.old) (S.left src.new) (expects (listed s a (word ∷ [])) next) next }
-    ensures stays { Stays result reader.new (S.left src.new) }
-    ensures cause { HasCause (S.faults src.old) (S.faults src.new) result }
-{
-    let mut line = ArrayVec::new();
-    print_listed(s, a, word, &mut line);
-    reader.expect(src, &line)
-}
-
 /// STATE shows a job.
-#[tactic(auto, using(crate::proofs::ShowingLaws::printed_short, crate::proofs::ShowingLaws::state_says))]
+#[tactic(auto, using(crate::proofs::ShowingLaws::reply_says, crate::proofs::ShowingLaws::state_says))]
 fn show_state<S: Source>(
     reader: &mut TranscriptReader,
     src: &mut S,
@@ -291,37 +218,14 @@ fn show_state<S: Source>(
     ensures cause { HasCause (S.faults src.old) (S.faults src.new) result }
 {
     match plain.shown(s) {
-        Ok(show) => show_job(reader, src, plain.version, s, &show),
+        Ok(show) => {
+            let version = plain.version;
+            let show = &show;
+            reader.expect(src, &Reply::State { version, s, show })
+        }
         Err(_) => unreachable!(),
     }
 }
-
-/// The line of a job.
-#[tactic(auto, using(crate::proofs::ShowingLaws::state_short, crate::proofs::ShowingLaws::printed_says))]
-fn show_job<S: Source>(
-    reader: &mut TranscriptReader,
-    src: &mut S,
-    version: u8,
-    s: u8,
-    show: &JobShow,
-) -> Result<Option<Outcome>, Failed>
-    requires at_line { AtLine reader.old (S.left src.old) }
-    ensures says { (next : Ruling) → Says result reader.old reader.new (S.left src.old) (S.left src.new) (expects (State version s show.now ∷ []) next) next }
-    ensures stays { Stays result reader.new (S.left src.new) }
-    ensures cause { HasCause (S.faults src.old) (S.faults src.new) result }
-{
-    few_bits(*show);
-    let mut line = ArrayVec::new();
-    print_state(s, show, version, &mut line);
-    reader.expect(src, &line)
-}
-
-/// The numbers of a job that is shown have few bits.
-fn few_bits(show: JobShow)
-    ensures superior { IfSome show.sup Fits8 }
-    ensures console { IfSome show.con Fits8 }
-    ensures symbol { IfSome show.symbol (λ x. Fits32 x.1) }
-{}
 
 /// DIR shows how many files a directory has, and each of them.
 fn show_files<S: Source>(
@@ -336,28 +240,11 @@ fn show_files<S: Source>(
     ensures cause { HasCause (S.faults src.old) (S.faults src.new) result }
 {
     let ids = plain.listed(d);
-    if let Some(outcome) = show_count(reader, src, d, ids.len() as u32)? {
+    let n = ids.len() as u32;
+    if let Some(outcome) = reader.expect(src, &Reply::Dir { d, n })? {
         return Ok(Some(outcome));
     }
     show_each(reader, src, plain, ids.as_slice())
-}
-
-/// The line of a directory.
-#[tactic(auto, using(crate::proofs::ShowingLaws::dir_short, crate::proofs::ShowingLaws::printed_says))]
-fn show_count<S: Source>(
-    reader: &mut TranscriptReader,
-    src: &mut S,
-    d: Word,
-    count: u32,
-) -> Result<Option<Outcome>, Failed>
-    requires at_line { AtLine reader.old (S.left src.old) }
-    ensures says { (next : Ruling) → Says result reader.old reader.new (S.left src.old) (S.left src.new) (expects (Dir d count ∷ []) next) next }
-    ensures stays { Stays result reader.new (S.left src.new) }
-    ensures cause { HasCause (S.faults src.old) (S.faults src.new) result }
-{
-    let mut line = ArrayVec::new();
-    print_dir(d, count, &mut line);
-    reader.expect(src, &line)
 }
 
 /// A line for each of some files.
@@ -383,7 +270,7 @@ fn show_each<S: Source>(
 }
 
 /// The line of a file.
-#[tactic(auto, using(crate::proofs::ShowingLaws::filed_says))]
+#[tactic(auto, using(crate::proofs::ShowingLaws::reply_says, crate::proofs::ShowingLaws::filed_says))]
 fn show_entry<S: Source>(
     reader: &mut TranscriptReader,
     src: &mut S,
@@ -397,24 +284,7 @@ fn show_entry<S: Source>(
     ensures cause { HasCause (S.faults src.old) (S.faults src.new) result }
 {
     let show = plain.show(id);
-    show_filed(reader, src, show)
-}
-
-/// The line of a file of which this is shown.
-#[tactic(auto, using(crate::proofs::ShowingLaws::filed_short, crate::proofs::ShowingLaws::printed_says))]
-fn show_filed<S: Source>(
-    reader: &mut TranscriptReader,
-    src: &mut S,
-    show: FileShow,
-) -> Result<Option<Outcome>, Failed>
-    requires at_line { AtLine reader.old (S.left src.old) }
-    ensures says { (next : Ruling) → Says result reader.old reader.new (S.left src.old) (S.left src.new) (expects (Filed show ∷ []) next) next }
-    ensures stays { Stays result reader.new (S.left src.new) }
-    ensures cause { HasCause (S.faults src.old) (S.faults src.new) result }
-{
-    let mut line = ArrayVec::new();
-    print_file(&show, &mut line);
-    reader.expect(src, &line)
+    reader.expect(src, &Reply::Filed { show: &show })
 }
 
 /// SHOW shows how many words a file has, and the words.
@@ -459,7 +329,7 @@ fn show_text<S: Source>(
 }
 
 /// The line of the names of a file and of how many words it has.
-#[tactic(auto, using(crate::proofs::ShowingLaws::names_short, crate::proofs::ShowingLaws::printed_says))]
+#[tactic(auto, using(crate::proofs::ShowingLaws::reply_says))]
 fn show_names<S: Source>(
     reader: &mut TranscriptReader,
     src: &mut S,
@@ -472,9 +342,8 @@ fn show_names<S: Source>(
     ensures cause { HasCause (S.faults src.old) (S.faults src.new) result }
 {
     let [d, x, y] = names;
-    let mut line = ArrayVec::new();
-    print_show(d, x, y, count, &mut line);
-    reader.expect(src, &line)
+    let k = count;
+    reader.expect(src, &Reply::Shown { d, x, y, k })
 }
 
 /// The words of a file, eight in a line.
@@ -509,7 +378,7 @@ fn row_count(words: u32) -> u32
 }
 
 /// One of these lines.
-#[tactic(auto, using(crate::proofs::ShowingLaws::row_says))]
+#[tactic(auto, using(crate::proofs::ShowingLaws::reply_says, crate::proofs::ShowingLaws::row_says))]
 fn show_row<S: Source>(
     reader: &mut TranscriptReader,
     src: &mut S,
@@ -524,23 +393,6 @@ fn show_row<S: Source>(
     ensures cause { HasCause (S.faults src.old) (S.faults src.new) result }
 {
     let words = plain.row(id, k);
-    show_some(reader, src, words.as_slice())
-}
-
-/// The line of some words.
-#[tactic(auto, using(crate::proofs::ShowingLaws::row_short, crate::proofs::ShowingLaws::printed_says))]
-fn show_some<S: Source>(
-    reader: &mut TranscriptReader,
-    src: &mut S,
-    words: &[Word],
-) -> Result<Option<Outcome>, Failed>
-    requires few { length words.now ≤ 8 }
-    requires at_line { AtLine reader.old (S.left src.old) }
-    ensures says { (next : Ruling) → Says result reader.old reader.new (S.left src.old) (S.left src.new) (expects (Row words.now ∷ []) next) next }
-    ensures stays { Stays result reader.new (S.left src.new) }
-    ensures cause { HasCause (S.faults src.old) (S.faults src.new) result }
-{
-    let mut line = ArrayVec::new();
-    print_row(words, &mut line);
-    reader.expect(src, &line)
+    let words = words.as_slice();
+    reader.expect(src, &Reply::Row { words })
 }

@@ -1,11 +1,13 @@
 //! The letters of a `T` line, read from its text.
-ghost use Rattle.std.specs.Prelude.{◌≡◌, ◌≢◌, ◌≤◌, ◌+◌, ◌++◌, None, Some, IfNone, IfSome, length, replicate};
+ghost use Rattle.std.specs.Prelude.{◌≡◌, ◌≢◌, ◌≤◌, ◌+◌, ◌++◌, None, Some, IfNone, IfSome, bytes_eq, length, replicate};
 ghost use Rattle.arrayvec.specs.ArrayVec.{array_vec_len};
+ghost use Rattle.its_print.specs.Printing.{Ticks, text_of_line};
+ghost use Rattle.its_print.specs.Replies.{FewParts, line_of};
 ghost use Rattle.its_print.specs.Runs.{paces_in};
 ghost use Rattle.its_verify.specs.Letters.{counted, letter_at, paces_from, ticks_in};
 
 use arrayvec::ArrayVec;
-use its_print::{Run, print_ticks};
+use its_print::{Reply, Run, print_reply};
 use its_records::Pace;
 
 /// The runs of letters in a line, which has its LF, for `count` ticks of slot `slot`, of which there are at most 512; None if it is not
@@ -17,13 +19,29 @@ pub fn read_ticks(line: &[u8], slot: u8, count: u32) -> Option<ArrayVec<Run, 512
     ensures none { IfNone result (ticks_in slot count line.now ≡ None) }
 {
     let runs = read_runs(line, count)?;
-    let mut text = ArrayVec::new();
-    print_ticks(slot, &runs, &mut text);
-    if text.as_slice() == line {
+    if is_line_of(line, slot, &runs) {
         Some(runs)
     } else {
         None
     }
+}
+
+/// Whether a line is the `T` line of a slot with these runs.
+fn is_line_of<const N: usize>(line: &[u8], slot: u8, runs: &ArrayVec<Run, N>) -> bool
+    requires few { length (paces_in runs.now.items) ≤ 512 }
+    ensures { result ≡ bytes_eq line.now (text_of_line (Ticks slot (paces_in runs.now.items))) }
+{
+    is_text(line, &Reply::Ticks { s: slot, runs })
+}
+
+/// Whether a line is the text of a reply.
+fn is_text(line: &[u8], reply: &Reply) -> bool
+    requires few { FewParts reply.now }
+    ensures { result ≡ bytes_eq line.now (text_of_line (line_of reply.now)) }
+{
+    let mut text = ArrayVec::new();
+    print_reply(reply, &mut text);
+    line == text.as_slice()
 }
 
 /// The runs in a line, if they have so many letters.

@@ -1,13 +1,14 @@
 //! The reader of a transcript: its lines, one by one, and whether each is licensed.
 ghost use Rattle.std.specs.Prelude.{◌<◌, ◌≤◌, ◌∷◌, [], IfOk, length};
 ghost use Rattle.its_io.specs.Bytes.{HasCause};
-ghost use Rattle.its_print.specs.Printing.{Refused};
+ghost use Rattle.its_print.specs.Printing.{Refused, text_of_line};
+ghost use Rattle.its_print.specs.Replies.{FewParts, line_of};
 
 use super::outcome::Outcome;
 use super::peeks::is_peek;
 use arrayvec::ArrayVec;
 use its_io::{Failed, Source};
-use its_print::print_refusal;
+use its_print::{Reply, print_reply};
 use its_reader::{Next, Texts};
 use its_records::Reason;
 
@@ -54,8 +55,29 @@ impl TranscriptReader {
     }
 
     /// This line is next.
+    pub fn expect<S: Source>(
+        &mut self,
+        src: &mut S,
+        reply: &Reply,
+    ) -> Result<Option<Outcome>, Failed>
+        requires few { FewParts reply.now }
+        requires at_line { AtLine self.old (S.left src.old) }
+        ensures says { (next : Ruling) → Says result self.old self.new (S.left src.old) (S.left src.new) (led (same_as (text_of_line (line_of reply.now))) (λ t. next)) next }
+        ensures stays { Stays result self.new (S.left src.new) }
+        ensures cause { HasCause (S.faults src.old) (S.faults src.new) result }
+    {
+        let mut line = ArrayVec::new();
+        print_reply(reply, &mut line);
+        self.expect_text(src, &line)
+    }
+
+    /// A line with this text is next.
     #[tactic(auto, using(crate::proofs::TranscriptReaderLaws::same_lacks, crate::proofs::TranscriptReaderLaws::same_fails, crate::proofs::TranscriptReaderLaws::same_passed, crate::proofs::TranscriptReaderLaws::passed_stays))]
-    pub fn expect<S: Source>(&mut self, src: &mut S, line: &[u8]) -> Result<Option<Outcome>, Failed>
+    fn expect_text<S: Source>(
+        &mut self,
+        src: &mut S,
+        line: &[u8],
+    ) -> Result<Option<Outcome>, Failed>
         requires short { length line.now ≤ 1543 }
         requires at_line { AtLine self.old (S.left src.old) }
         ensures says { (next : Ruling) → Says result self.old self.new (S.left src.old) (S.left src.new) (led (same_as line.now) (λ t. next)) next }
@@ -102,7 +124,7 @@ impl TranscriptReader {
     }
 
     /// The `?` line of a line of the session with this number is next, and is the last one.
-    #[tactic(auto, using(crate::proofs::TranscriptReaderLaws::refusal_short, crate::proofs::TranscriptReaderLaws::refused_fails))]
+    #[tactic(auto, using(crate::proofs::TranscriptReaderLaws::refused_fails))]
     pub fn refused<S: Source>(
         &mut self,
         src: &mut S,
@@ -114,8 +136,7 @@ impl TranscriptReader {
         ensures out { IfOk result (λ f. ReadsOut f (S.left src.old) (S.left src.new)) }
         ensures cause { HasCause (S.faults src.old) (S.faults src.new) result }
     {
-        let mut line = ArrayVec::new();
-        print_refusal(number, reason, &mut line);
+        let line = Reply::Refused { n: number, reason };
         if let Some(outcome) = self.expect(src, &line)? {
             return Ok(outcome);
         }

@@ -4,9 +4,9 @@ use Rattle.its_print.specs.Printing.{job_fields, symbol_fields, text_of_line}
 use Rattle.its_print.proofs.LineLaws.{after_job}
 use Rattle.its_print.proofs.lines.print_state.Goals as goal
 
-pub returns : goal.returns
+pub returns-clause-text : goal.returns-clause-text
 unfolding text_of_line
-returns c =
+returns-clause-text c =
     let text = after_job (codes "S") (digits_of c.args.s) (job_fields c.args.show.now) (symbol_fields c.args.version c.args.show.now.symbol) in
     let first : c.push.new.self.items ≡ codes "S" = c.push.ensures.items ∙ ap (λ (t : List ℕ). t ++ 83 ∷ []) c.requires in
     c.push-2.ensures.items ∙ ap (λ t. t ++ 10 ∷ []) (

@@ -7,4 +7,4 @@ use Rattle.its_top.proofs.filing.print_files.Goals as goal
 pub returns-clause-told : goal.returns-clause-told
 returns-clause-told g c =
     tells_then _ _ _ _ _ _ _ (sym c.goes_on.ensures ∙ c.if-not-goes_on.false)
-    (told_as _ _ _ _ _ _ (c.print_dir.ensures ∙ ap (λ n. text_of_line (Dir c.args.d n)) c.requires.count) c.tell-flow.ensures.told) c.print_each_file.ensures.told
+    (told_as _ _ _ _ _ _ (ap (λ n. text_of_line (Dir c.args.d n)) c.requires.count) c.tell-flow.ensures.told) c.print_each_file.ensures.told

@@ -3,7 +3,7 @@ use Rattle.its_verify.specs.TranscriptReader.{ReadsOn}
 use Rattle.its_verify.specs.declared.outcome.Outcome.{Outcome}
 use Rattle.its_verify.proofs.TranscriptReaderLaws.{same_fails, same_passed}
 use Rattle.its_verify.proofs.ErrLaws.{err_says}
-use Rattle.its_verify.proofs.transcript_reader.TranscriptReader.expect.Goals as goal
+use Rattle.its_verify.proofs.transcript_reader.TranscriptReader.expect_text.Goals as goal
 
 pub returns-clause-says : goal.returns-clause-says
 returns-clause-says g c =

@@ -1,0 +1,75 @@
+use super::runs::Run;
+use its_records::{FileShow, JobShow, Peek, Reason};
+use its_word::Word;
+
+/// A line of a transcript. What takes more than a few words is lent.
+#[derive(Drop)]
+pub enum Reply<'a> {
+    /// LOAD made a job in a slot.
+    Loaded {
+        s: u8,
+    },
+    /// What the ticks of a slot did, 512 at most, as runs of equal letters.
+    Ticks {
+        s: u8,
+        runs: &'a [Run],
+    },
+    /// TYPE on a console, when some bytes found no room.
+    Typed {
+        c: u8,
+        dropped: u32,
+    },
+    /// The bytes that DRAIN took from a console, 64 at most.
+    Drained {
+        c: u8,
+        bytes: &'a [u8],
+    },
+    /// The words of a slot from an address on, 8 at most.
+    Words {
+        s: u8,
+        a: u32,
+        words: &'a [Word],
+    },
+    /// The word of a slot at an address, typed out.
+    Listed {
+        s: u8,
+        a: u32,
+        word: Word,
+    },
+    /// What STATE shows of a slot in a session of a version.
+    State {
+        version: u8,
+        s: u8,
+        show: &'a JobShow,
+    },
+    /// What PEEK shows of a slot.
+    Peeked {
+        s: u8,
+        peek: &'a Peek,
+    },
+    /// A directory has `n` files.
+    Dir {
+        d: Word,
+        n: u32,
+    },
+    /// One of these files.
+    Filed {
+        show: &'a FileShow,
+    },
+    /// The file of SHOW has `k` words.
+    Shown {
+        d: Word,
+        x: Word,
+        y: Word,
+        k: u32,
+    },
+    /// Some of its words, 8 at most.
+    Row {
+        words: &'a [Word],
+    },
+    /// Line `n` of the session, from 1, is refused.
+    Refused {
+        n: u32,
+        reason: Reason,
+    },
+}
