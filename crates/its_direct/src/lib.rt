@@ -36,12 +36,8 @@ mod series;
 mod settings;
 mod shown;
 mod sorting;
-#[cfg(test)]
-mod step_tests;
 mod stepping;
 mod steps;
-#[cfg(test)]
-mod tests;
 mod users;
 mod words;
 

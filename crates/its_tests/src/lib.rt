@@ -1,5 +1,5 @@
 //! Trials of the program as a user abuses it: calls that are disturbed at each of their ticks, sessions that are cut, objects
-//! that fail, and sessions at the limits. There are tests alone, which run beside those of `its_top`.
+//! that fail, and sessions at the limits. There are tests alone.
 #![tactic(auto)]
 
 #[cfg(test)]

@@ -22,8 +22,6 @@ mod room;
 mod run;
 mod shown;
 mod status;
-#[cfg(test)]
-mod tests;
 mod top;
 mod verifying;
 mod writing;

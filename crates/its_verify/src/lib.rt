@@ -24,8 +24,6 @@ mod keeping;
 mod outcome;
 mod peeks;
 mod showing;
-#[cfg(test)]
-mod tests;
 mod ticks;
 mod transcript_reader;
 mod verifier;

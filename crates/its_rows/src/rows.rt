@@ -5,11 +5,10 @@
 //! words that these statements of the assembler give; a statement that begins with a digit is a `WORD`.
 
 use super::images::IMAGES;
-use super::shows;
+use super::running::shows;
 use its_asm::statement;
 use its_word::Word;
 use std::alloc::Global;
-use std::process::Abort;
 use std::test::Fail;
 
 /// Appends a line to a text.
@@ -40,9 +39,9 @@ pub fn word(text: &mut String, digits: &str) -> Result<(), Fail> {
 
 /// Appends the end of a line of STATE from these words: whether the job runs, its PC word and its first pending word. The other
 /// registers are 0.
-pub fn registers(rt: &impl Abort, text: &mut String, told: &str) -> Result<(), Fail> {
-    let (runs, told) = told.split_once(" ").expect(rt, "RUN or STOP");
-    let (pc, pending) = told.split_once(" ").expect(rt, "a PC word");
+pub fn registers(text: &mut String, told: &str) -> Result<(), Fail> {
+    let (runs, told) = told.split_once(" ").ok_or("RUN or STOP")?;
+    let (pc, pending) = told.split_once(" ").ok_or("a PC word")?;
     text.push_str(runs)?;
     text.push(' ')?;
     word(text, pc)?;
@@ -52,28 +51,22 @@ pub fn registers(rt: &impl Abort, text: &mut String, told: &str) -> Result<(), F
 }
 
 /// The word of a statement.
-fn stated(alloc: Global, rt: &impl Abort, text: &str) -> Result<Word, Fail> {
+fn stated(alloc: Global, text: &str) -> Result<Word, Fail> {
     match statement(text.as_bytes()) {
         Some(word) => Ok(word),
         None => {
             let text = format!(in alloc; "WORD {text}")?;
-            Ok(statement(text.as_bytes()).expect(rt, "a statement"))
+            Ok(statement(text.as_bytes()).ok_or("a statement")?)
         }
     }
 }
 
 /// Appends the line of the words of these statements from an address on.
-fn assemble(
-    alloc: Global,
-    rt: &impl Abort,
-    session: &mut String,
-    at: &str,
-    statements: &str,
-) -> Result<(), Fail> {
+fn assemble(alloc: Global, session: &mut String, at: &str, statements: &str) -> Result<(), Fail> {
     session.push_str(at)?;
     session.push('/')?;
     for text in statements.split(" | ") {
-        let word = stated(alloc, rt, text)?;
+        let word = stated(alloc, text)?;
         let digits = format!(in alloc; " {:o}", word.value())?;
         session.push_str(&digits)?;
     }
@@ -84,7 +77,6 @@ fn assemble(
 /// Appends a line of a row to the session and to the transcript.
 fn read_line(
     alloc: Global,
-    rt: &impl Abort,
     text: &str,
     session: &mut String,
     shown: &mut String,
@@ -101,7 +93,7 @@ fn read_line(
             if text.starts_with(";") {
                 line(session, text)
             } else {
-                assemble(alloc, rt, session, at, statements)
+                assemble(alloc, session, at, statements)
             }
         }
         None => line(session, text),
@@ -109,37 +101,37 @@ fn read_line(
 }
 
 /// The lines of an image.
-fn image(alloc: Global, rt: &impl Abort, name: &str) -> Result<&'static str, Fail> {
+fn image(alloc: Global, name: &str) -> Result<&'static str, Fail> {
     let title = format!(in alloc; "!{name} ")?;
-    let (_, rest) = IMAGES.split_once(title.as_str()).expect(rt, "an image");
-    let (_, lines) = rest.split_once("\n").expect(rt, "lines");
+    let (_, rest) = IMAGES.split_once(title.as_str()).ok_or("an image")?;
+    let (_, lines) = rest.split_once("\n").ok_or("lines")?;
     let (lines, _) = lines.split_once("!").unwrap_or((lines, ""));
     Ok(lines)
 }
 
 /// The session of a row has its transcript.
-pub fn show_row(alloc: Global, rt: &impl Abort, row: &str) -> Result<(), Fail> {
+pub fn show_row(alloc: Global, row: &str) -> Result<(), Fail> {
     let mut session = String::new(alloc);
     let mut shown = String::new(alloc);
     for text in row.lines() {
         if let Some(name) = text.strip_prefix("!") {
-            for text in image(alloc, rt, name)?.lines() {
-                read_line(alloc, rt, text, &mut session, &mut shown)?;
+            for text in image(alloc, name)?.lines() {
+                read_line(alloc, text, &mut session, &mut shown)?;
             }
         } else {
-            read_line(alloc, rt, text, &mut session, &mut shown)?;
+            read_line(alloc, text, &mut session, &mut shown)?;
         }
     }
     if !row.ends_with("\n") {
         let _lf = session.pop();
     }
-    shows(alloc, rt, &session, &shown)
+    shows(alloc, &session, &shown)
 }
 
 /// The same for rows that are divided by `#`, each after a text that it begins with.
-pub fn compare(alloc: Global, rt: &impl Abort, before: &str, rows: &str) -> Result<(), Fail> {
+pub fn compare(alloc: Global, before: &str, rows: &str) -> Result<(), Fail> {
     for row in rows.split('#') {
-        show_row(alloc, rt, &format!(in alloc; "{before}{row}")?)?;
+        show_row(alloc, &format!(in alloc; "{before}{row}")?)?;
     }
     Ok(())
 }

@@ -1,7 +1,7 @@
 use Rattle.std.proofs.Common.{sym, subst, ℕ, [], ◌∷◌, refl}
 use Rattle.its_word.specs.Text.{is_name, sixbit_of}
 use Rattle.its_session.specs.Fits.{IsNameWord}
-use Rattle.its_direct.proofs.step_tests.steps.Goals as goal
+use Rattle.its_judge_tests.proofs.steps.steps.Goals as goal
 
 -- the name A
 named : IsNameWord 0o410000000000

@@ -1,9 +1,11 @@
+//! The plain machine in running form: whole steps of a job.
+
 ghost use Rattle.std.specs.Prelude.{◌≡◌};
 ghost use Rattle.its_session.specs.Events.{place_after};
 ghost use Rattle.its_session.specs.Fits.{EventFits};
 ghost use Rattle.its_direct.specs.Events.{IsTold, Kept, MayStand, spot_place};
 
-use super::Plain;
+use its_direct::Plain;
 use its_records::Event;
 use its_word::Word;
 use std::process::Abort;
@@ -37,7 +39,7 @@ fn tell(rt: &impl Abort, p: &mut Plain, event: &Event)
 
 /// A unit, a call that ends with an error, and one that waits: it is no step.
 #[test]
-#[tactic(auto, using(crate::proofs::ToldLaws::kept_starts))]
+#[tactic(auto, using(its_direct::proofs::ToldLaws::kept_starts))]
 fn steps(rt: HostRuntime) -> Result<(), Fail> {
     let mut p = Plain::open(rt.alloc())?;
     let name = Word::new(0o410000_000000);

@@ -1,6 +1,6 @@
 //! Jobs that wait, and what lets them go on.
 
-use super::rows::compare;
+use its_rows::compare;
 use std::test::Fail;
 
 static WAITS: &str =
@@ -118,5 +118,5 @@ TICK 1 5 = T 1 4. 1w
 
 #[test]
 fn waits(rt: HostRuntime) -> Result<(), Fail> {
-    compare(rt.alloc(), &rt, "", WAITS)
+    compare(rt.alloc(), "", WAITS)
 }

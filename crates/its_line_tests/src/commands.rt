@@ -1,7 +1,10 @@
 //! The commands of the program: which words are one, and what `check`, `gen`, `verify` and `asm` write.
 
-use super::super::Status;
-use super::{FIRST, tried};
+use super::lines::FIRST;
+use its_rows::{obey, times};
+use its_top::Status;
+use its_word::read_octal;
+use std::alloc::Global;
 use std::test::Fail;
 
 const USAGE: &str = "usage: its run | its check | its gen N | its verify | its asm\n";
@@ -119,7 +122,7 @@ GO 100
 #[test]
 fn no_commands(rt: HostRuntime) -> Result<(), Fail> {
     for words in NO_COMMANDS.split('\n') {
-        let got = tried(rt.alloc(), words, b"TICK 0 1\n", 512, (&[], &[]))?;
+        let got = obey(rt.alloc(), words, b"TICK 0 1\n", 512, (&[], &[]))?;
         assert_eq!(rt; got.wrote.as_slice(), USAGE.as_bytes(), "at {words}");
         assert_eq!(rt;
             (got.status, got.is_left),
@@ -130,16 +133,21 @@ fn no_commands(rt: HostRuntime) -> Result<(), Fail> {
     Ok(())
 }
 
+/// A session of a row.
+fn session_of(alloc: Global, text: &str) -> Result<String, Fail> {
+    let first = if text.starts_with("@") { FIRST } else { "" };
+    let rest = text.strip_prefix("@").unwrap_or(text);
+    Ok(format!(in alloc; "{first}{rest}")?)
+}
+
 #[test]
 fn commands(rt: HostRuntime) -> Result<(), Fail> {
     let alloc = rt.alloc();
     for row in COMMANDS.split('#') {
         let (words, rest) = row.split_once(" = ").expect(&rt, "a session");
         let (session, wanted) = rest.split_once("= ").expect(&rt, "what is written");
-        let first = if session.starts_with("@") { FIRST } else { "" };
-        let rest = session.strip_prefix("@").unwrap_or(session);
-        let session = format!(in alloc; "{first}{rest}")?;
-        let got = tried(alloc, words, session.as_bytes(), 512, (&[], &[]))?;
+        let session = session_of(alloc, session)?;
+        let got = obey(alloc, words, session.as_bytes(), 512, (&[], &[]))?;
         assert_eq!(rt; got.wrote.as_slice(), wanted.as_bytes(), "at {row}");
         let refused = wanted.contains('?') || wanted.starts_with("NO");
         assert_eq!(rt; got.status == Status::Refused, refused, "at {row}");
@@ -154,7 +162,7 @@ fn commands(rt: HostRuntime) -> Result<(), Fail> {
 fn texts(rt: HostRuntime) -> Result<(), Fail> {
     for row in TEXTS.split('%') {
         let (text, wanted) = row.split_once("=\n").expect(&rt, "what is written");
-        let got = tried(rt.alloc(), " asm", text.as_bytes(), 512, (&[], &[]))?;
+        let got = obey(rt.alloc(), " asm", text.as_bytes(), 512, (&[], &[]))?;
         assert_eq!(rt; got.wrote.as_slice(), wanted.as_bytes(), "at {row}");
         let refused = wanted.starts_with("?");
         assert_eq!(rt; got.status == Status::Refused, refused, "at {row}");
@@ -163,28 +171,37 @@ fn texts(rt: HostRuntime) -> Result<(), Fail> {
     Ok(())
 }
 
-/// A transcript's line of PEEK may have 1543 bytes before its LF; and a session's line of 256 bytes is too long.
+/// How many bytes are put between the beginning of a line and its LF, what `verify` writes, and the input up to that line's beginning. A
+/// transcript's line of PEEK may have 1543 bytes before its LF; and a session's line of 256 bytes is too long.
+static LONGEST: &str = "3005 = YES 2
+= LOAD U J -
+GO 100
+PEEK 0
+END
+J 0
+P #3006 = NO 2
+= LOAD U J -
+GO 100
+PEEK 0
+END
+J 0
+P #376 = ? 3 CUT
+= TICK 0 1
+;#377 = ? 2 LONG
+= TICK 0 1
+;";
+
 #[test]
 fn long_lines(rt: HostRuntime) -> Result<(), Fail> {
     let alloc = rt.alloc();
-    for (before, count, answer) in [
-        (
-            "LOAD U J -\nGO 100\nPEEK 0\nEND\nJ 0\nP ",
-            1541u32,
-            "YES 2\n",
-        ),
-        ("LOAD U J -\nGO 100\nPEEK 0\nEND\nJ 0\nP ", 1542, "NO 2\n"),
-        ("TICK 0 1\n;", 254, "? 3 CUT\n"),
-        ("TICK 0 1\n;", 255, "? 2 LONG\n"),
-    ] {
+    for row in LONGEST.split('#') {
+        let (count, rest) = row.split_once(" = ").ok_or("what is written")?;
+        let (wanted, before) = rest.split_once("= ").ok_or("a line")?;
         let mut input = String::new(alloc);
-        input.push_str(before)?;
-        for _ in 0..count {
-            input.push('x')?;
-        }
-        input.push('\n')?;
-        let got = tried(alloc, " verify", input.as_bytes(), 512, (&[], &[]))?;
-        assert_eq!(rt; got.wrote.as_slice(), answer.as_bytes(), "at {count}");
+        let count = read_octal(count.as_bytes())?.right();
+        times(&mut input, before, "x", count, "\n")?;
+        let got = obey(alloc, " verify", input.as_bytes(), 512, (&[], &[]))?;
+        assert_eq!(rt; got.wrote.as_slice(), wanted.as_bytes(), "at {row}");
     }
     Ok(())
 }
@@ -193,61 +210,48 @@ fn long_lines(rt: HostRuntime) -> Result<(), Fail> {
 #[test]
 fn longest(rt: HostRuntime) -> Result<(), Fail> {
     let alloc = rt.alloc();
-    let first = tried(alloc, " gen 10000", b"END", 512, (&[], &[]))?;
-    let second = tried(alloc, " gen 10000", b"END", 512, (&[], &[]))?;
+    let first = obey(alloc, " gen 10000", b"END", 512, (&[], &[]))?;
+    let second = obey(alloc, " gen 10000", b"END", 512, (&[], &[]))?;
     assert_eq!(rt; (first.status, second.status), (Status::Done, Status::Done));
     assert_eq!(rt; first.wrote.as_slice(), second.wrote.as_slice());
     assert!(rt; first.wrote.starts_with(b"LINES 325"));
     Ok(())
 }
 
-/// A sink that fails at each of its calls in turn, and a source that fails.
+/// Words, the call of the source that fails, that of the sink, the answer, a session and what is written: a sink that fails at each of its
+/// calls in turn, and a source that fails. `@` is the first session.
+static FAULTS: &str =
+    " gen 1 = 0 = 0 = WriteFault = END= # gen 1 = 0 = 1 = WriteFault = END= LINES 134
+# gen 1 = 0 = 2 = WriteFault = END= LINES 134
+STEPS 50
+# check = 2 = - = ReadFault = @= # check = - = 0 = WriteFault = @= # verify = 2 = - = ReadFault = @= # verify = 1 = - = Refused = END
+x= NO 1
+# verify = - = 0 = WriteFault = @= ";
+
+/// The number of a call that fails; if none does, one that is never made.
+fn failing(text: &str) -> Result<u64, Fail> {
+    if text == "-" {
+        Ok(u64::MAX)
+    } else {
+        Ok(read_octal(text.as_bytes())?.value())
+    }
+}
+
 #[test]
 fn faults(rt: HostRuntime) -> Result<(), Fail> {
-    let first = FIRST.as_bytes();
-    for (words, session, fails, wanted, status) in [
-        (
-            " gen 1",
-            &b"END"[..],
-            (&[0][..], &[0][..]),
-            "",
-            Status::WriteFault,
-        ),
-        (
-            " gen 1",
-            &b"END"[..],
-            (&[0][..], &[1][..]),
-            "LINES 134\n",
-            Status::WriteFault,
-        ),
-        (
-            " gen 1",
-            &b"END"[..],
-            (&[0][..], &[2][..]),
-            "LINES 134\nSTEPS 50\n",
-            Status::WriteFault,
-        ),
-        (" check", first, (&[2][..], &[][..]), "", Status::ReadFault),
-        (" check", first, (&[][..], &[0][..]), "", Status::WriteFault),
-        (" verify", first, (&[2][..], &[][..]), "", Status::ReadFault),
-        (
-            " verify",
-            &b"END\nx"[..],
-            (&[1][..], &[][..]),
-            "NO 1\n",
-            Status::Refused,
-        ),
-        (
-            " verify",
-            first,
-            (&[][..], &[0][..]),
-            "",
-            Status::WriteFault,
-        ),
-    ] {
-        let got = tried(rt.alloc(), words, session, 16, fails)?;
-        assert_eq!(rt; got.wrote.as_slice(), wanted.as_bytes(), "at {words}");
-        assert_eq!(rt; got.status, status, "at {words}");
+    let alloc = rt.alloc();
+    for row in FAULTS.split('#') {
+        let (words, rest) = row.split_once(" = ").ok_or("a read")?;
+        let (read, rest) = rest.split_once(" = ").ok_or("a write")?;
+        let (write, rest) = rest.split_once(" = ").ok_or("an answer")?;
+        let (answer, rest) = rest.split_once(" = ").ok_or("a session")?;
+        let (session, wanted) = rest.split_once("= ").ok_or("what is written")?;
+        let session = session_of(alloc, session)?;
+        let fails = (&[failing(read)?][..], &[failing(write)?][..]);
+        let got = obey(alloc, words, session.as_bytes(), 16, fails)?;
+        let status = format!(in alloc; "{:?}", got.status)?;
+        assert_eq!(rt; got.wrote.as_slice(), wanted.as_bytes(), "at {row}");
+        assert_eq!(rt; status.as_str(), answer, "at {row}");
     }
     Ok(())
 }

@@ -1,8 +1,7 @@
 //! Sessions of both versions of the session text: how many jobs there can be, read-only pages, symbols and LIST.
 
-use super::rows::{compare, line, show_row};
+use its_rows::{compare, line, show_row};
 use std::alloc::Global;
-use std::process::Abort;
 use std::test::Fail;
 
 static VERSIONS: &str = "VERSION 2
@@ -131,7 +130,7 @@ PEEK 0 = P 0 USER - 0 - - -
 ";
 
 /// 96 jobs that are all in HANG, and one more.
-fn many_jobs(alloc: Global, rt: &impl Abort) -> Result<(), Fail> {
+fn many_jobs(alloc: Global) -> Result<(), Fail> {
     let mut row = "VERSION 2\n".to_string(alloc)?;
     for k in 0..96u32 {
         let job = format!(in alloc; "LOAD U J - = J {k:o}\n!HANGS\nTICK {k:o} 5 = T {k:o} 4. 1w")?;
@@ -139,11 +138,11 @@ fn many_jobs(alloc: Global, rt: &impl Abort) -> Result<(), Fail> {
     }
     row.push_str("PEEK 0 = P 0 WAITING 504156470000 1 - - -\n")?;
     row.push_str("PEEK 137 = P 137 WAITING 504156470000 1 - - -\nLOAD U J - = ? 604 FULL\n")?;
-    show_row(alloc, rt, &row)
+    show_row(alloc, &row)
 }
 
 /// 512 symbols of a job, of which the one at 177 is the nearest to the PC, and one more.
-fn many_symbols(alloc: Global, rt: &impl Abort) -> Result<(), Fail> {
+fn many_symbols(alloc: Global) -> Result<(), Fail> {
     let mut row = "VERSION 2\nLOAD U J - = J 0\n".to_string(alloc)?;
     for k in 0..512u32 {
         line(&mut row, &format!(in alloc; "SYM S{k:o} {k:o}")?)?;
@@ -152,12 +151,12 @@ fn many_symbols(alloc: Global, rt: &impl Abort) -> Result<(), Fail> {
     row.push_str(
         "GO 177\nSTATE 0 = S 0 650000000000 520000000000 - - RUN 010000000177 000000000000 000000000000 000000000000 000000000000 000000000000 000000000000 632127270000 0\n",
     )?;
-    show_row(alloc, rt, &row)?;
-    show_row(alloc, rt, &full)
+    show_row(alloc, &row)?;
+    show_row(alloc, &full)
 }
 
 /// 96 jobs that have 1023 pages: the CORBLK of the last one makes the last of all pages, and that of another fails with error 15.
-fn many_pages(alloc: Global, rt: &impl Abort) -> Result<(), Fail> {
+fn many_pages(alloc: Global) -> Result<(), Fail> {
     let mut row = "VERSION 2\n".to_string(alloc)?;
     for k in 0..96u32 {
         line(
@@ -173,13 +172,13 @@ fn many_pages(alloc: Global, rt: &impl Abort) -> Result<(), Fail> {
     }
     row.push_str("TICK 137 12 = T 137 10. 1* 1.\nEXAM 137 776000 1 = E 137 776000 000000000000\n")?;
     row.push_str("TICK 136 14 = T 136 10. 1* 3.\nEXAM 136 10 1 = E 136 000010 000000000015\n")?;
-    show_row(alloc, rt, &row)
+    show_row(alloc, &row)
 }
 
 #[test]
 fn versions(rt: HostRuntime) -> Result<(), Fail> {
-    compare(rt.alloc(), &rt, "", VERSIONS)?;
-    many_jobs(rt.alloc(), &rt)?;
-    many_symbols(rt.alloc(), &rt)?;
-    many_pages(rt.alloc(), &rt)
+    compare(rt.alloc(), "", VERSIONS)?;
+    many_jobs(rt.alloc())?;
+    many_symbols(rt.alloc())?;
+    many_pages(rt.alloc())
 }

@@ -1,7 +1,7 @@
 //! Sessions on files, with their transcripts.
 
-use super::rows::{compare, line, show_row, times};
 use super::targets::compare_calls;
+use its_rows::{compare, line, show_row, times};
 use std::test::Fail;
 
 static FILES: &str =
@@ -569,7 +569,7 @@ LOAD U X 0 = J 0
 #[test]
 fn errors(rt: HostRuntime) -> Result<(), Fail> {
     let started = "GO 100\nTICK 0 23 = T 0 4. 1* 5. 1* 5. 1* 1. 1*\n";
-    compare_calls(rt.alloc(), &rt, BEFORE_ERRORS, started, ERRORS)
+    compare_calls(rt.alloc(), BEFORE_ERRORS, started, ERRORS)
 }
 
 /// Calls that a second job executes while the first one has all four steps of a CLOSE pending: the instruction, what it finds after it,
@@ -648,12 +648,12 @@ fn helpers(rt: HostRuntime) -> Result<(), Fail> {
         )?;
         slot = slot.wrapping_add(1);
     }
-    show_row(alloc, &rt, &session)
+    show_row(alloc, &session)
 }
 
 #[test]
 fn files(rt: HostRuntime) -> Result<(), Fail> {
-    compare(rt.alloc(), &rt, "", FILES)
+    compare(rt.alloc(), "", FILES)
 }
 
 /// A job that writes a draft of one word and closes it, again and again. If CLOSE fails it deletes a file, and tries it again.
@@ -688,7 +688,7 @@ fn full_directory(rt: HostRuntime) -> Result<(), Fail> {
         line(&mut row, &format!(in alloc; "FILE A F{k:o} A\nEOF")?)?;
     }
     row.push_str(LAST)?;
-    show_row(alloc, &rt, &row)
+    show_row(alloc, &row)
 }
 
 /// A job that writes a word to a draft by SIOT, and then by `.IOT`.
@@ -717,5 +717,5 @@ fn full_blocks(rt: HostRuntime) -> Result<(), Fail> {
     let words = "/ 0 0 0 0 0 0 0 0 0 0 0 0 0 0 0 0\n";
     times(&mut row, "FILE D A B\n", words, 16384, "EOF\n")?;
     row.push_str(MORE)?;
-    show_row(alloc, &rt, &row)
+    show_row(alloc, &row)
 }

@@ -1,8 +1,10 @@
+//! The plain machine in running form: the lines of the operator, and the beginnings of steps.
+
 ghost use Rattle.its_word.specs.Limits.{slots};
 ghost use Rattle.its_direct.specs.Plain.{Tidy};
 ghost use Rattle.std.specs.Prelude.{◌<◌};
 
-use super::{Begun, Plain, Spot};
+use its_direct::{Begun, Plain, Spot};
 use its_machine::{MOST_SYMBOLS, SymbolTable};
 use its_records::{Event, Refusal};
 use its_word::{ILO, Word};
@@ -133,7 +135,7 @@ fn lines_and_steps(rt: HostRuntime) -> Result<(), Fail> {
 
 /// A file is made, gains words, and is listed and shown; the clock does not reach its end.
 #[test]
-#[tactic(auto, using(crate::proofs::ToldLaws::alarmed_open))]
+#[tactic(auto, using(its_direct::proofs::ToldLaws::alarmed_open))]
 fn files_and_clock(rt: HostRuntime) -> Result<(), Fail> {
     let mut p = Plain::open(rt.alloc())?;
     let (d, x, y) = (Word::new(1), Word::new(2), Word::new(3));
@@ -164,7 +166,7 @@ fn files_and_clock(rt: HostRuntime) -> Result<(), Fail> {
 
 /// An event is a line of the operator.
 #[test]
-#[tactic(auto, using(crate::proofs::ToldLaws::kept_starts))]
+#[tactic(auto, using(its_direct::proofs::ToldLaws::kept_starts))]
 fn events(rt: HostRuntime) -> Result<(), Fail> {
     let mut p = Plain::open(rt.alloc())?;
     assert_eq!(&rt; p.event(&Event::Clock { n: 5 }).is_ok(), true);

@@ -1,9 +1,8 @@
 //! The results of calls on inferiors, and whom they disturb.
 
 use super::inferiors::MAKER;
-use super::rows::{line, registers, show_row, word};
+use its_rows::{line, registers, show_row, word};
 use std::alloc::Global;
-use std::process::Abort;
 use std::test::Fail;
 
 /// Calls that a job makes one after another, and how each ends. `fails` is followed by the error number, `gives` by the
@@ -180,13 +179,7 @@ fn ending(kind: &str) -> (&str, &str) {
 }
 
 /// A job executes the calls of these rows one after another, after a session's start, and each ends as its row says.
-pub fn compare_calls(
-    alloc: Global,
-    rt: &impl Abort,
-    before: &str,
-    started: &str,
-    rows: &str,
-) -> Result<(), Fail> {
+pub fn compare_calls(alloc: Global, before: &str, started: &str, rows: &str) -> Result<(), Fail> {
     let mut row = before.to_string(alloc)?;
     let mut ticks = String::new(alloc);
     let mut k = 0u32;
@@ -212,17 +205,17 @@ pub fn compare_calls(
     let end = 0o1000u32.wrapping_add(k.wrapping_mul(3));
     let end = format!(in alloc; "{end:o}: .CALL 2000\n{started}{ticks}")?;
     row.push_str(&end)?;
-    show_row(alloc, rt, &row)
+    show_row(alloc, &row)
 }
 
 /// The same in a session with an inferior.
-pub fn compare_ends(alloc: Global, rt: &impl Abort, rows: &str) -> Result<(), Fail> {
-    compare_calls(alloc, rt, CALLER, STARTED, rows)
+pub fn compare_ends(alloc: Global, rows: &str) -> Result<(), Fail> {
+    compare_calls(alloc, CALLER, STARTED, rows)
 }
 
 #[test]
 fn ends(rt: HostRuntime) -> Result<(), Fail> {
-    compare_ends(rt.alloc(), &rt, ANSWERS)
+    compare_ends(rt.alloc(), ANSWERS)
 }
 
 /// `.IOT` and SIOT on an inferior, whose page 0 is zeros: the position, the words of pointer and count, and the instruction;
@@ -291,8 +284,8 @@ fn transfers(rt: HostRuntime) -> Result<(), Fail> {
             word(&mut row, words.next().expect(&rt, "a word"))?;
         }
         row.push_str("\nSTATE 0 = S 0 650000000000 700000000000 - 0 ")?;
-        registers(&rt, &mut row, told)?;
-        show_row(alloc, &rt, &row)?;
+        registers(&mut row, told)?;
+        show_row(alloc, &row)?;
     }
     Ok(())
 }

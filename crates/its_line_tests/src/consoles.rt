@@ -1,6 +1,6 @@
 //! Sessions of jobs that use consoles, with their transcripts.
 
-use super::rows::compare;
+use its_rows::compare;
 use std::test::Fail;
 
 /// In each job 140 holds the name TTY, and if an OPEN fails the job reaches a 0, which stops it.
@@ -297,5 +297,5 @@ STATE 0 = S 0 650000000000 700000000000 - 0 STOP 010000000102 000000000004 00000
 
 #[test]
 fn consoles(rt: HostRuntime) -> Result<(), Fail> {
-    compare(rt.alloc(), &rt, "", CONSOLES)
+    compare(rt.alloc(), "", CONSOLES)
 }

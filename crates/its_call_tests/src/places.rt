@@ -1,7 +1,7 @@
 //! Jobs that a superior disturbs at each place inside a call, those that it does not, and a tree of jobs that it removes.
 
 use super::inferiors::MAKER;
-use super::rows::{line, show_row, times, word};
+use its_rows::{line, show_row, times, word};
 use std::alloc::Global;
 use std::process::Abort;
 use std::test::Fail;
@@ -113,7 +113,7 @@ fn places(rt: HostRuntime) -> Result<(), Fail> {
         for place in PLACES.split('\n') {
             let mut row = placed(alloc, &rt, call, place)?;
             left(&rt, &mut row, place, told)?;
-            show_row(alloc, &rt, &row)?;
+            show_row(alloc, &row)?;
         }
     }
     Ok(())
@@ -136,7 +136,7 @@ fn places_removed(rt: HostRuntime) -> Result<(), Fail> {
         let call = ".CALL 300 | SETZ | SIXBIT UCLOSE | 401000,,1";
         let mut row = placed(alloc, &rt, call, place)?;
         row.push_str(REMOVED)?;
-        show_row(alloc, &rt, &row)?;
+        show_row(alloc, &row)?;
     }
     Ok(())
 }
@@ -204,7 +204,7 @@ fn reached(rt: HostRuntime) -> Result<(), Fail> {
             let mut row = placed(alloc, &rt, call, place)?;
             let told = format!(in alloc; "TICK 0 {count} = T 0 {letters}\nPEEK 1 = P 1 {peek}")?;
             line(&mut row, &told)?;
-            show_row(alloc, &rt, &row)?;
+            show_row(alloc, &row)?;
         }
     }
     Ok(())
@@ -251,5 +251,5 @@ fn deep_tree(rt: HostRuntime) -> Result<(), Fail> {
         times(&mut row, &first, " 4. 1* 1. 1*", 64, " 4. 1* 5. 1* 1.\n")?;
     }
     row.push_str(FELLED)?;
-    show_row(alloc, &rt, &row)
+    show_row(alloc, &row)
 }

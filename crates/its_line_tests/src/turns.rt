@@ -1,8 +1,7 @@
 //! Turns in a circle: who has them, when they end, and what is written if an object fails among them.
 
-use super::super::Status;
-use super::rows::{compare, line, show_row};
-use super::tried;
+use its_rows::{compare, line, obey, show_row};
+use its_top::Status;
 use std::alloc::Global;
 use std::process::Abort;
 use std::test::Fail;
@@ -85,13 +84,13 @@ RUN 3 6 = T 2 4. 1* 1-
 #[test]
 fn turns_in_a_circle(rt: HostRuntime) -> Result<(), Fail> {
     let alloc = rt.alloc();
-    compare(alloc, &rt, "", CIRCLES)?;
-    many_turns(alloc, &rt)?;
+    compare(alloc, "", CIRCLES)?;
+    many_turns(alloc)?;
     cut_anywhere(alloc, &rt)
 }
 
 /// 96 jobs in 512 turns, five times around the circle and on.
-fn many_turns(alloc: Global, rt: &impl Abort) -> Result<(), Fail> {
+fn many_turns(alloc: Global) -> Result<(), Fail> {
     let mut row = "VERSION 2\n".to_string(alloc)?;
     for k in 0..96u32 {
         line(&mut row, &format!(in alloc; "LOAD U J - = J {k:o}\n!LOOP")?)?;
@@ -100,18 +99,22 @@ fn many_turns(alloc: Global, rt: &impl Abort) -> Result<(), Fail> {
     for k in 0..512u32 {
         line(&mut row, &format!(in alloc; "= T {:o} 1*", k % 96)?)?;
     }
-    show_row(alloc, rt, &row)
+    show_row(alloc, &row)
 }
 
 /// Lines of a session with what each shows.
-const LINES: [(&str, &str); 6] = [
-    ("VERSION 2\n", ""),
-    ("LOAD U J -\n", "J 0\n"),
-    ("100/ 254000000100\n", ""),
-    ("GO 100\n", ""),
-    ("RUN 3 2\n", "T 0 2*\nT 0 2*\nT 0 2*\n"),
-    ("RUN 1 1\n", "T 0 1*\n"),
-];
+static LINES: &str = "VERSION 2
+= #LOAD U J -
+= J 0
+#100/ 254000000100
+= #GO 100
+= #RUN 3 2
+= T 0 2*
+T 0 2*
+T 0 2*
+#RUN 1 1
+= T 0 1*
+";
 
 /// The whole session.
 const WHOLE: &str = "VERSION 2\nLOAD U J -\n100/ 254000000100\nGO 100\nRUN 3 2\nRUN 1 1\n";
@@ -122,10 +125,11 @@ fn cut_anywhere(alloc: Global, rt: &impl Abort) -> Result<(), Fail> {
     let session = WHOLE.as_bytes();
     let mut transcript = String::new(alloc);
     let mut piece = 0usize;
-    for (text, shown) in LINES {
+    for row in LINES.split('#') {
+        let (text, shown) = row.split_once("= ").ok_or("what is shown")?;
         for _b in text.as_bytes() {
             if 1 <= piece {
-                let got = tried(alloc, " run", session, piece, (&[1], &[]))?;
+                let got = obey(alloc, " run", session, piece, (&[1], &[]))?;
                 assert_eq!(rt; got.status, Status::ReadFault);
                 assert_eq!(rt; got.wrote.as_slice(), transcript.as_bytes());
             }
@@ -134,7 +138,7 @@ fn cut_anywhere(alloc: Global, rt: &impl Abort) -> Result<(), Fail> {
         transcript.push_str(shown)?;
     }
     for k in 0..5u64 {
-        let got = tried(alloc, " run", session, 512, (&[], &[k]))?;
+        let got = obey(alloc, " run", session, 512, (&[], &[k]))?;
         assert_eq!(rt; got.status, Status::WriteFault);
         assert_eq!(rt;
             got.wrote.len() as u64,

@@ -1,8 +1,8 @@
 //! Sessions of jobs that make, drop and protect pages, with their transcripts.
 
 use super::inferiors::MAKER;
-use super::rows::{compare, line, registers, show_row};
 use super::targets::compare_ends;
+use its_rows::{compare, line, registers, show_row};
 use std::test::Fail;
 
 /// Calls of CORBLK and how each ends, as those on inferiors. `makes` is an end of operation 1, which clears its page before,
@@ -64,7 +64,7 @@ SETZ | SIXBIT USRMEM | 1000,,2 | 1000,,100 | 402000,,10 = gives 0";
 
 #[test]
 fn pages(rt: HostRuntime) -> Result<(), Fail> {
-    compare_ends(rt.alloc(), &rt, ANSWERS)
+    compare_ends(rt.alloc(), ANSWERS)
 }
 
 /// What a job does to its page 1, which is read only: the instruction and a block for it at 150; then the letters of eight
@@ -115,8 +115,8 @@ fn protected_page(rt: HostRuntime) -> Result<(), Fail> {
             let mut row = format!(in alloc;
                 "{BEFORE}100: .CALL 120 | 0 | .CALL 130 | 0 | {at}\n150: {block}\n{BEHIND}{letters}{LEFT}"
             )?;
-            registers(&rt, &mut row, told)?;
-            show_row(alloc, &rt, &row)?;
+            registers(&mut row, told)?;
+            show_row(alloc, &row)?;
         }
     }
     Ok(())
@@ -229,8 +229,8 @@ DEPOSIT 1 777777 5 = ? 45 READONLY
 
 #[test]
 fn sessions(rt: HostRuntime) -> Result<(), Fail> {
-    compare(rt.alloc(), &rt, "", PAGES)?;
-    compare(rt.alloc(), &rt, MAKER, LAST_PAGE)
+    compare(rt.alloc(), "", PAGES)?;
+    compare(rt.alloc(), MAKER, LAST_PAGE)
 }
 
 /// Jobs that lack page 377 make it, after five that have 1023 pages of all together.
@@ -279,5 +279,5 @@ fn last_of_all_pages(rt: HostRuntime) -> Result<(), Fail> {
         line(&mut jobs, "GO 100")?;
         slot = slot.wrapping_add(1);
     }
-    compare(alloc, &rt, &jobs, LAST_OF_ALL)
+    compare(alloc, &jobs, LAST_OF_ALL)
 }

@@ -1,6 +1,6 @@
 //! Alarms: the call REALT, and the line CLOCK, which makes those that are due go.
 
-use super::rows::compare;
+use its_rows::compare;
 use std::test::Fail;
 
 static ALARMS: &str =
@@ -208,5 +208,5 @@ PEEK 10 = P 10 WAITING 504156470000 1 - - -
 
 #[test]
 fn alarms(rt: HostRuntime) -> Result<(), Fail> {
-    compare(rt.alloc(), &rt, "", ALARMS)
+    compare(rt.alloc(), "", ALARMS)
 }

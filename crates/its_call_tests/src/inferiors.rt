@@ -1,6 +1,6 @@
 //! Sessions of jobs that make inferiors, with their transcripts.
 
-use super::rows::compare;
+use its_rows::compare;
 use std::test::Fail;
 
 static INFERIORS: &str =
@@ -256,6 +256,6 @@ STATE 1 = S 1 560000000000 560000000000 - - RUN 010000000000 000000000000 000000
 
 #[test]
 fn inferiors(rt: HostRuntime) -> Result<(), Fail> {
-    compare(rt.alloc(), &rt, "", INFERIORS)?;
-    compare(rt.alloc(), &rt, MAKER, MADE)
+    compare(rt.alloc(), "", INFERIORS)?;
+    compare(rt.alloc(), MAKER, MADE)
 }
