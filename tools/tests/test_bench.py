@@ -53,12 +53,12 @@ class Limits(unittest.TestCase):
             self.assertIn("| %s" % name, page.replace("`", ""))
             wanted = 110 if "SOJG" in name else 120 if "mixed" in name else 400 if name.startswith(("gen", "a tick")) else None
             self.assertEqual(limits.get(name), wanted, name)
-        self.assertEqual(len(limits), 7)
+        self.assertEqual(len(limits), 10)
 
     def test_sessions(self):
         for row in self.rows():
-            few, more = (row.session(n).count("\n") for n in (row.rounds, row.rounds + 1))
-            self.assertGreater(more, few, row.name)
+            few, more = (row.session(n) for n in (row.rounds, row.rounds + 1))
+            self.assertNotEqual(more, few, row.name)
             self.assertNotIn("", {line.kind for line in lines_of(row.session(1))[:-1]})
 
     def test_line(self):
@@ -71,8 +71,21 @@ class Counting(unittest.TestCase):
 
     def test_unit(self):
         row = BENCH.Row("a", lambda n: "x" * n, 10, 4)
-        with mock.patch.object(BENCH, "spent", lambda program, words, text: 1000.0 + 8 * text.count("x")):
+        with mock.patch.multiple(BENCH, spent=lambda program, words, text: 1000.0 + 8 * text.count("x"), looked_at=lambda *words: None):
             self.assertEqual(BENCH.counted("its", row), 2.0)
+
+    def test_stopped_job(self):
+        row = BENCH.Row("a", str, 1, 1)
+        with tempfile.TemporaryDirectory() as folder:
+            for written in ("T 0 1. 2*", "T 0 4. 1* 5. 6w", "D 0 0\\nE 0 000002 7-"):
+                BENCH.looked_at(script(folder, "cat >/dev/null; printf 'J 0\\n%s\\n'" % written), row, "")
+            for written in ("T 0 1*\\nT 0 4. 7-", "T 0 7- 1."):
+                program = script(folder, "cat >/dev/null; printf 'J 0\\n%s\\nT 0 1.\\n'" % written)
+                with self.assertRaisesRegex(Wrong, "a: its job stops before the last tick that is counted"):
+                    BENCH.looked_at(program, row, "")
+                BENCH.looked_at(program, row._replace(runs=False), "")
+            with self.assertRaisesRegex(Wrong, r"a: its session ends with status 2: \? 3 SYNTAX"):
+                BENCH.looked_at(script(folder, "cat >/dev/null; echo '? 3 SYNTAX'; exit 2"), row, "")
 
     def test_status(self):
         row = BENCH.Row("a tick", str, 1, 1)

@@ -2,3 +2,5 @@ pub mod ReachLaws
 pub mod RawLaws
 pub mod ChannelLaws
 pub mod StopLaws
+pub mod ApartLaws
+pub mod PartLaws

@@ -29,4 +29,7 @@ pub use party::{channel, is_oneself, is_superior};
 pub use returning::dismiss;
 pub use setting::usrvar;
 pub use sleeping::{is_negative, is_read_only, is_shared_place, sleep};
-pub use transfer::{bar_of_store, iot_ends, moves, moves_with, next_pointer, stopped};
+pub use transfer::{
+    Part, Stop, bar_of_store, decision_of, iot_ends, moves, moves_with, next_byte, next_pointer,
+    one_less, part_in, stopped,
+};

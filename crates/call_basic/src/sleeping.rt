@@ -68,6 +68,7 @@ pub fn is_shared_place(ask: &Ask, place: Option<u32>) -> bool
 }
 
 /// Whether the word of the argument cannot be stored.
+#[inline(always)]
 pub fn is_read_only(w: &World, slot: u8, place: Option<u32>) -> bool
     requires { slot < slots }
     ensures { result ≡ read_only (core_at w.now.core slot) place }

@@ -1,5 +1,5 @@
 //! What `.IOT` and SIOT have in common, whatever their channel is on: SIOT's tests, and the ways in which they move a byte or a word.
-ghost use Rattle.std.specs.Prelude.{◌≡◌, ◌==◌, ◌<◌, ◌∷◌, ◌-◌, [], true, false, None, Some, is_some};
+ghost use Rattle.std.specs.Prelude.{◌≡◌, ◌==◌, ◌<◌, ◌||◌, ◌∷◌, ◌-◌, [], true, false, IfOk};
 ghost use Rattle.std.specs.Option.{option_to_list};
 ghost use Rattle.its_word.specs.Byte.{size};
 ghost use Rattle.its_word.specs.Limits.{slots};
@@ -7,18 +7,21 @@ ghost use Rattle.its_records.specs.declared.jobs.Job.{Job};
 ghost use Rattle.its_core.specs.Cores.{core_at};
 ghost use Rattle.its_frame.specs.declared.decision.Decision.TheVariants.{Ends, Goes};
 ghost use Rattle.its_plain.specs.Arguments.{input};
+ghost use Rattle.its_plain.specs.CallBasic.{shared_place};
+ghost use Rattle.its_plain.specs.Footprint.{in_footprint};
 ghost use Rattle.its_plain.specs.Own.{with_advance, exit_of};
 ghost use Rattle.its_plain.specs.Tests.{goes};
 ghost use Rattle.its_plain.specs.Transfer.{is_indexed, next_pointer, siot_tests, word_bits};
 ghost use Rattle.its_machine.specs.Called.{bar_of, first_of};
+ghost use Rattle.call_basic.specs.Parts.{going, part_in, part_of, stop_in, stop_of};
 ghost use Rattle.call_basic.specs.Seen.{seen_by};
 
-use super::arguments::{in_footprint, input, place_of_input};
+use super::arguments::{are_apart, in_footprint, input, place_of_input};
 use super::ends::{exit_after, fails, faults, finishes};
 use super::sleeping::{is_negative, is_read_only, is_shared_place};
 use arrayvec::ArrayVec;
 use its_bytes::{has_size, increment};
-use its_frame::{Change, Decision, Held, Store, error};
+use its_frame::{Change, Decision, Held, Store, Wait, error};
 use its_records::{Ask, Job};
 use its_word::{Fault, Word};
 use its_world::World;
@@ -64,10 +67,128 @@ pub fn bar_of_store(w: &World, slot: u8, at: u32) -> Option<Fault>
     None
 }
 
-/// The first of SIOT's tests that holds: errors 17, WRO, 21, 22, the end with count 0 or if `ended` says that the channel is at its end
-/// (of a file or of an inferior's core), and error 20. `words` says that its device moves only whole words.
+/// Why SIOT moves no byte: it fails with a number; it faults; its bytes are moved, or its channel is at its end; or it cannot go on.
+#[derive(Clone, Copy, Debug, PartialEq, Eq)]
+pub enum Stop {
+    Fails(u8),
+    Faults(Fault),
+    Finishes,
+    Waits(Wait),
+}
+
+/// A part of SIOT that moves one byte: what changes, the byte that is held if it is input, and the pointer and count of the rest.
+#[derive(Clone, Copy, Debug, PartialEq, Eq)]
+pub struct Part {
+    pub change: Change,
+    pub held: Option<Held>,
+    pub next: Word,
+    pub left: Word,
+}
+
+/// The pointer to the byte that SIOT moves next, whatever its channel is on; or the first of its tests that holds: errors 17, WRO, 21, 22,
+/// the end with count 0 or if `ended` says that the channel is at its end (of a file or of an inferior's core), and error 20. `words` says
+/// that its device moves only whole words.
+#[inline(never)]
+#[tactic(auto, unfolding(its_plain::specs::View::view, its_world::specs::World::state_of))]
+pub fn next_byte(w: &World, slot: u8, ask: &Ask, words: bool, ended: bool) -> Result<Word, Stop>
+    requires { slot < slots }
+    ensures stops { (j : Job) → stop_in j ask.now result ≡ first_of (siot_tests (seen_by w.now slot j ask.now) ask.now (input ask.now 1) (input ask.now 2) words ended) }
+    ensures next { IfOk result (λ n. n ≡ next_pointer (input ask.now 1)) }
+{
+    let (pointer, count) = (input(ask, 1), input(ask, 2));
+    let (p, k) = (place_of_input(ask, 1), place_of_input(ask, 2));
+    let next = next_pointer(pointer);
+    let apart = are_apart(ask, p, k, next.right());
+    if is_one_shared(ask, p, k, apart) {
+        return Err(Stop::Fails(error::NO_WORD));
+    }
+    if is_read_only(w, slot, p) || is_read_only(w, slot, k) {
+        return Err(Stop::Faults(Fault::Wro));
+    }
+    if !has_size(pointer) || is_indexed(pointer) {
+        return Err(Stop::Fails(error::BAD_POINTER));
+    }
+    if words && !is_word_sized(pointer) {
+        return Err(Stop::Fails(error::BAD_POINTER));
+    }
+    if is_negative(count.value()) {
+        return Err(Stop::Fails(error::OUT_OF_RANGE));
+    }
+    if count == Word::ZERO || ended {
+        return Err(Stop::Finishes);
+    }
+    if is_read(ask, next.right(), apart) {
+        return Err(Stop::Fails(error::WORD_IN_USE));
+    }
+    Ok(next)
+}
+
+/// Whether the word of pointer or count is an argument without a word of its own. `apart` may say that neither is.
+fn is_one_shared(ask: &Ask, p: Option<u32>, k: Option<u32>, apart: bool) -> bool
+    requires { apart ≡ true → (shared_place ask.now p || shared_place ask.now k) ≡ false }
+    ensures { result ≡ (shared_place ask.now p || shared_place ask.now k) }
+{
+    if apart {
+        return false;
+    }
+    is_shared_place(ask, p) || is_shared_place(ask, k)
+}
+
+/// Whether a word is one that a call reads. `apart` may say that it is not.
+fn is_read(ask: &Ask, place: u32, apart: bool) -> bool
+    requires { apart ≡ true → in_footprint place ask.now ≡ false }
+    ensures { result ≡ in_footprint place ask.now }
+{
+    if apart {
+        return false;
+    }
+    in_footprint(place, ask)
+}
+
+/// What SIOT decides if it moves no byte.
+fn decision_of_stop(job: &Job, ask: &Ask, stop: Stop) -> Decision
+    ensures { result ≡ stop_of job.now ask.now stop }
+{
+    match stop {
+        Stop::Fails(number) => fails(job, ask, number),
+        Stop::Faults(fault) => faults(job, fault),
+        Stop::Finishes => finishes(job, ArrayVec::new()),
+        Stop::Waits(wait) => Decision::Waits(wait),
+    }
+}
+
+/// What SIOT decides: a part of it is done, or it moves no byte.
+#[inline(never)]
+pub fn decision_of(job: &Job, ask: &Ask, part: Result<Part, Stop>) -> Decision
+    ensures { result ≡ part_of job.now ask.now part }
+{
+    match part {
+        Ok(part) => going(part),
+        Err(stop) => decision_of_stop(job, ask, stop),
+    }
+}
+
+/// The part of SIOT that is done, if a byte is moved.
 #[inline(always)]
-#[tactic(auto, using(crate::proofs::StopLaws::stopped_so, crate::proofs::StopLaws::stopped_not))]
+pub fn part_in(part: Result<Part, Stop>) -> Option<Part>
+    ensures { result ≡ part_in part }
+{
+    match part {
+        Ok(part) => Some(part),
+        Err(_) => None,
+    }
+}
+
+/// The decision that a part of SIOT is done.
+fn going(part: Part) -> Decision
+    ensures { result ≡ going part }
+{
+    let mut changes = ArrayVec::new();
+    changes.push(part.change);
+    goes_with(changes, part.held, part.next, part.left)
+}
+
+/// The first of SIOT's tests that holds, as a decision (`next_byte`).
 pub fn stopped(
     w: &World,
     slot: u8,
@@ -79,86 +200,10 @@ pub fn stopped(
     requires { slot < slots }
     ensures { result ≡ first_of (siot_tests (seen_by w.now slot job.now ask.now) ask.now (input ask.now 1) (input ask.now 2) words ended) }
 {
-    if is_stopped(w, slot, ask, words, ended) {
-        Some(stops(w, slot, job, ask, words, ended))
-    } else {
-        None
+    match next_byte(w, slot, ask, words, ended) {
+        Ok(_) => None,
+        Err(stop) => Some(decision_of_stop(job, ask, stop)),
     }
-}
-
-/// Whether one of SIOT's tests holds. If none does, it goes on, and no decision is made for it.
-#[tactic(auto, unfolding(its_plain::specs::View::view, its_world::specs::World::state_of))]
-fn is_stopped(w: &World, slot: u8, ask: &Ask, words: bool, ended: bool) -> bool
-    requires { slot < slots }
-    ensures stops { (j : Job) → result ≡ true → is_some (first_of (siot_tests (seen_by w.now slot j ask.now) ask.now (input ask.now 1) (input ask.now 2) words ended)) ≡ true }
-    ensures goes { (j : Job) → result ≡ false → first_of (siot_tests (seen_by w.now slot j ask.now) ask.now (input ask.now 1) (input ask.now 2) words ended) ≡ None }
-{
-    let (pointer, count) = (input(ask, 1), input(ask, 2));
-    let (p, k) = (place_of_input(ask, 1), place_of_input(ask, 2));
-    if is_shared_place(ask, p) || is_shared_place(ask, k) {
-        return true;
-    }
-    if is_read_only(w, slot, p) || is_read_only(w, slot, k) {
-        return true;
-    }
-    if !has_size(pointer) || is_indexed(pointer) {
-        return true;
-    }
-    if words && !is_word_sized(pointer) {
-        return true;
-    }
-    if is_negative(count.value()) {
-        return true;
-    }
-    if count == Word::ZERO || ended {
-        return true;
-    }
-    in_footprint(next_pointer(pointer).right(), ask)
-}
-
-/// What SIOT decides if one of its tests holds.
-#[inline(never)]
-fn stops(w: &World, slot: u8, job: &Job, ask: &Ask, words: bool, ended: bool) -> Decision
-    requires slot { slot < slots }
-    requires some { is_some (first_of (siot_tests (seen_by w.now slot job.now ask.now) ask.now (input ask.now 1) (input ask.now 2) words ended)) ≡ true }
-    ensures { first_of (siot_tests (seen_by w.now slot job.now ask.now) ask.now (input ask.now 1) (input ask.now 2) words ended) ≡ Some result }
-{
-    match found(w, slot, job, ask, words, ended) {
-        Some(decision) => decision,
-        None => unreachable!(),
-    }
-}
-
-/// The first of SIOT's tests that holds, as a decision.
-#[tactic(auto, unfolding(its_plain::specs::View::view, its_world::specs::World::state_of))]
-fn found(w: &World, slot: u8, job: &Job, ask: &Ask, words: bool, ended: bool) -> Option<Decision>
-    requires { slot < slots }
-    ensures { result ≡ first_of (siot_tests (seen_by w.now slot job.now ask.now) ask.now (input ask.now 1) (input ask.now 2) words ended) }
-{
-    let (pointer, count) = (input(ask, 1), input(ask, 2));
-    let (p, k) = (place_of_input(ask, 1), place_of_input(ask, 2));
-    if is_shared_place(ask, p) || is_shared_place(ask, k) {
-        return Some(fails(job, ask, error::NO_WORD));
-    }
-    if is_read_only(w, slot, p) || is_read_only(w, slot, k) {
-        return Some(faults(job, Fault::Wro));
-    }
-    if !has_size(pointer) || is_indexed(pointer) {
-        return Some(fails(job, ask, error::BAD_POINTER));
-    }
-    if words && !is_word_sized(pointer) {
-        return Some(fails(job, ask, error::BAD_POINTER));
-    }
-    if is_negative(count.value()) {
-        return Some(fails(job, ask, error::OUT_OF_RANGE));
-    }
-    if count == Word::ZERO || ended {
-        return Some(finishes(job, ArrayVec::new()));
-    }
-    if in_footprint(next_pointer(pointer).right(), ask) {
-        return Some(fails(job, ask, error::WORD_IN_USE));
-    }
-    None
 }
 
 /// Whether the byte of a pointer has the 36 bits of a word.
@@ -176,10 +221,19 @@ fn is_indexed(pointer: Word) -> bool
 }
 
 /// The pointer to the next byte.
+#[inline(always)]
 pub fn next_pointer(pointer: Word) -> Word
     ensures { result ≡ next_pointer pointer }
 {
     increment(pointer).unwrap_or(Word::ZERO)
+}
+
+/// The count of the rest, when a byte is moved.
+#[inline(always)]
+pub fn one_less(count: Word) -> Word
+    ensures { result ≡ count - 1 }
+{
+    Word::new(count.value().saturating_sub(1))
 }
 
 /// A byte is moved: one thing changes, a byte may be held, and pointer and count become those of the rest.
@@ -200,9 +254,16 @@ pub fn moves_with(
 ) -> Decision
     ensures { result ≡ Goes changes held (record { items = next ∷ (count - 1) ∷ [] }) }
 {
+    goes_with(changes, held, next, one_less(count))
+}
+
+/// A part of the call is done: these changes, a byte may be held, and its last two arguments have new values.
+fn goes_with(changes: ArrayVec<Change, 2>, held: Option<Held>, next: Word, left: Word) -> Decision
+    ensures { result ≡ Goes changes held (record { items = next ∷ left ∷ [] }) }
+{
     let mut values = ArrayVec::new();
     values.push(next);
-    values.push(Word::new(count.value().saturating_sub(1)));
+    values.push(left);
     Decision::Goes {
         changes,
         held,

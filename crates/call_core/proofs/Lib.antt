@@ -1,2 +1,3 @@
 pub mod RawLaws
 pub mod OtherLaws
+pub mod PartLaws

@@ -1,24 +1,30 @@
-ghost use Rattle.std.specs.Prelude.{◌≡◌, ◌<◌, true, not, is_some, IfSome, None, Some};
+ghost use Rattle.std.specs.Prelude.{◌≡◌, ◌<◌, true, not, is_some, IfSome, None, Some, []};
 ghost use Rattle.its_word.specs.Limits.{slots};
+ghost use Rattle.its_frame.specs.declared.name.CallName.TheVariants.{Siot};
 ghost use Rattle.its_jobs.specs.Table.{job_at};
 ghost use Rattle.its_plain.specs.Arguments.{input};
 ghost use Rattle.its_plain.specs.CallStep.{decision};
-ghost use Rattle.its_plain.specs.Decide.{call_named as call_named_by, decided};
+ghost use Rattle.its_plain.specs.Decide.{call_named as call_named_by, decided, reach};
 ghost use Rattle.its_stepped.specs.Forest.{Forest};
 ghost use Rattle.its_stepped.specs.Tick.{helps, makes_page, reserves};
 ghost use Rattle.its_world.specs.Tidy.{Tidy};
 ghost use Rattle.its_world.specs.World.{state_of, raw_in};
+ghost use Rattle.call_basic.specs.Parts.{going};
 ghost use Rattle.call_basic.specs.Seen.{is_waiting, raw_with, seen_by};
 
-use super::devices::{close, iot, open, siot};
+use super::devices::{close, iot, open, siot, siot_part};
 use super::pages::corblk;
-use call_basic::{dismiss, fails, input, logout, realt, sleep, usrvar};
+use call_basic::{Part, dismiss, fails, input, logout, realt, sleep, usrvar};
 use call_file::{access, delete, fillen, rename};
 use call_tty::{finish, listen, ttylnd};
 use call_usr::{uclose, usrmem};
 use its_frame::{CallName, Decision, Wait, error};
 use its_records::{Ask, Job};
+use its_word::Word;
 use its_world::World;
+
+/// The name of SIOT.
+const SIOT: u64 = 0o635157640000;
 
 /// The decision of the call of a slot's job.
 pub fn decide(w: &World, slot: u8, ask: &Ask) -> Decision
@@ -33,6 +39,55 @@ pub fn decide(w: &World, slot: u8, ask: &Ask) -> Decision
         Some(job) => decided(w, slot, job, ask),
         None => unreachable!(),
     }
+}
+
+/// The part of the call of a slot's job that is done next, if the call is SIOT and moves a byte by one change. Then it reaches no
+/// other job, and no close is half made. None says nothing.
+#[inline(always)]
+pub fn part(w: &World, slot: u8, ask: &Ask) -> Option<Part>
+    requires slot { slot < slots }
+    requires job { is_some (job_at w.now.jobs slot) ≡ true }
+    requires tidy { Tidy w.now }
+    ensures goes { IfSome result (λ p. IfSome (raw_in w.now slot) (λ q. going p ≡ decision (state_of w.now).raw slot q ask.now)) }
+    ensures alone { IfSome result (λ p. IfSome (raw_in w.now slot) (λ q. reach (state_of w.now).raw slot q ask.now ≡ [])) }
+    ensures unmarked { IfSome result (λ p. w.now.files.mark ≡ None) }
+    ensures name { IfSome result (λ p. call_named_by ask.now.name ≡ Some Siot) }
+{
+    if !is_siot(ask) {
+        return None;
+    }
+    match w.files.owner() {
+        Some(_) => None,
+        None => unmarked_part(w, slot, ask),
+    }
+}
+
+/// The same if no close is half made.
+#[inline(always)]
+fn unmarked_part(w: &World, slot: u8, ask: &Ask) -> Option<Part>
+    requires slot { slot < slots }
+    requires job { is_some (job_at w.now.jobs slot) ≡ true }
+    requires fail { ask.now.fail ≡ 0 }
+    requires name { call_named_by ask.now.name ≡ Some Siot }
+    requires tidy { Tidy w.now }
+    requires unmarked { w.now.files.mark ≡ None }
+    ensures goes { IfSome result (λ p. IfSome (raw_in w.now slot) (λ q. going p ≡ decision (state_of w.now).raw slot q ask.now)) }
+    ensures alone { IfSome result (λ p. IfSome (raw_in w.now slot) (λ q. reach (state_of w.now).raw slot q ask.now ≡ [])) }
+    ensures unmarked { IfSome result (λ p. w.now.files.mark ≡ None) }
+    ensures name { IfSome result (λ p. call_named_by ask.now.name ≡ Some Siot) }
+{
+    match w.jobs.job(slot) {
+        Some(job) => siot_part(w, slot, job, ask),
+        None => None,
+    }
+}
+
+/// Whether a call is SIOT, whose decoding gave no error.
+pub fn is_siot(ask: &Ask) -> bool
+    ensures fail { result ≡ true → ask.now.fail ≡ 0 }
+    ensures name { result ≡ true → call_named_by ask.now.name ≡ Some Siot }
+{
+    ask.fail == 0 && is_named_siot(ask.name)
 }
 
 /// Whether the call of a slot's job can go on.
@@ -87,6 +142,14 @@ fn decided(w: &World, slot: u8, job: &Job, ask: &Ask) -> Decision
         Some(CallName::Realt) => realt(w, slot, job, ask),
         None => fails(job, ask, error::NO_CALL),
     }
+}
+
+/// Whether a word is the name of SIOT.
+#[tactic(auto, using(crate::proofs::PartLaws::siot_named))]
+fn is_named_siot(name: Word) -> bool
+    ensures { result ≡ true → call_named_by name ≡ Some Siot }
+{
+    name.value() == SIOT
 }
 
 /// Whether a call reserves a page before it is tried: one that makes a page, whose decoding gave no error.

@@ -7,10 +7,11 @@ ghost use Rattle.its_plain.specs.Arguments.{input};
 ghost use Rattle.its_plain.specs.CallFile.{file_named, iot_reads, iot_writes, siot_read, siot_reads, siot_write, siot_writes, words_by, words_of};
 ghost use Rattle.its_plain.specs.Transfer.{next_pointer};
 ghost use Rattle.its_world.specs.Tidy.{Tidy};
+ghost use Rattle.call_basic.specs.Parts.{part_of};
 ghost use Rattle.call_basic.specs.Seen.{seen_by};
 
 use arrayvec::ArrayVec;
-use call_basic::{bar_of_store, fails, faults, input, ioc, iot_ends, moves, next_pointer, stopped};
+use call_basic::{Part, Stop, bar_of_store, faults, input, ioc, iot_ends, next_byte, one_less};
 use its_bytes::load;
 use its_frame::{Change, Decision, Held, Store, error};
 use its_records::{Ask, Job};
@@ -92,79 +93,110 @@ pub fn iot_writes(w: &World, slot: u8, job: &Job, ask: &Ask, draft: u32) -> Deci
 }
 
 /// SIOT from a file: the word at its position is held, and stored by the next step.
+#[inline(always)]
 #[tactic(auto, unfolding(its_plain::specs::View::view, its_world::specs::World::state_of))]
-pub fn siot_reads(w: &World, slot: u8, job: &Job, ask: &Ask, file: u32, at: u32) -> Decision
+pub fn siot_reads(
+    w: &World,
+    slot: u8,
+    job: &Job,
+    ask: &Ask,
+    file: u32,
+    at: u32,
+) -> Result<Part, Stop>
     requires slot { slot < slots }
     requires number { input ask.now 0 < 16 }
     requires file { is_file (entry_at w.now.files file) ≡ true }
-    ensures { result ≡ siot_reads (seen_by w.now slot job.now ask.now) ask.now (input ask.now 0) at (slice_get (words_of (seen_by w.now slot job.now ask.now) (names_at w.now.files file)) at) }
+    ensures { part_of job.now ask.now result ≡ siot_reads (seen_by w.now slot job.now ask.now) ask.now (input ask.now 0) at (slice_get (words_of (seen_by w.now slot job.now ask.now) (names_at w.now.files file)) at) }
 {
     let word = word_at(w, file, at);
-    match stopped(w, slot, job, ask, true, word.is_none()) {
-        Some(decision) => decision,
-        None => siot_read(w, slot, job, ask, at, word.unwrap_or(Word::ZERO)),
+    match next_byte(w, slot, ask, true, word.is_none()) {
+        Ok(next) => siot_read(w, slot, job, ask, next, at, word.unwrap_or(Word::ZERO)),
+        Err(stop) => Err(stop),
     }
 }
 
 /// The same if no test stops it.
+#[inline(always)]
 #[tactic(auto, unfolding(its_plain::specs::View::view, its_world::specs::World::state_of))]
-fn siot_read(w: &World, slot: u8, job: &Job, ask: &Ask, at: u32, word: Word) -> Decision
+fn siot_read(
+    w: &World,
+    slot: u8,
+    job: &Job,
+    ask: &Ask,
+    next: Word,
+    at: u32,
+    word: Word,
+) -> Result<Part, Stop>
     requires slot { slot < slots }
     requires number { input ask.now 0 < 16 }
     requires few { at < 2 ^ 18 }
-    ensures { result ≡ siot_read (seen_by w.now slot job.now ask.now) (next_pointer (input ask.now 1)) (input ask.now 2) (input ask.now 0) at word }
+    ensures { part_of job.now ask.now result ≡ siot_read (seen_by w.now slot job.now ask.now) next (input ask.now 2) (input ask.now 0) at word }
 {
-    let next = next_pointer(input(ask, 1));
     let place = next.right();
     if let Some(fault) = bar_of_store(w, slot, place) {
-        return faults(job, fault);
+        return Err(Stop::Faults(fault));
     }
-    let held = Held { place, byte: word };
-    let change = Change::Move {
-        channel: input(ask, 0).value() as u8,
-        at: at + 1,
-    };
-    moves(change, Some(held), next, input(ask, 2))
+    Ok(Part {
+        change: Change::Move {
+            channel: input(ask, 0).value() as u8,
+            at: at + 1,
+        },
+        held: Some(Held { place, byte: word }),
+        next,
+        left: one_less(input(ask, 2)),
+    })
 }
 
 /// SIOT to a draft. Error 10 if there is no room.
+#[inline(always)]
 #[tactic(auto, using(its_plain::proofs::SizeLaws::next_sized), unfolding(its_plain::specs::View::view, its_world::specs::World::state_of))]
-pub fn siot_writes(w: &World, slot: u8, job: &Job, ask: &Ask, draft: u32) -> Decision
+pub fn siot_writes(w: &World, slot: u8, job: &Job, ask: &Ask, draft: u32) -> Result<Part, Stop>
     requires slot { slot < slots }
     requires number { input ask.now 0 < 16 }
     requires draft { is_draft (entry_at w.now.files draft) ≡ true }
     requires unmarked { w.now.files.mark ≡ None }
     requires tidy { Tidy w.now }
-    ensures { result ≡ siot_writes (seen_by w.now slot job.now ask.now) ask.now (input ask.now 0) (file_at w.now.files draft) }
+    ensures { part_of job.now ask.now result ≡ siot_writes (seen_by w.now slot job.now ask.now) ask.now (input ask.now 0) (file_at w.now.files draft) }
 {
-    match stopped(w, slot, job, ask, true, false) {
-        Some(decision) => decision,
-        None => siot_write(w, slot, job, ask, draft),
+    match next_byte(w, slot, ask, true, false) {
+        Ok(next) => siot_write(w, slot, job, ask, next, draft),
+        Err(stop) => Err(stop),
     }
 }
 
 /// The same if no test stops it.
+#[inline(always)]
 #[tactic(auto, using(its_machine::proofs::StopLaws::loaded_fits, crate::proofs::SeenLaws::seen_full, its_files::proofs::EntryLaws::draft_stands), unfolding(its_plain::specs::View::view, its_world::specs::World::state_of))]
-fn siot_write(w: &World, slot: u8, job: &Job, ask: &Ask, draft: u32) -> Decision
+fn siot_write(
+    w: &World,
+    slot: u8,
+    job: &Job,
+    ask: &Ask,
+    next: Word,
+    draft: u32,
+) -> Result<Part, Stop>
     requires slot { slot < slots }
     requires number { input ask.now 0 < 16 }
-    requires size { has_size (next_pointer (input ask.now 1)) ≡ true }
+    requires size { has_size next ≡ true }
     requires draft { is_draft (entry_at w.now.files draft) ≡ true }
     requires unmarked { w.now.files.mark ≡ None }
     requires tidy { Tidy w.now }
-    ensures { result ≡ siot_write (seen_by w.now slot job.now ask.now) ask.now (next_pointer (input ask.now 1)) (input ask.now 2) (input ask.now 0) (file_at w.now.files draft) }
+    ensures { part_of job.now ask.now result ≡ siot_write (seen_by w.now slot job.now ask.now) ask.now next (input ask.now 2) (input ask.now 0) (file_at w.now.files draft) }
 {
     w.files.seen();
-    let next = next_pointer(input(ask, 1));
     let Some(word) = w.core.word(slot, next.right()) else {
-        return faults(job, Fault::Mpv);
+        return Err(Stop::Faults(Fault::Mpv));
     };
     if w.files.is_full(draft) {
-        return fails(job, ask, error::DEVICE_FULL);
+        return Err(Stop::Fails(error::DEVICE_FULL));
     }
-    let change = Change::Append {
-        channel: input(ask, 0).value() as u8,
-        word: Word::new(load(next, word)),
-    };
-    moves(change, None, next, input(ask, 2))
+    Ok(Part {
+        change: Change::Append {
+            channel: input(ask, 0).value() as u8,
+            word: Word::new(load(next, word)),
+        },
+        held: None,
+        next,
+        left: one_less(input(ask, 2)),
+    })
 }

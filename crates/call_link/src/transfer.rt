@@ -5,11 +5,12 @@ ghost use Rattle.its_word.specs.Limits.{slots};
 ghost use Rattle.its_plain.specs.Arguments.{input};
 ghost use Rattle.its_plain.specs.CallLink.{iot_linked, iot_receives, iot_sends, siot_linked, siot_receive, siot_receives, siot_send, siot_sends};
 ghost use Rattle.its_plain.specs.Transfer.{next_pointer};
+ghost use Rattle.call_basic.specs.Parts.{part_of};
 ghost use Rattle.call_basic.specs.Seen.{seen_by};
 
 use arrayvec::ArrayVec;
 use call_basic::{
-    bar_of_store, fails, faults, input, ioc, iot_ends, moves, next_pointer, stopped, store_at,
+    Part, Stop, bar_of_store, faults, input, ioc, iot_ends, next_byte, one_less, store_at,
 };
 use its_bytes::load;
 use its_frame::{Change, Decision, Held, Wait, error};
@@ -71,9 +72,17 @@ fn iot_sends(w: &World, slot: u8, job: &Job, ask: &Ask, link: u8) -> Decision
 }
 
 /// SIOT through a channel on a link: to it, if the channel is on the writing end, else from it.
-pub fn siot_link(w: &World, slot: u8, job: &Job, ask: &Ask, link: u8, write: bool) -> Decision
+#[inline(always)]
+pub fn siot_link(
+    w: &World,
+    slot: u8,
+    job: &Job,
+    ask: &Ask,
+    link: u8,
+    write: bool,
+) -> Result<Part, Stop>
     requires { slot < slots }
-    ensures { result ≡ siot_linked (seen_by w.now slot job.now ask.now) ask.now link write }
+    ensures { part_of job.now ask.now result ≡ siot_linked (seen_by w.now slot job.now ask.now) ask.now link write }
 {
     if write {
         siot_sends(w, slot, job, ask, link)
@@ -83,67 +92,86 @@ pub fn siot_link(w: &World, slot: u8, job: &Job, ask: &Ask, link: u8, write: boo
 }
 
 /// SIOT from a link: its first word is held, and its low bits stored by the next step. At the end of the link it finishes.
+#[inline(always)]
 #[tactic(auto, unfolding(its_plain::specs::View::view, its_world::specs::World::state_of))]
-fn siot_receives(w: &World, slot: u8, job: &Job, ask: &Ask, link: u8) -> Decision
+fn siot_receives(w: &World, slot: u8, job: &Job, ask: &Ask, link: u8) -> Result<Part, Stop>
     requires { slot < slots }
-    ensures { result ≡ siot_receives (seen_by w.now slot job.now ask.now) ask.now link }
+    ensures { part_of job.now ask.now result ≡ siot_receives (seen_by w.now slot job.now ask.now) ask.now link }
 {
-    match stopped(w, slot, job, ask, false, w.pipes.is_ended(link)) {
-        Some(decision) => decision,
-        None => siot_receive(w, slot, job, ask, link),
+    match next_byte(w, slot, ask, false, w.pipes.is_ended(link)) {
+        Ok(next) => siot_receive(w, slot, job, ask, next, link),
+        Err(stop) => Err(stop),
     }
 }
 
 /// The same if no test of its arguments stops it.
+#[inline(always)]
 #[tactic(auto, unfolding(its_plain::specs::View::view, its_world::specs::World::state_of))]
-fn siot_receive(w: &World, slot: u8, job: &Job, ask: &Ask, link: u8) -> Decision
+fn siot_receive(
+    w: &World,
+    slot: u8,
+    job: &Job,
+    ask: &Ask,
+    next: Word,
+    link: u8,
+) -> Result<Part, Stop>
     requires { slot < slots }
-    ensures { result ≡ siot_receive (seen_by w.now slot job.now ask.now) (next_pointer (input ask.now 1)) (input ask.now 2) link }
+    ensures { part_of job.now ask.now result ≡ siot_receive (seen_by w.now slot job.now ask.now) next (input ask.now 2) link }
 {
-    let next = next_pointer(input(ask, 1));
     let place = next.right();
     if let Some(fault) = bar_of_store(w, slot, place) {
-        return faults(job, fault);
+        return Err(Stop::Faults(fault));
     }
     if w.pipes.is_dry(link) {
-        return Decision::Waits(Wait::Empty(link));
+        return Err(Stop::Waits(Wait::Empty(link)));
     }
     let held = Held {
         place,
         byte: w.pipes.first_word(link).unwrap_or(Word::ZERO),
     };
-    moves(Change::Receive { link }, Some(held), next, input(ask, 2))
+    Ok(Part {
+        change: Change::Receive { link },
+        held: Some(held),
+        next,
+        left: one_less(input(ask, 2)),
+    })
 }
 
 /// SIOT to a link: the byte becomes a word, which is sent. Error 26 if the reading end is closed.
+#[inline(always)]
 #[tactic(auto, using(its_plain::proofs::SizeLaws::next_sized), unfolding(its_plain::specs::View::view, its_world::specs::World::state_of))]
-fn siot_sends(w: &World, slot: u8, job: &Job, ask: &Ask, link: u8) -> Decision
+fn siot_sends(w: &World, slot: u8, job: &Job, ask: &Ask, link: u8) -> Result<Part, Stop>
     requires { slot < slots }
-    ensures { result ≡ siot_sends (seen_by w.now slot job.now ask.now) ask.now link }
+    ensures { part_of job.now ask.now result ≡ siot_sends (seen_by w.now slot job.now ask.now) ask.now link }
 {
-    match stopped(w, slot, job, ask, false, false) {
-        Some(decision) => decision,
-        None => siot_send(w, slot, job, ask, link),
+    match next_byte(w, slot, ask, false, false) {
+        Ok(next) => siot_send(w, slot, job, ask, next, link),
+        Err(stop) => Err(stop),
     }
 }
 
 /// The same if no test of its arguments stops it.
+#[inline(always)]
 #[tactic(auto, using(its_machine::proofs::StopLaws::loaded_fits), unfolding(its_plain::specs::View::view, its_world::specs::World::state_of))]
-fn siot_send(w: &World, slot: u8, job: &Job, ask: &Ask, link: u8) -> Decision
+fn siot_send(w: &World, slot: u8, job: &Job, ask: &Ask, next: Word, link: u8) -> Result<Part, Stop>
     requires slot { slot < slots }
-    requires size { has_size (next_pointer (input ask.now 1)) ≡ true }
-    ensures { result ≡ siot_send (seen_by w.now slot job.now ask.now) ask.now (next_pointer (input ask.now 1)) (input ask.now 2) link }
+    requires size { has_size next ≡ true }
+    ensures { part_of job.now ask.now result ≡ siot_send (seen_by w.now slot job.now ask.now) ask.now next (input ask.now 2) link }
 {
-    let next = next_pointer(input(ask, 1));
     let Some(word) = w.core.word(slot, next.right()) else {
-        return faults(job, Fault::Mpv);
+        return Err(Stop::Faults(Fault::Mpv));
     };
     if w.pipes.is_unread(link) {
-        return fails(job, ask, error::NOBODY_READS);
+        return Err(Stop::Fails(error::NOBODY_READS));
     }
     if w.pipes.is_crowded(link) {
-        return Decision::Waits(Wait::Room(link));
+        return Err(Stop::Waits(Wait::Room(link)));
     }
     let word = Word::new(load(next, word));
-    moves(Change::Send { link, word }, None, next, input(ask, 2))
+    Ok(Part {
+        change: Change::Send { link, word },
+        held: None,
+        next,
+        left: one_less(input(ask, 2)),
+    })
 }

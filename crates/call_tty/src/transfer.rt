@@ -4,11 +4,12 @@ ghost use Rattle.its_word.specs.Limits.{slots};
 ghost use Rattle.its_plain.specs.Arguments.{input};
 ghost use Rattle.its_plain.specs.CallTty.{iot_in, iot_out, shown_byte, siot_in, siot_out};
 ghost use Rattle.its_plain.specs.Transfer.{next_pointer, siot_by};
+ghost use Rattle.call_basic.specs.Parts.{part_of};
 ghost use Rattle.call_basic.specs.Seen.{seen_by};
 
 use super::consoles::{console_of, first_typed, input_waits, output_waits};
 use arrayvec::ArrayVec;
-use call_basic::{bar_of_store, faults, input, iot_ends, moves, next_pointer, stopped};
+use call_basic::{Part, Stop, bar_of_store, faults, input, iot_ends, next_byte, one_less};
 use its_bytes::load;
 use its_frame::{Change, Decision, Held, Store, Wait};
 use its_records::{Ask, Job};
@@ -66,64 +67,76 @@ fn shown(word: Word) -> u8
 }
 
 /// SIOT from a console: one byte, which is held and stored by the next step; pointer and count become those of the rest.
-pub fn siot_in(w: &World, slot: u8, job: &Job, ask: &Ask) -> Decision
+#[inline(always)]
+pub fn siot_in(w: &World, slot: u8, job: &Job, ask: &Ask) -> Result<Part, Stop>
     requires { slot < slots }
-    ensures { result ≡ siot_by (seen_by w.now slot job.now ask.now) ask.now false false (siot_in (seen_by w.now slot job.now ask.now) ask.now (next_pointer (input ask.now 1)) (input ask.now 2) (unwrap_or job.now.console 0)) }
+    ensures { part_of job.now ask.now result ≡ siot_by (seen_by w.now slot job.now ask.now) ask.now false false (siot_in (seen_by w.now slot job.now ask.now) ask.now (next_pointer (input ask.now 1)) (input ask.now 2) (unwrap_or job.now.console 0)) }
 {
-    match stopped(w, slot, job, ask, false, false) {
-        Some(decision) => decision,
-        None => takes_byte(w, slot, job, ask),
+    match next_byte(w, slot, ask, false, false) {
+        Ok(next) => takes_byte(w, slot, job, ask, next),
+        Err(stop) => Err(stop),
     }
 }
 
 /// SIOT to a console: one byte; pointer and count become those of the rest.
-pub fn siot_out(w: &World, slot: u8, job: &Job, ask: &Ask) -> Decision
+#[inline(always)]
+pub fn siot_out(w: &World, slot: u8, job: &Job, ask: &Ask) -> Result<Part, Stop>
     requires { slot < slots }
-    ensures { result ≡ siot_by (seen_by w.now slot job.now ask.now) ask.now false false (siot_out (seen_by w.now slot job.now ask.now) ask.now (next_pointer (input ask.now 1)) (input ask.now 2) (unwrap_or job.now.console 0)) }
+    ensures { part_of job.now ask.now result ≡ siot_by (seen_by w.now slot job.now ask.now) ask.now false false (siot_out (seen_by w.now slot job.now ask.now) ask.now (next_pointer (input ask.now 1)) (input ask.now 2) (unwrap_or job.now.console 0)) }
 {
-    match stopped(w, slot, job, ask, false, false) {
-        Some(decision) => decision,
-        None => puts_byte(w, slot, job, ask),
+    match next_byte(w, slot, ask, false, false) {
+        Ok(next) => puts_byte(w, slot, job, ask, next),
+        Err(stop) => Err(stop),
     }
 }
 
 /// SIOT from a console if no test of its arguments stops it.
+#[inline(always)]
 #[tactic(auto, unfolding(its_plain::specs::View::view, its_world::specs::World::state_of))]
-fn takes_byte(w: &World, slot: u8, job: &Job, ask: &Ask) -> Decision
+fn takes_byte(w: &World, slot: u8, job: &Job, ask: &Ask, next: Word) -> Result<Part, Stop>
     requires { slot < slots }
-    ensures { result ≡ siot_in (seen_by w.now slot job.now ask.now) ask.now (next_pointer (input ask.now 1)) (input ask.now 2) (unwrap_or job.now.console 0) }
+    ensures { part_of job.now ask.now result ≡ siot_in (seen_by w.now slot job.now ask.now) ask.now next (input ask.now 2) (unwrap_or job.now.console 0) }
 {
     let console = console_of(job);
-    let next = next_pointer(input(ask, 1));
     let place = next.right();
     if let Some(fault) = bar_of_store(w, slot, place) {
-        return faults(job, fault);
+        return Err(Stop::Faults(fault));
     }
     if input_waits(w, slot, console) {
-        return Decision::Waits(Wait::Input(console));
+        return Err(Stop::Waits(Wait::Input(console)));
     }
     let held = Held {
         place,
         byte: Word::new(u64::from(first_typed(w, console))),
     };
-    moves(Change::Take { console }, Some(held), next, input(ask, 2))
+    Ok(Part {
+        change: Change::Take { console },
+        held: Some(held),
+        next,
+        left: one_less(input(ask, 2)),
+    })
 }
 
 /// SIOT to a console if no test of its arguments stops it.
+#[inline(always)]
 #[tactic(auto, unfolding(its_plain::specs::View::view, its_world::specs::World::state_of))]
-fn puts_byte(w: &World, slot: u8, job: &Job, ask: &Ask) -> Decision
+fn puts_byte(w: &World, slot: u8, job: &Job, ask: &Ask, next: Word) -> Result<Part, Stop>
     requires slot { slot < slots }
-    requires size { has_size (next_pointer (input ask.now 1)) ≡ true }
-    ensures { result ≡ siot_out (seen_by w.now slot job.now ask.now) ask.now (next_pointer (input ask.now 1)) (input ask.now 2) (unwrap_or job.now.console 0) }
+    requires size { has_size next ≡ true }
+    ensures { part_of job.now ask.now result ≡ siot_out (seen_by w.now slot job.now ask.now) ask.now next (input ask.now 2) (unwrap_or job.now.console 0) }
 {
     let console = console_of(job);
-    let next = next_pointer(input(ask, 1));
     let Some(word) = w.core.word(slot, next.right()) else {
-        return faults(job, Fault::Mpv);
+        return Err(Stop::Faults(Fault::Mpv));
     };
     if output_waits(w, slot, console) {
-        return Decision::Waits(Wait::Output(console));
+        return Err(Stop::Waits(Wait::Output(console)));
     }
     let byte = shown(Word::new(load(next, word)));
-    moves(Change::Put { console, byte }, None, next, input(ask, 2))
+    Ok(Part {
+        change: Change::Put { console, byte },
+        held: None,
+        next,
+        left: one_less(input(ask, 2)),
+    })
 }

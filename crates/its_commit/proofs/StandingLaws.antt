@@ -23,7 +23,7 @@ use Rattle.its_calls.specs.declared.call.View.TheVariants as views
 use Rattle.its_world.specs.World.{state_of, frame_at, FrameBecomes}
 use Rattle.its_world.specs.declared.world.World.{World}
 use Rattle.its_commit.specs.Built.{backed}
-use Rattle.its_commit.specs.Carried.{standing_of, next_of, next_stays}
+use Rattle.its_commit.specs.Carried.{awake_next, standing_of, next_of, next_stays}
 use Rattle.its_commit.proofs.CommittingLaws.{owed_at}
 
 -- its ask, and how many of its stores are pending
@@ -77,6 +77,20 @@ goes_row old new s a k vs h x (Some (frames.Waiting f)) is e b =
     subst (λ (g : Frame). FrameBecomes old new s (Some g))
     (ap (λ (y : Next). gone_to y (request f.site (with_new_values f.ask vs))) e ∙ goes_to a (with_new_values f.ask vs) f.site (length vs) h (ap (λ (y : Ask). y.name) is.0 ∙ same_name f.ask vs)) b
 goes_row old new s a k vs h x _ is e b = tt
+
+-- the same of a call that is not SLEEP
+awake_is : (a : Ask) (n : ℕ) (h : Option Held) → sleeps (call_named a.name) ≡ false → awake_next n h ≡ next_of a n h
+awake_is a n (Some h) e = refl
+awake_is a n None e = sym (ap (λ (b : Bool). next_stays b n) e)
+
+pub awake_row : (old new : World) (s : ℕ) (vs : List ℕ) (h : Option Held) (x : Next) (o : Option Frame) → IfSome (standing_of o) (λ f. sleeps (call_named f.ask.name) ≡ false)
+    → x ≡ awake_next (length vs) h → IfSome (request_in o) (λ r. FrameBecomes old new s (Some (gone_to x (request r.site (with_new_values r.ask vs)))))
+    → IfSome (standing_of o) (λ f. FrameBecomes old new s (Some (after_going_on f.site (with_new_values f.ask vs) (length vs) h)))
+awake_row old new s vs h x (Some (frames.Holding f)) up e b =
+    goes_row old new s f.ask f.owes vs h x (Some (frames.Holding f)) (refl, refl) (e ∙ awake_is f.ask (length vs) h up) b
+awake_row old new s vs h x (Some (frames.Waiting f)) up e b =
+    goes_row old new s f.ask f.owes vs h x (Some (frames.Waiting f)) (refl, refl) (e ∙ awake_is f.ask (length vs) h up) b
+awake_row old new s vs h x _ up e b = tt
 
 -- it ends
 pub ends_row : (old new : World) (s : ℕ) (a : Ask) (k : ℕ) (os ps qs : List Owed) (b : Bool) (ss : List Store) (x : Exit) (o : Option Frame) → Asks o a k

@@ -47,6 +47,10 @@ abbrev pub next_of : Ask → ℕ → Option Held → Next
 next_of a n (Some h) = next.Moving h
 next_of a n None = next_stays (sleeps (call_named a.name)) n
 
+abbrev pub awake_next : ℕ → Option Held → Next
+awake_next n (Some h) = next.Moving h
+awake_next n None = next.Holding None n
+
 -- the letter of a trial with this decision
 abbrev pub pace_of : Decision → Pace
 pace_of (Waits r) = Wait

@@ -103,6 +103,28 @@ fn apply_one(w: &mut World, slot: u8, change: &Change)
     }
 }
 
+/// Makes one change, of those that SIOT makes in place (`apply_one`).
+#[inline(always)]
+#[tactic(auto, unfolding(its_stepped::specs::Commit::effect_on, its_plain::specs::Change::effect))]
+pub fn apply_part(w: &mut World, slot: u8, change: Change)
+    requires slot { slot < slots }
+    requires can { CanMake change slot (state_of w.old) }
+    requires tidy { Tidy w.old }
+    ensures row { state_of w.new ≡ effect_on change slot (state_of w.old) }
+    ensures pages { w.new.core.frames ≡ pages_changed change slot (state_of w.old) w.old.core.frames }
+    ensures tidy { Tidy w.new }
+{
+    match change {
+        Change::Move { channel, at } => w.move_to(slot, channel, at),
+        Change::Append { channel, word } => w.append(slot, channel, word),
+        Change::Take { console } => take(w, console),
+        Change::Put { console, byte } => put(w, console, byte),
+        Change::Send { link, word } => send(w, link, word),
+        Change::Receive { link } => receive(w, link),
+        other => apply_one(w, slot, &other),
+    }
+}
+
 /// Opens a closed channel of a slot's job on a console, a file, a new draft or another job.
 #[tactic(auto, using(crate::proofs::ChangeLaws::closed_elsewhere), unfolding(its_stepped::specs::Commit::effect_on, its_plain::specs::Change::effect))]
 fn open(w: &mut World, slot: u8, n: u8, on: Opened)

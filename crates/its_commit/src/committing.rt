@@ -1,25 +1,26 @@
 //! The decision of a call carried out.
-ghost use Rattle.std.specs.Prelude.{◌≡◌, ◌<◌, ◌≤◌, ◌++◌, ◌∷◌, [], true, Some, is_some, IfSome, length, map};
+ghost use Rattle.std.specs.Prelude.{◌≡◌, ◌<◌, ◌≤◌, ◌++◌, ◌∷◌, [], true, false, Some, is_some, IfSome, length, map};
 ghost use Rattle.its_records.specs.declared.calls.Owed.TheVariants.{Leave};
 ghost use Rattle.its_word.specs.Limits.{slots};
 ghost use Rattle.its_jobs.specs.Table.{job_at};
 ghost use Rattle.its_plain.specs.Arguments.{debts, with_new_values};
 ghost use Rattle.its_plain.specs.Decide.{call_named};
+ghost use Rattle.its_plain.specs.Tests.{goes};
 ghost use Rattle.its_stepped.specs.Commit.{after_commit, after_going_on, owed_parts, owed_store, sleeps};
 ghost use Rattle.its_stepped.specs.State.{ending, waiting};
 ghost use Rattle.its_world.specs.Tidy.{Tidy};
-ghost use Rattle.its_commit.specs.Built.{backed};
-ghost use Rattle.its_commit.specs.Pages.{pages_carried};
-ghost use Rattle.its_commit.specs.Carried.{standing_of, next_of, CanCommit, Endable};
+ghost use Rattle.its_commit.specs.Built.{backed, CanMake};
+ghost use Rattle.its_commit.specs.Pages.{pages_carried, pages_changed};
+ghost use Rattle.its_commit.specs.Carried.{awake_next, standing_of, next_of, CanCommit, Endable};
 ghost use Rattle.its_world.specs.World.{state_of, FrameBecomes, call_in};
 
 use super::carrying::owed_steps;
-use super::changes::apply;
+use super::changes::{apply, apply_part};
 use super::owed::owns_mark;
 use super::removal::remove_tree;
 use arrayvec::ArrayVec;
 use its_calls::{Next, View};
-use its_frame::{CallName, Decision, Held};
+use its_frame::{CallName, Change, Decision, Held};
 use its_records::{Ask, Exit, Owed};
 use its_word::{Store, Word};
 use its_world::World;
@@ -59,6 +60,31 @@ pub fn carry_out(w: &mut World, slot: u8, decision: Decision)
             apply(w, slot, &changes);
         }
     }
+}
+
+/// Carries out the decision that a part of the call of a slot's job is done: one change at once, then the new values of its last two
+/// arguments. The call is not SLEEP.
+#[inline(always)]
+pub fn carry_part(
+    w: &mut World,
+    slot: u8,
+    change: Change,
+    held: Option<Held>,
+    next: Word,
+    left: Word,
+)
+    requires slot { slot < slots }
+    requires job { is_some (job_at w.old.jobs slot) ≡ true }
+    requires stands { is_some (standing_of (call_in w.old slot)) ≡ true }
+    requires awake { IfSome (standing_of (call_in w.old slot)) (λ f. sleeps (call_named f.ask.name) ≡ false) }
+    requires ready { CanMake change slot (state_of w.old) }
+    requires tidy { Tidy w.old }
+    ensures row { IfSome (standing_of (call_in w.old slot)) (λ f. state_of w.new ≡ after_commit (state_of w.old) slot f.site f.ask f.owes (goes (change ∷ []) held (next ∷ left ∷ []))) }
+    ensures pages { w.new.core.frames ≡ pages_changed change slot (state_of w.old) w.old.core.frames }
+    ensures tidy { Tidy w.new }
+{
+    apply_part(w, slot, change);
+    go_on_awake(w, slot, held, next, left);
 }
 
 /// The call of a slot that can be committed: what it asks for, and how many of its last arguments are pending.
@@ -103,6 +129,34 @@ fn go_on(w: &mut World, slot: u8, held: Option<Held>, values: &[Word])
     let (ask, _) = standing(w, slot);
     let next = next_of(ask, values.len() as u8, held);
     w.go_on(slot, values, next);
+}
+
+/// A part of a call that is not SLEEP is done: its last two arguments have new values, whose stores are pending.
+#[inline(always)]
+fn go_on_awake(w: &mut World, slot: u8, held: Option<Held>, next: Word, left: Word)
+    requires slot { slot < slots }
+    requires stands { is_some (standing_of (call_in w.old slot)) ≡ true }
+    requires awake { IfSome (standing_of (call_in w.old slot)) (λ f. sleeps (call_named f.ask.name) ≡ false) }
+    requires tidy { Tidy w.old }
+    ensures row { IfSome (standing_of (call_in w.old slot)) (λ f. FrameBecomes w.old w.new slot (Some (after_going_on f.site (with_new_values f.ask (next ∷ left ∷ [])) 2 held))) }
+    ensures pages { w.new.core.frames ≡ w.old.core.frames }
+    ensures tidy { Tidy w.new }
+{
+    let stage = awake_next(held);
+    w.go_on(slot, &[next, left], stage);
+}
+
+/// The next stage of a call that is not SLEEP and of which a part is done; the new values of two arguments are pending.
+fn awake_next(held: Option<Held>) -> Next
+    ensures { result ≡ awake_next 2 held }
+{
+    match held {
+        Some(held) => Next::Moving(held),
+        None => Next::Holding {
+            page: None,
+            owes: 2,
+        },
+    }
 }
 
 /// The next stage of a call of which a part is done.

@@ -2,7 +2,7 @@
 //! removal of a job with all below it. Nothing here can be refused, and nothing here unwinds.
 //!
 //! Proved:
-//! - `carry_out` is exactly the commit of a decision (`row`). `apply` performs its changes (`row`), and `owed_steps`
+//! - `carry_out` is exactly the commit of a decision (`row`), and `carry_part` that of a part of SIOT. `apply` performs its changes (`row`), and `owed_steps`
 //!   lists what is pending; `first_owed` is the first pending word, and `owns_mark` says whose call the half made close is.
 //! - `remove_tree` is the removal of a job with all below it: their cores are given up, their consoles passed on, and
 //!   their ends of links closed (`removed`, `pages`, `cores`).
@@ -22,6 +22,6 @@ mod removal;
 
 pub use carrying::owed_steps;
 pub use changes::apply;
-pub use committing::{carry_out, standing};
+pub use committing::{carry_out, carry_part, standing};
 pub use owed::{first_owed, owns_mark};
 pub use removal::remove_tree;

@@ -48,6 +48,7 @@ pub fn unwind_one(w: &mut World, slot: u8)
 }
 
 /// The row of a frame.
+#[inline(always)]
 #[tactic(auto, using(crate::proofs::ApartLaws::off_one, crate::proofs::ApartLaws::off_same))]
 fn step(w: &mut World, slot: u8)
     requires slot { slot < slots }
@@ -115,6 +116,7 @@ fn back(w: &mut World, slot: u8)
 }
 
 /// A store is performed for a call, and the call goes on.
+#[inline(always)]
 #[tactic(auto, using(crate::proofs::ApartLaws::off_one))]
 fn pay(w: &mut World, slot: u8, store: Store, next: Next)
     requires slot { slot < slots }

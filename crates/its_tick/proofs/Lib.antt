@@ -13,3 +13,4 @@ pub mod FramesLaws
 pub mod StepsLaws
 pub mod RunningLaws
 pub mod WaitingLaws
+mod PartLaws

@@ -19,9 +19,9 @@ ghost use Rattle.its_tick.specs.Pages.{pages_in};
 ghost use Rattle.its_tick.specs.Ticks.{asked_in, pace_of, pace_decoded, state_decoded, ticked, IsClearing};
 
 use super::ready::make_ready;
-use call_core::{decide, reserves};
+use call_core::{decide, is_siot, part, reserves};
 use its_calls::{Next, View};
-use its_commit::{carry_out, standing};
+use its_commit::{carry_out, carry_part, standing};
 use its_frame::Decision;
 use its_pclsr::unwind_one;
 use its_records::Pace;
@@ -60,6 +60,7 @@ pub fn in_call(w: &mut World, slot: u8) -> Pace
 }
 
 /// One of the pending steps of a call.
+#[inline(never)]
 #[tactic(auto, using(crate::proofs::CallLaws::tidy_of))]
 fn pay(w: &mut World, slot: u8) -> Pace
     requires slot { slot < slots }
@@ -75,6 +76,7 @@ fn pay(w: &mut World, slot: u8) -> Pace
 }
 
 /// The block of a call is read.
+#[inline(never)]
 fn parse(w: &mut World, slot: u8) -> Pace
     requires slot { slot < slots }
     requires kept { Kept w.old }
@@ -88,6 +90,7 @@ fn parse(w: &mut World, slot: u8) -> Pace
 }
 
 /// The addresses and values of a call's arguments are found.
+#[inline(never)]
 fn fetch(w: &mut World, slot: u8) -> Pace
     requires slot { slot < slots }
     requires kept { Kept w.old }
@@ -140,6 +143,7 @@ fn set_fault(w: &mut World, slot: u8, fault: Fault)
 }
 
 /// Prepares the call to be tried: one that makes a page reserves it.
+#[inline(never)]
 fn prepare(w: &mut World, slot: u8, page: bool) -> Pace
     requires slot { slot < slots }
     requires kept { Kept w.old }
@@ -181,6 +185,7 @@ fn reserve(w: &mut World, slot: u8)
 }
 
 /// Clears the next quarter of the page that the call of a slot has reserved.
+#[inline(never)]
 fn clear_next(w: &mut World, slot: u8, clear: u8, owes: u8) -> Pace
     requires slot { slot < slots }
     requires kept { Kept w.old }
@@ -212,8 +217,50 @@ fn clear_quarter(w: &mut World, slot: u8, q: u8)
     w.core.clear_quarter(slot, q);
 }
 
-/// A call is tried: the world is made ready for it, it is decided, and that is carried out.
+/// A call is tried.
+#[inline]
 fn attempt(w: &mut World, slot: u8) -> Pace
+    requires slot { slot < slots }
+    requires kept { Kept w.old }
+    requires stands { is_some (standing_of (call_in w.old slot)) ≡ true }
+    requires clear { IfSome (standing_of (call_in w.old slot)) (λ f. IsTried f.page) }
+    ensures row { IfSome (raw_in w.old slot) (λ q. tick_in (state_of w.old) slot q (call_in w.old slot) ≡ ticked (state_of w.new) result) }
+    ensures pages { IfSome (raw_in w.old slot) (λ q. w.new.core.frames ≡ pages_in (state_of w.old) slot q (call_in w.old slot) w.old.core.frames) }
+    ensures tidy { Tidy w.new }
+{
+    let (ask, _) = standing(w, slot);
+    if is_siot(ask) {
+        attempt_siot(w, slot)
+    } else {
+        attempt_any(w, slot)
+    }
+}
+
+/// SIOT is tried. Most trials move one byte, and need neither a world that is made ready nor a decision as a value.
+#[inline(never)]
+#[tactic(auto, using(crate::proofs::TrialLaws::stands_job))]
+fn attempt_siot(w: &mut World, slot: u8) -> Pace
+    requires slot { slot < slots }
+    requires kept { Kept w.old }
+    requires stands { is_some (standing_of (call_in w.old slot)) ≡ true }
+    requires clear { IfSome (standing_of (call_in w.old slot)) (λ f. IsTried f.page) }
+    ensures row { IfSome (raw_in w.old slot) (λ q. tick_in (state_of w.old) slot q (call_in w.old slot) ≡ ticked (state_of w.new) result) }
+    ensures pages { IfSome (raw_in w.old slot) (λ q. w.new.core.frames ≡ pages_in (state_of w.old) slot q (call_in w.old slot) w.old.core.frames) }
+    ensures tidy { Tidy w.new }
+{
+    let (ask, _) = standing(w, slot);
+    match part(w, slot, ask) {
+        Some(part) => {
+            carry_part(w, slot, part.change, part.held, part.next, part.left);
+            Pace::Step
+        }
+        None => attempt_any(w, slot),
+    }
+}
+
+/// A call is tried: the world is made ready for it, it is decided, and that is carried out.
+#[inline(never)]
+fn attempt_any(w: &mut World, slot: u8) -> Pace
     requires slot { slot < slots }
     requires kept { Kept w.old }
     requires stands { is_some (standing_of (call_in w.old slot)) ≡ true }

@@ -1,27 +1,26 @@
 -- A test stops it, or a byte is moved.
-use Rattle.std.specs.Prelude.{false, unwrap_or, refl}
-use Rattle.std.proofs.Common.{sym, ◌∙◌}
+use Rattle.std.specs.Prelude.{false, refl, unwrap_or}
 use Rattle.its_plain.specs.Arguments.{input}
 use Rattle.its_plain.specs.CallTty.{siot_out}
-use Rattle.its_plain.specs.Transfer.{next_pointer}
 use Rattle.call_basic.specs.Seen.{seen_by}
-use Rattle.its_machine.proofs.StopLaws.{next_left, siot_goes, siot_stops}
+use Rattle.call_basic.proofs.PartLaws.{part_moves, part_stops, part_sized}
+use Rattle.its_plain.specs.Transfer.{next_pointer}
 use Rattle.call_tty.proofs.transfer.siot_out.Goals as goal
 
 pub puts_byte-requires-clause-size : goal.puts_byte-requires-clause-size
 puts_byte-requires-clause-size c =
-    next_left (seen_by c.args.w.now c.args.slot c.args.job.now c.args.ask.now) c.args.ask.now false false (sym c.stopped.ensures ∙ c.in-None.is)
-
-pub returns-in-Some : goal.returns-in-Some
-returns-in-Some c =
     let v = seen_by c.args.w.now c.args.slot c.args.job.now c.args.ask.now in
     let a = c.args.ask.now in
-    siot_stops v a false false false (siot_out v a (next_pointer (input a 1)) (input a 2) (unwrap_or c.args.job.now.console 0)) refl c.in-Some.decision
-    (sym c.stopped.ensures ∙ c.in-Some.is)
+    part_sized v c.args.job.now a false false c.next_byte.result (c.next_byte.ensures.stops c.args.job.now) c.in-Ok.next c.in-Ok.is c.next_byte.ensures.next
 
-pub returns-in-None : goal.returns-in-None
-returns-in-None c =
+pub returns-in-Err : goal.returns-in-Err
+returns-in-Err c =
     let v = seen_by c.args.w.now c.args.slot c.args.job.now c.args.ask.now in
     let a = c.args.ask.now in
-    c.puts_byte.ensures
-    ∙ siot_goes v a false false false (siot_out v a (next_pointer (input a 1)) (input a 2) (unwrap_or c.args.job.now.console 0)) refl (sym c.stopped.ensures ∙ c.in-None.is)
+    part_stops v c.args.job.now a false false c.next_byte.result (c.next_byte.ensures.stops c.args.job.now) false c.in-Err.stop (siot_out v a (next_pointer (input a 1)) (input a 2) (unwrap_or c.args.job.now.console 0)) refl c.in-Err.is
+
+pub returns-in-Ok : goal.returns-in-Ok
+returns-in-Ok c =
+    let v = seen_by c.args.w.now c.args.slot c.args.job.now c.args.ask.now in
+    let a = c.args.ask.now in
+    part_moves v c.args.job.now a false false c.next_byte.result (c.next_byte.ensures.stops c.args.job.now) false c.in-Ok.next (λ n. siot_out v a n (input a 2) (unwrap_or c.args.job.now.console 0)) _ refl c.in-Ok.is c.next_byte.ensures.next c.puts_byte.ensures

@@ -1,0 +1,45 @@
+-- A part of SIOT that moves a byte, or why it moves none, as decisions.
+-- No promise rests on this.
+use Rattle.std.specs.Prelude.{◌==◌, ◌&&◌, ◌||◌, ℕ, Bool, false, not, Option, Some, None, Result, Ok, Err, List, [], ◌∷◌}
+use Rattle.its_records.specs.declared.calls.Ask.{Ask}
+use Rattle.its_records.specs.declared.jobs.Job.{Job}
+use Rattle.its_frame.specs.declared.decision.Decision.{Decision}
+use Rattle.its_frame.specs.declared.decision.Decision.TheVariants as decisions
+use Rattle.its_plain.specs.Job.{bit_of, with_pending}
+use Rattle.its_plain.specs.Own.{exit_of, with_advance}
+use Rattle.its_plain.specs.Tests.{goes, number_at}
+use Rattle.call_basic.specs.declared.transfer.Part.{Part}
+use Rattle.call_basic.specs.declared.transfer.Stop.{Stop}
+use Rattle.call_basic.specs.declared.transfer.Stop.TheVariants.{Fails, Faults, Finishes, Waits}
+
+abbrev pub going : Part → Decision
+going p = goes (p.change ∷ []) p.held (p.next ∷ p.left ∷ [])
+
+-- what a job with these registers decides if SIOT moves no byte
+abbrev pub stop_of : Job → Ask → Stop → Decision
+stop_of j a (Fails n) = decisions.Ends (record { items = [] }) (record { items = number_at a.error n }) (exit_of (with_advance 1 j))
+stop_of j a (Faults f) = decisions.Ends (record { items = [] }) (record { items = [] }) (exit_of (with_pending j (bit_of f)))
+stop_of j a Finishes = decisions.Ends (record { items = [] }) (record { items = [] }) (exit_of (with_advance 2 j))
+stop_of j a (Waits r) = decisions.Waits r
+
+abbrev pub part_of : Job → Ask → Result Part Stop → Decision
+part_of j a (Ok p) = going p
+part_of j a (Err s) = stop_of j a s
+
+abbrev pub part_in : Result Part Stop → Option Part
+part_in (Ok p) = Some p
+part_in (Err s) = None
+
+abbrev pub stop_in : Job → Ask → Result ℕ Stop → Option Decision
+stop_in j a (Ok n) = None
+stop_in j a (Err s) = Some (stop_of j a s)
+
+-- whether a place is one of three
+abbrev pub is_met : ℕ → ℕ → ℕ → ℕ → Bool
+is_met p k n q = ((q == p) || (q == k)) || (q == n)
+
+-- two or three places that differ from each other and from another one
+abbrev pub are_unlike : List ℕ → ℕ → Bool
+are_unlike (a ∷ b ∷ []) n = (not (a == b) && not (a == n)) && not (b == n)
+are_unlike (a ∷ b ∷ c ∷ []) n = ((((not (a == b) && not (a == c)) && not (b == c)) && not (a == n)) && not (b == n)) && not (c == n)
+are_unlike _ n = false
