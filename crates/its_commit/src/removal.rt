@@ -1,26 +1,24 @@
 //! The removal of a job with all jobs below it.
-ghost use Rattle.std.specs.Prelude.{◌≡◌, ◌<◌, ℕ, Bool, true, false, Some, None, is_some, length, slice_index_or};
+ghost use Rattle.std.specs.Prelude.{◌≡◌, ◌<◌, ℕ, Bool, true, false, Some, None, is_some, length};
 ghost use Rattle.its_word.specs.Core.{no_core};
 ghost use Rattle.its_word.specs.Limits.{slots};
 ghost use Rattle.its_records.specs.Tree.{is_below};
-ghost use Rattle.its_records.specs.declared.jobs.Channel.TheVariants.{Closed};
 ghost use Rattle.its_core.specs.Cores.{core_at, clear_at};
 ghost use Rattle.its_core.specs.Frames.{frames_drop_all};
 ghost use Rattle.its_frame.specs.declared.change.Change.TheVariants.{Remove};
 ghost use Rattle.its_jobs.specs.Table.{job_at, superior_at, in_tree};
-ghost use Rattle.its_plain.specs.Change.{superiors, after_shut, is_gone, holder_after_removal};
+ghost use Rattle.its_plain.specs.Change.{superiors, after_shut, is_gone};
 ghost use Rattle.its_stepped.specs.Commit.{effect_on};
 ghost use Rattle.its_stepped.specs.Sound.{Sound};
 ghost use Rattle.its_world.specs.Tidy.{Tidy};
 ghost use Rattle.its_commit.specs.Pages.{pages_swept};
-ghost use Rattle.its_commit.specs.Removal.{channel_left, Closes, Empties, Sweeps, Swept};
+ghost use Rattle.its_commit.specs.Removal.{Closes, Empties, Sweeps, Swept};
 ghost use Rattle.its_world.specs.World.{state_of, in_raw, with_frames, CoreBecomes};
 
 #[cfg(test)]
 mod tests;
 
-use its_jobs::Jobs;
-use its_records::Channel;
+use its_machine::{is_removed, leave_each, pass_on};
 use its_word::SLOTS;
 use its_world::{World, forget_removed};
 
@@ -128,67 +126,7 @@ fn shut_channels(w: &mut World, root: u8, slot: u8)
     ensures tidy { Tidy w.new }
 {
     if let Some(mut job) = w.registers(slot) {
-        shut_each(&w.jobs, root, &mut job.channels);
+        leave_each(&w.jobs, root, &mut job.channels);
         w.put_registers(slot, job);
     }
-}
-
-/// Closes those of these channels that are on jobs of a tree.
-#[tactic(auto, using(its_machine::proofs::TurningLaws::turning_start, its_machine::proofs::TurningLaws::turning_more, its_machine::proofs::TurningLaws::turning_end))]
-fn shut_each(jobs: &Jobs, root: u8, channels: &mut [Channel])
-    ensures { (n : ℕ) → slice_index_or channels.new n Closed ≡ channel_left (in_tree (superior_at jobs.now) root) (slice_index_or channels.old n Closed) }
-{
-    for n in 0..channels.len() {
-        channels[n] = left(jobs, root, channels[n]);
-    }
-}
-
-/// Passes the consoles that jobs of a tree hold to the superior of the root, or to nobody if it has none.
-#[tactic(auto, using(its_machine::proofs::TurningLaws::turning_start, its_machine::proofs::TurningLaws::turning_more, its_machine::proofs::TurningLaws::turning_end))]
-fn pass_on(jobs: &Jobs, root: u8, holders: &mut [Option<u8>])
-    ensures { (c : ℕ) → slice_index_or holders.new c None ≡ holder_after_removal (in_tree (superior_at jobs.now) root) (superior_at jobs.now root) (slice_index_or holders.old c None) }
-{
-    let heir = jobs.superior(root);
-    for c in 0..holders.len() {
-        holders[c] = passed(jobs, root, heir, holders[c]);
-    }
-}
-
-/// The holder of a console after the removal of a tree, whose consoles pass to an heir.
-fn passed(jobs: &Jobs, root: u8, heir: Option<u8>, holder: Option<u8>) -> Option<u8>
-    ensures { result ≡ holder_after_removal (in_tree (superior_at jobs.now) root) heir holder }
-{
-    match holder {
-        Some(h) => {
-            if is_removed(jobs, root, h) {
-                heir
-            } else {
-                Some(h)
-            }
-        }
-        None => None,
-    }
-}
-
-/// A channel after the removal of a tree.
-fn left(jobs: &Jobs, root: u8, channel: Channel) -> Channel
-    ensures { result ≡ channel_left (in_tree (superior_at jobs.now) root) channel }
-{
-    match channel {
-        Channel::Usr { slot, write, at } => {
-            if is_removed(jobs, root, slot) {
-                Channel::Closed
-            } else {
-                Channel::Usr { slot, write, at }
-            }
-        }
-        other => other,
-    }
-}
-
-/// Whether the job of a slot is that of the root or below it.
-fn is_removed(jobs: &Jobs, root: u8, slot: u8) -> bool
-    ensures { result ≡ in_tree (superior_at jobs.now) root slot }
-{
-    slot == root || jobs.is_below(root, slot)
 }

@@ -5,7 +5,7 @@ ghost use Rattle.its_plain.specs.OperatorClock.{clock_end};
 ghost use Rattle.its_decide.specs.Called.{looks};
 
 use super::caller::Caller;
-use super::ends::{ends, store_at};
+use super::ends::{ends, goes_on, store_at};
 use arrayvec::ArrayVec;
 use its_frame::{Change, Decision, Wait, error};
 use its_ints::{dismiss as dismissed, popped};
@@ -47,13 +47,7 @@ impl Caller<'_> {
             return self.faults(Fault::Wro);
         }
         let left = WORDS.saturating_sub(self.seen.clock).saturating_sub(n);
-        let mut values = ArrayVec::new();
-        values.push(Word::new(left));
-        Decision::Goes {
-            changes: ArrayVec::new(),
-            held: None,
-            values,
-        }
+        goes_on(Word::new(left))
     }
 
     /// REALT n: the job has an alarm from now on, of period n, whose next time is n thirtieths from now; with 0 it has none. Error 22

@@ -1,5 +1,5 @@
 //! The ways in which a call ends.
-ghost use Rattle.std.specs.Prelude.{◌≡◌, ◌<◌, ◌-◌, ◌^◌, ◌∷◌, []};
+ghost use Rattle.std.specs.Prelude.{◌≡◌, ◌<◌, ◌-◌, ◌^◌, ◌∷◌, [], None};
 ghost use Rattle.std.specs.Option.{option_to_list};
 ghost use Rattle.its_frame.specs.declared.decision.Decision.TheVariants.{Ends};
 ghost use Rattle.its_plain.specs.Job.{IOC as IOC_BIT, bit_of, with_pending};
@@ -92,15 +92,28 @@ impl Caller<'_> {
 pub(crate) fn moves(change: Change, held: Option<Held>, next: Word, count: Word) -> Decision
     ensures { result ≡ goes (change ∷ []) held (next ∷ (count - 1) ∷ []) }
 {
-    let mut changes = ArrayVec::new();
-    changes.push(change);
     let mut values = ArrayVec::new();
     values.push(next);
     values.push(Word::new(count.value().saturating_sub(1)));
+    let mut changes = ArrayVec::new();
+    changes.push(change);
     Decision::Goes {
-        changes,
-        held,
         values,
+        held,
+        changes,
+    }
+}
+
+/// A part of the call is done: nothing changes outside its job's words and registers, and the last argument becomes another.
+pub(crate) fn goes_on(value: Word) -> Decision
+    ensures { result ≡ goes [] None (value ∷ []) }
+{
+    let mut values = ArrayVec::new();
+    values.push(value);
+    Decision::Goes {
+        values,
+        held: None,
+        changes: ArrayVec::new(),
     }
 }
 
@@ -113,9 +126,9 @@ pub(crate) fn ends(change: Option<Change>, stores: ArrayVec<Store, 2>, exit: Exi
         changes.push(change);
     }
     Decision::Ends {
-        changes,
-        stores,
         exit,
+        stores,
+        changes,
     }
 }
 

@@ -17,8 +17,14 @@ use its_frame::{Change, Decision, error};
 use its_records::Channel;
 use its_word::MAPPED_PAGES;
 
+/// The operation that drops a page.
+const DROP: u64 = 0;
+
 /// The operation that makes a page of zeros.
 const MAKE: u64 = 1;
+
+/// The operation that makes a page writable.
+const WRITABLE: u64 = 3;
 
 /// The highest operation.
 const OPERATIONS: u64 = 3;
@@ -91,13 +97,16 @@ impl Caller<'_> {
 fn page_changed(operation: u64, slot: u8, page: u8) -> Change
     ensures { result ≡ page_changed operation slot page }
 {
-    match operation {
-        0 => Change::Unmap { slot, page },
-        1 => Change::Map { slot, page },
-        _ => Change::Protect {
+    if operation == DROP {
+        Change::Unmap { slot, page }
+    } else if operation == MAKE {
+        Change::Map { slot, page }
+    } else {
+        let writable = operation == WRITABLE;
+        Change::Protect {
             slot,
             page,
-            writable: operation == 3,
-        },
+            writable,
+        }
     }
 }

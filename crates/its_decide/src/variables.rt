@@ -4,7 +4,7 @@ ghost use Rattle.its_word.specs.Limits.{slots};
 ghost use Rattle.its_plain.specs.Arguments.{input};
 ghost use Rattle.its_frame.specs.Variables.{variable_named};
 ghost use Rattle.its_plain.specs.CallBasic.{by_oneself, by_superior, other_variable, own_variable, usrvar, value_of_other};
-ghost use Rattle.its_plain.specs.Own.{with_advance, exit_of, number_or_ones, variable_of, with_variable};
+ghost use Rattle.its_plain.specs.Own.{with_advance, exit_of, variable_of, with_variable};
 ghost use Rattle.its_decide.specs.Called.{looks};
 ghost use Rattle.its_decide.specs.Seen.{raw_with};
 
@@ -13,10 +13,7 @@ use super::caller::{Caller, Seen};
 use super::ends::ends;
 use its_frame::{Change, Decision, Exit, Variable, error};
 use its_records::{Channel, Job};
-use its_word::{Word, pc_word};
-
-/// A word of ones, which means that there is no number.
-const ONES: u64 = 0o777777777777;
+use its_word::Word;
 
 impl Caller<'_> {
     /// USRVAR job, name, optional new value: the output gets the value before, and then the new value is set. Errors 4 if the channel
@@ -122,33 +119,10 @@ fn by_superior(variable: Variable) -> bool
     }
 }
 
-/// A number, or ones if there is none.
-fn number_or_ones(number: Option<u8>) -> Word
-    ensures { result ≡ number_or_ones number }
-{
-    Word::new(number.map_or(ONES, u64::from))
-}
-
 /// The value of a variable of the job of a slot, which says that its slot is `index`.
-#[tactic(auto, unfolding(its_plain::specs::Own::variable_of))]
 fn variable_of(seen: &Seen<'_>, index: u8, slot: u8, job: &Job, variable: Variable) -> Word
     requires { slot < slots }
     ensures { result ≡ variable_of index (raw_with seen.now slot job.now) variable }
 {
-    match variable {
-        Variable::Uname => job.uname,
-        Variable::Jname => job.jname,
-        Variable::Uind => Word::new(u64::from(index)),
-        Variable::Suppro => number_or_ones(seen.jobs.superior(slot)),
-        Variable::Cnsl => number_or_ones(job.console),
-        Variable::Pages => Word::new(u64::from(seen.core.pages(slot))),
-        Variable::Upc => pc_word(job.flags, job.pc),
-        Variable::Ustp => Word::new(u64::from(job.stopped)),
-        Variable::Pirqc => job.pend1,
-        Variable::Ifpir => job.pend2,
-        Variable::Mask => job.mask1,
-        Variable::Msk2 => job.mask2,
-        Variable::Df1 => job.defer1,
-        Variable::Df2 => job.defer2,
-    }
+    its_machine::variable_of(seen.core, seen.jobs, index, slot, job, variable)
 }

@@ -1,5 +1,5 @@
 -- The removal of a job with all jobs below it.
-use Rattle.std.specs.Prelude.{if◌then◌else◌, ◌≡◌, ◌≤◌, ◌<◌, ℕ, ◌+◌, Bool, true, false, Option, Some, None, List, [], length, option_map, slice_set, slice_index_or, refl}
+use Rattle.std.specs.Prelude.{if◌then◌else◌, ◌≡◌, ◌≤◌, ◌<◌, ℕ, ◌+◌, Bool, true, false, Option, Some, None, List, [], option_map, slice_index_or, refl}
 use Rattle.std.proofs.Common.{sym, ◌∙◌, ap, subst, inl, inr, arith}
 use Rattle.std.proofs.lemmas.Bool.{cases_eq, cases_lt, cases_Bool, both_ways}
 use Rattle.std.proofs.lemmas.List.{get_or_past}
@@ -7,7 +7,7 @@ use Rattle.its_word.specs.Core.{Core, no_core}
 use Rattle.its_word.specs.Limits.{slots}
 use Rattle.its_word.specs.Only.{Only}
 use Rattle.its_records.specs.declared.jobs.Channel.{Channel}
-use Rattle.its_records.specs.declared.jobs.Channel.TheVariants.{Closed, Usr}
+use Rattle.its_records.specs.declared.jobs.Channel.TheVariants.{Closed}
 use Rattle.its_records.specs.declared.jobs.Job.{Job}
 use Rattle.its_core.specs.Cores.{core_at, clear_at}
 use Rattle.its_files.specs.Files.{Store, directory}
@@ -19,20 +19,18 @@ use Rattle.its_plain.specs.Machine.{Machine, Shut, Symbol, Whole}
 use Rattle.its_plain.specs.OperatorClock.{clock_end}
 use Rattle.its_plain.specs.Own.{on_channel}
 use Rattle.its_plain.proofs.MachineLaws.{machine_is}
-use Rattle.its_machine.specs.Across.{channel_by, channel_at, channel_left as left_of, Across}
+use Rattle.its_machine.specs.Across.{channel_by, channel_at, channel_left, Across}
 use Rattle.its_machine.specs.Can.{chan_in}
 use Rattle.its_machine.specs.Parts.{alarm_at, bare, chan_of, console_at, holder_at, raw_at, raw_of, symbols_at}
 use Rattle.its_machine.proofs.AcrossLaws.{across_alike}
 use Rattle.its_machine.proofs.CoreLaws.{same_clear}
 use Rattle.its_machine.proofs.LeftLaws.{left_alike, left_chan, raw_superior, shut_here, shut_there}
 use Rattle.its_machine.proofs.PartLaws.{on_slot_here, on_slot_other}
-use Rattle.its_machine.proofs.TurningLaws.{Turning}
-use Rattle.its_machine.proofs.TurningLaws as turnings
 use Rattle.its_direct.specs.Clock.{AlarmBecomes}
 use Rattle.its_direct.specs.Effects.{Becomes}
 use Rattle.its_direct.specs.Lines.{SymbolsBecome}
 use Rattle.its_direct.specs.Plain.{machine_of, Aside, Tidy, JobBecomes}
-use Rattle.its_direct.specs.Removal.{channel_left, Bares, Closes, ClosesTree, Leaves, Shares, SlotKept, SlotSwept, Sweeps, Swept}
+use Rattle.its_direct.specs.Removal.{Bares, Closes, ClosesTree, Leaves, Shares, SlotKept, SlotSwept, Sweeps, Swept}
 use Rattle.its_direct.specs.declared.plain.Plain.{Plain}
 use Rattle.its_direct.proofs.ChannelLaws.{chan_shut, placed_bare}
 use Rattle.its_direct.proofs.SlotLaws.{IsPlaced}
@@ -107,18 +105,6 @@ tree_kept old now r n b is is_not h = record {
 
 pub tree_end : (gone : ℕ → Bool) (old now : Plain) (n : ℕ) → slots ≤ n → ClosesTree gone old now n → ClosesTree gone old now slots
 tree_end gone old now n le h = record { jobs = h.jobs; rest = h.rest; superiors = h.superiors; place = h.place; touched = h.touched; closed = λ k i l f m. h.closed k i (omega arith) f m }
-
--- turning the entries of a list, one by one
-pub turning_start : {X : Type 0} → (f : X → X) (d : X) (xs : List X) → Turning f d xs xs 0
-turning_start f d xs = turnings.turning_start f d xs
-
-pub turning_more : {X : Type 0} → (f : X → X) (d : X) (old new : List X) (n : ℕ) (x y : X) → n < length new → x ≡ slice_index_or new n d → y ≡ f x
-    → Turning f d old new n → Turning f d old (slice_set new n y) (n + 1)
-turning_more f d old new n x y l e h s = turnings.turning_more f d old new n x y l e h s
-
-pub turning_end : {X : Type 0} → (f : X → X) (d : X) (old new : List X) (n : ℕ) → f d ≡ d → length old ≤ n → Turning f d old new n
-    → (k : ℕ) → slice_index_or new k d ≡ f (slice_index_or old k d)
-turning_end f d old new n past l s k = turnings.turning_end f d old new n past l s k
 
 -- the slot of a job that is to go
 by_gone : {X : Type 0} (b : Bool) (x y : X) → b ≡ true → x ≡ (if b then x else y)
@@ -285,14 +271,10 @@ pub swept_end : (gone : ℕ → Bool) (old now : Plain) (n : ℕ) → slots ≤ 
 swept_end gone old now n le h ge = let e : n ≡ slots = omega arith in subst (Swept gone old now) e h
 
 -- what is left of the jobs that stay
-left_same : (gone : ℕ → Bool) (c : Channel) → channel_left gone c ≡ left_of gone c
-left_same gone (Usr s w at) = refl
-left_same gone _ = refl
-
 raw_left : (x : Store) (c : Core) (u : Option ℕ) (a : Option (ℕ × ℕ)) (gone : ℕ → Bool) (i j : Option Job) → Leaves gone i j → raw_of x c u a j ≡ option_map (after_shut gone) (raw_of x c u a i)
 raw_left x c u a gone (Some i) (Some j) h =
     let b : bare j ≡ bare i = let e = h.bare in cc in
-    λ t. Some (record { core = c; job = b t; superior = u; channels = λ n. (ap (chan_of x) (h.chans n ∙ left_same gone (slice_index_or i.channels n Closed)) ∙ left_chan x gone (slice_index_or i.channels n Closed)) t; alarm = a })
+    λ t. Some (record { core = c; job = b t; superior = u; channels = λ n. (ap (chan_of x) (h.chans n) ∙ left_chan x gone (slice_index_or i.channels n Closed)) t; alarm = a })
 raw_left x c u a gone None None h = refl
 raw_left x c u a gone (Some i) None h = let e = h.bare in cc
 raw_left x c u a gone None (Some j) h = let e = h.bare in cc
@@ -430,7 +412,7 @@ module _ (old mid new : Plain) (r : ℕ) (low : r < slots) (tree : IsTree old.jo
   stripped_tidy = record {
     unreserved = λ k. ap (λ c. clear_at c k) b.core ∙ b.swept.shares.reserved k ∙ tidy.unreserved k;
     unmarked = ap (λ (x : Store). x.mark) files_new ∙ tidy.unmarked;
-    across = subst (λ (x : Store). Across x new.jobs) (sym files_new) (across_alike old.files old.jobs new.jobs tidy.across (λ k n. left_alike (in_tree (superior_at old.jobs) r) (channel_at old.jobs k n) (channel_at new.jobs k n) (channels_new k n ∙ left_same (in_tree (superior_at old.jobs) r) (channel_at old.jobs k n))));
+    across = subst (λ (x : Store). Across x new.jobs) (sym files_new) (across_alike old.files old.jobs new.jobs tidy.across (λ k n. left_alike (in_tree (superior_at old.jobs) r) (channel_at old.jobs k n) (channel_at new.jobs k n) (channels_new k n)));
     blank = λ k h. elim (cases_Bool (in_tree (superior_at old.jobs) r k)) [
       | inl g ↦ core_new k ∙ sym (by_gone (in_tree (superior_at old.jobs) r k) no_core (core_at old.core k) g)
       | inr f ↦ core_new k ∙ sym (by_kept (in_tree (superior_at old.jobs) r k) no_core (core_at old.core k) f) ∙ tidy.blank k (none_new k f h)

@@ -3,27 +3,16 @@
 use Rattle.std.specs.Prelude.{if◌then◌else◌, ◌≡◌, ◌≢◌, ◌≤◌, ◌<◌, ℕ, Bool, true, false, Option, None, [], option_map}
 use Rattle.its_word.specs.Core.{no_core}
 use Rattle.its_word.specs.Only.{Only}
-use Rattle.its_records.specs.declared.jobs.Channel.{Channel}
 use Rattle.its_records.specs.declared.jobs.Channel.TheVariants as channels
 use Rattle.its_records.specs.declared.jobs.Job.{Job}
 use Rattle.its_core.specs.Cores.{core_at, clear_at}
 use Rattle.its_jobs.specs.Table.{job_at}
 use Rattle.its_plain.specs.Machine.{Shut}
-use Rattle.its_machine.specs.Across.{channel_by}
+use Rattle.its_machine.specs.Across.{channel_by, channel_left}
 use Rattle.its_machine.specs.Can.{chan_in}
 use Rattle.its_machine.specs.Parts.{alarm_at, bare, symbols_at}
 use Rattle.its_direct.specs.Plain.{machine_of}
 use Rattle.its_direct.specs.declared.plain.Plain.{Plain}
-
--- a channel on a job that is gone is closed
-abbrev pub channel_left : (ℕ → Bool) → Channel → Channel
-channel_left gone (channels.Usr s w at) = if gone s then channels.Closed else channels.Usr s w at
-channel_left gone channels.Closed = channels.Closed
-channel_left gone channels.TtyIn = channels.TtyIn
-channel_left gone channels.TtyOut = channels.TtyOut
-channel_left gone (channels.Reading f at) = channels.Reading f at
-channel_left gone (channels.Writing d) = channels.Writing d
-channel_left gone (channels.Link l w) = channels.Link l w
 
 -- the channels of slot s below m are closed: of the machine all jobs but its job, and all but jobs, is as it was
 pub record Closes (old new : Plain) (s m : ℕ) : Type 0 where

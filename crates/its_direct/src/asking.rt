@@ -343,10 +343,9 @@ fn asked(block: &Block, parts: Parts, decode: Places) -> Ask
 fn row_named(name: Word) -> Option<CallRow>
     ensures { result ≡ row_named name }
 {
-    match CallName::named(name) {
-        Some(CallName::Iot) => None,
-        Some(call) => Some(call.row()),
-        None => None,
+    match CallName::named(name)? {
+        CallName::Iot => None,
+        call => Some(call.row()),
     }
 }
 
@@ -355,15 +354,11 @@ fn row_named(name: Word) -> Option<CallRow>
 fn error_by(row: Option<CallRow>, inputs: usize, outputs: usize, excess: bool) -> u8
     ensures { result ≡ error_by row inputs outputs excess }
 {
-    let Some(r) = row else {
-        return error::NO_CALL;
-    };
-    if inputs < r.least_in || outputs < r.least_out {
-        error::TOO_FEW
-    } else if inputs > r.most_in || outputs > r.most_out || excess {
-        error::TOO_MANY
-    } else {
-        0
+    match row {
+        None => error::NO_CALL,
+        Some(r) if inputs < r.least_in || outputs < r.least_out => error::TOO_FEW,
+        Some(r) if inputs > r.most_in || outputs > r.most_out || excess => error::TOO_MANY,
+        Some(_) => 0,
     }
 }
 

@@ -2,8 +2,6 @@
 ghost use Rattle.std.specs.Prelude.{◌≡◌, ◌<◌, ◌≤◌, ◌+◌, ◌^◌, Some, Err, OnOk, OnErr, IfErr, nat_lt};
 ghost use Rattle.its_word.specs.Limits.{slots};
 ghost use Rattle.its_plain.specs.Alarm.{time_after};
-ghost use Rattle.its_plain.specs.CallBasic.{longest_period};
-ghost use Rattle.its_plain.specs.Job.{ALR as ALR_BIT, with_pending};
 ghost use Rattle.its_plain.specs.OperatorClock.{after_clock, clock_end};
 ghost use Rattle.its_stepped.specs.Alarmed.{Alarmed};
 ghost use Rattle.its_machine.specs.Parts.{alarm_at};
@@ -12,8 +10,9 @@ ghost use Rattle.its_records.specs.Refusals.{reason_of};
 ghost use Rattle.its_direct.specs.Clock.{Clocks, Periods, RangAt, RangBelow};
 
 use super::plain::Plain;
-use its_records::{Job, Refusal};
-use its_word::{ALR, SLOTS, Word};
+use its_machine::{time_after, with_alr};
+use its_records::Refusal;
+use its_word::SLOTS;
 
 /// The clock stays below this many thirtieths.
 const CLOCK_END: u64 = 0o200000000000;
@@ -114,27 +113,4 @@ fn in_time(clock: u64, n: u64) -> bool
     ensures { result ≡ nat_lt (clock + n) clock_end }
 {
     clock < CLOCK_END && n < CLOCK_END - clock
-}
-
-/// Registers with ALR set.
-fn with_alr(job: Job) -> Job
-    ensures { result ≡ with_pending job ALR_BIT }
-{
-    Job {
-        pend1: job.pend1 | Word::new(ALR),
-        ..job
-    }
-}
-
-/// The next time of an alarm with this period and next time that goes at a clock: it gains the least multiple of the period
-/// that brings it above the clock.
-#[tactic(auto, using(its_machine::proofs::TimeLaws::next_time, its_machine::proofs::TimeLaws::next_fits))]
-fn time_after(period: u64, next: u64, clock: u64) -> u64
-    requires some { 1 ≤ period }
-    requires most { period ≤ longest_period }
-    requires below { clock < clock_end }
-    requires due { next ≤ clock }
-    ensures { result ≡ time_after clock (period, next) }
-{
-    clock + period - (clock - next) % period
 }

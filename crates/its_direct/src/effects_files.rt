@@ -124,12 +124,12 @@ impl Plain {
         ensures tidy { Tidy self.new }
     {
         match self.channel(slot, n) {
-            Channel::Reading { file, .. } => {
-                self.files.close_read(file);
-                self.set_channel(slot, n, Channel::Closed);
-            }
             Channel::Writing { draft } => {
                 self.files.discard(draft);
+                self.set_channel(slot, n, Channel::Closed);
+            }
+            Channel::Reading { file, .. } => {
+                self.files.close_read(file);
                 self.set_channel(slot, n, Channel::Closed);
             }
             _ => self.set_channel(slot, n, Channel::Closed),

@@ -1,18 +1,17 @@
 //! The removal of a job with all jobs below it: their channels, ends of links, pages, alarms, symbols and consoles go with them.
-ghost use Rattle.std.specs.Prelude.{◌≡◌, ◌<◌, [], ℕ, true, false, None, slice_index_or};
+ghost use Rattle.std.specs.Prelude.{◌≡◌, ◌<◌, [], ℕ, true, false, None};
 ghost use Rattle.its_word.specs.Limits.{slots};
 ghost use Rattle.its_records.specs.declared.jobs.Channel.TheVariants.{Closed};
 ghost use Rattle.its_jobs.specs.Table.{superior_at, in_tree};
-ghost use Rattle.its_plain.specs.Change.{holder_after_removal, after_removal, superiors};
+ghost use Rattle.its_plain.specs.Change.{after_removal, superiors};
 ghost use Rattle.its_machine.specs.Across.{channel_at};
 ghost use Rattle.its_direct.specs.Effects.{Becomes};
 ghost use Rattle.its_direct.specs.Lines.{SymbolsBecome};
 ghost use Rattle.its_direct.specs.Plain.{machine_of, Tidy};
-ghost use Rattle.its_direct.specs.Removal.{channel_left, Bares, Closes, ClosesTree, Sweeps, Swept};
+ghost use Rattle.its_direct.specs.Removal.{Bares, Closes, ClosesTree, Sweeps, Swept};
 
 use super::plain::Plain;
-use its_jobs::Jobs;
-use its_records::Channel;
+use its_machine::{is_removed, leave_each, pass_on};
 use its_word::SLOTS;
 
 /// How many channels a job has.
@@ -130,52 +129,4 @@ impl Plain {
             self.put_job(slot, job);
         }
     }
-}
-
-/// Closes those of these channels that are on jobs of a tree.
-#[tactic(auto, using(crate::proofs::RemovalLaws::turning_start, crate::proofs::RemovalLaws::turning_more, crate::proofs::RemovalLaws::turning_end))]
-fn leave_each(jobs: &Jobs, root: u8, channels: &mut [Channel])
-    ensures { (n : ℕ) → slice_index_or channels.new n Closed ≡ channel_left (in_tree (superior_at jobs.now) root) (slice_index_or channels.old n Closed) }
-{
-    for n in 0..channels.len() {
-        channels[n] = left(jobs, root, channels[n]);
-    }
-}
-
-/// Passes the consoles that jobs of a tree hold to the superior of the root, or to nobody if it has none.
-#[tactic(auto, using(crate::proofs::RemovalLaws::turning_start, crate::proofs::RemovalLaws::turning_more, crate::proofs::RemovalLaws::turning_end))]
-fn pass_on(jobs: &Jobs, root: u8, holders: &mut [Option<u8>])
-    ensures { (c : ℕ) → slice_index_or holders.new c None ≡ holder_after_removal (in_tree (superior_at jobs.now) root) (superior_at jobs.now root) (slice_index_or holders.old c None) }
-{
-    let heir = jobs.superior(root);
-    for c in 0..holders.len() {
-        holders[c] = passed(jobs, root, heir, holders[c]);
-    }
-}
-
-/// The holder of a console after the removal of a tree, whose consoles pass to an heir.
-fn passed(jobs: &Jobs, root: u8, heir: Option<u8>, holder: Option<u8>) -> Option<u8>
-    ensures { result ≡ holder_after_removal (in_tree (superior_at jobs.now) root) heir holder }
-{
-    match holder {
-        Some(h) if is_removed(jobs, root, h) => heir,
-        other => other,
-    }
-}
-
-/// A channel after the removal of a tree.
-fn left(jobs: &Jobs, root: u8, channel: Channel) -> Channel
-    ensures { result ≡ channel_left (in_tree (superior_at jobs.now) root) channel }
-{
-    match channel {
-        Channel::Usr { slot, .. } if is_removed(jobs, root, slot) => Channel::Closed,
-        other => other,
-    }
-}
-
-/// Whether the job of a slot is that of the root or below it.
-fn is_removed(jobs: &Jobs, root: u8, slot: u8) -> bool
-    ensures { result ≡ in_tree (superior_at jobs.now) root slot }
-{
-    slot == root || jobs.is_below(root, slot)
 }

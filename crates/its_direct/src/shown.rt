@@ -2,7 +2,6 @@
 ghost use Rattle.std.specs.Prelude.{◌≡◌, ◌<◌, ◌≤◌, ◌^◌, Ok, Err, IfOk, IfErr, option_map};
 ghost use Rattle.its_word.specs.Limits.{slots};
 ghost use Rattle.its_core.specs.Cores.{core_at};
-ghost use Rattle.its_plain.specs.Job.{pc_word};
 ghost use Rattle.its_plain.specs.Machine.{words_at};
 ghost use Rattle.its_plain.specs.OperatorJobs.{examined, shown, state_shown};
 ghost use Rattle.its_plain.specs.OperatorSymbols.{symbol_shown};
@@ -13,9 +12,9 @@ ghost use Rattle.its_records.specs.Refusals.{reason_of};
 use super::plain::Plain;
 use arrayvec::ArrayVec;
 use its_core::Core;
-use its_machine::nearest;
-use its_records::{Job, JobShow, Refusal};
-use its_word::{ADDRESSES, Word, pc_word};
+use its_machine::{nearest, shown};
+use its_records::{JobShow, Refusal};
+use its_word::{ADDRESSES, Word};
 
 impl Plain {
     /// EXAM and LIST: up to eight words of a slot, from an address on. NoJob if the slot is empty, NoPage if one of their pages is
@@ -77,25 +76,4 @@ fn words_from(core: &Core, slot: u8, a: u32, n: u32) -> Option<ArrayVec<Word, 8>
         }
     }
     Some(words)
-}
-
-/// What STATE shows of a job with this superior and this nearest symbol.
-fn shown(job: &Job, superior: Option<u8>, symbol: Option<(Word, u32)>) -> JobShow
-    ensures { result ≡ shown job.now superior symbol }
-{
-    JobShow {
-        u: job.uname,
-        j: job.jname,
-        sup: superior,
-        con: job.console,
-        run: !job.stopped,
-        pc: pc_word(job.flags, job.pc),
-        p1: job.pend1,
-        p2: job.pend2,
-        m1: job.mask1,
-        m2: job.mask2,
-        d1: job.defer1,
-        d2: job.defer2,
-        symbol,
-    }
 }

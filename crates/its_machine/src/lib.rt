@@ -1,18 +1,27 @@
 //! The plain machine of given cores, jobs, consoles, files and links, as definitions in `specs/` and laws in `proofs/`; and
-//! the contents of a machine, in either form, at its beginning. Here is also the table of a job's symbols.
+//! the contents of a machine, in either form, at its beginning. Here is also the table of a job's symbols, and what both forms write in the
+//! same way: what STATE shows and the values of variables, an alarm that goes, and what a removal does to channels and holders.
 //!
 //! Proved:
 //! - The contents of either form of the machine at its beginning.
 //! - A `SymbolTable` keeps up to 512 symbols in the order in which they are given, and only its `open` takes memory. `nearest` is the
 //!   symbol that STATE shows.
+//! - What STATE shows of a job (`shown`), and the value of a variable (`variable_of`), are the definition's; so are ALR and the next time
+//!   of an alarm that goes (`with_alr`, `time_after`), and channels and holders after a removal (`leave_each`, `pass_on`).
 //! - What a call decides is possible (`CallCanLaws`).
 //! - A delivery and a unit do the same to registers with and without their channels (`delivered_bare`, `unit_bare`).
 //! - A channel is on a file or a draft that exists (`reading_file`, `writing_draft`), a file is the one with its names
 //!   (`named_self`), and the room for words is that of the machine (`full_on`).
 #![tactic(auto)]
 
+mod alarms;
 mod opening;
+mod readings;
+mod removal;
 mod symbols;
 
+pub use alarms::{time_after, with_alr};
 pub use opening::{no_alarms, no_symbols, quiet_consoles};
+pub use readings::{shown, variable_of};
+pub use removal::{is_removed, leave_each, pass_on};
 pub use symbols::{MOST_SYMBOLS, SymbolTable, nearest};

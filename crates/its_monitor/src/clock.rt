@@ -3,7 +3,6 @@ ghost use Rattle.std.specs.Prelude.{◌≡◌, ◌<◌, ◌≤◌, ◌+◌, ℕ,
 ghost use Rattle.its_word.specs.Limits.{slots};
 ghost use Rattle.its_jobs.specs.Table.{job_at};
 ghost use Rattle.its_plain.specs.Alarm.{is_due, time_after};
-ghost use Rattle.its_plain.specs.CallBasic.{longest_period};
 ghost use Rattle.its_plain.specs.Job.{ALR as ALR_BIT, with_pending};
 ghost use Rattle.its_plain.specs.OperatorClock.{after_clock, clock_end, due_slots};
 ghost use Rattle.its_plain.specs.Own.{with_registers};
@@ -19,9 +18,10 @@ ghost use Rattle.its_monitor.specs.Kept.{Kept, Lands, Refused};
 ghost use Rattle.its_monitor.specs.Rung.{roused, RangAt, RangBelow};
 
 use super::monitor::Monitor;
+use its_machine::{time_after, with_alr};
 use its_pclsr::unwind;
-use its_records::{Job, Refusal};
-use its_word::{ALR, SLOTS, Word};
+use its_records::Refusal;
+use its_word::SLOTS;
 use its_world::World;
 
 /// The clock stays below this many thirtieths.
@@ -172,27 +172,4 @@ fn set_alr(w: &mut World, slot: u8)
         Some(job) => w.put_registers(slot, with_alr(job)),
         None => unreachable!(),
     }
-}
-
-/// A job with ALR set.
-fn with_alr(job: Job) -> Job
-    ensures { result ≡ with_pending job ALR_BIT }
-{
-    Job {
-        pend1: job.pend1 | Word::new(ALR),
-        ..job
-    }
-}
-
-/// The next time of an alarm with this period and next time that goes at a clock: it gains the least multiple of the period
-/// that brings it above the clock.
-#[tactic(auto, using(its_machine::proofs::TimeLaws::next_time, its_machine::proofs::TimeLaws::next_fits))]
-fn time_after(period: u64, next: u64, clock: u64) -> u64
-    requires some { 1 ≤ period }
-    requires most { period ≤ longest_period }
-    requires below { clock < clock_end }
-    requires due { next ≤ clock }
-    ensures { result ≡ time_after clock (period, next) }
-{
-    clock + period - (clock - next) % period
 }

@@ -1,7 +1,6 @@
 ghost use Rattle.std.specs.Prelude.{◌≡◌, ◌<◌, ◌^◌, true, false, Some, None, Ok, IfOk, OnOk, OnErr, IfErr};
 ghost use Rattle.its_word.specs.Limits.{slots};
 ghost use Rattle.its_jobs.specs.Table.{job_at};
-ghost use Rattle.its_plain.specs.Job.{pc_word};
 ghost use Rattle.its_plain.specs.OperatorJobs.{on_registers, after_go, after_stop, after_cont, after_int, state_shown, shown};
 ghost use Rattle.its_stepped.specs.State.{plain};
 ghost use Rattle.its_stepped.specs.Unwind.{unwound};
@@ -11,9 +10,10 @@ ghost use Rattle.its_monitor.specs.Kept.{Kept, Lands, Refused, Calm};
 
 use super::monitor::Monitor;
 use super::symbols::near;
+use its_machine::shown;
 use its_pclsr::unwind;
 use its_records::{Job, JobShow, Refusal};
-use its_word::{FATAL, Word, pc_word};
+use its_word::{FATAL, Word};
 use its_world::World;
 
 impl Monitor {
@@ -155,26 +155,5 @@ fn interrupted(job: Job, v: Word, x: Word) -> Job
         pend1: job.pend1 | v,
         pend2: job.pend2 | x,
         ..job
-    }
-}
-
-/// What STATE shows of a job with this superior and this nearest symbol.
-fn shown(job: &Job, superior: Option<u8>, symbol: Option<(Word, u32)>) -> JobShow
-    ensures { result ≡ shown job.now superior symbol }
-{
-    JobShow {
-        u: job.uname,
-        j: job.jname,
-        sup: superior,
-        con: job.console,
-        run: !job.stopped,
-        pc: pc_word(job.flags, job.pc),
-        p1: job.pend1,
-        p2: job.pend2,
-        m1: job.mask1,
-        m2: job.mask2,
-        d1: job.defer1,
-        d2: job.defer2,
-        symbol,
     }
 }
