@@ -66,6 +66,51 @@ class Limits(unittest.TestCase):
         self.assertEqual(BENCH.line_of("b", 7.0, {"a": 400}, False), "          7  b\n")
 
 
+class Judged(unittest.TestCase):
+    """What verify takes by what run takes."""
+
+    def rows(self):
+        """What is judged, without a program."""
+        with mock.patch.object(BENCH, "assembled", lambda program, text: "LOAD U B -\nGO 0\n"):
+            return BENCH.judged_rows("none")
+
+    def test_table(self):
+        table = "\n" + BENCH.AGAINST + "\n|---|---|---|\n| `TICK` of a | 1.05 | 1.2 |\n| b | 4.00 | |\n\n| another | table | 7 |\n"
+        self.assertEqual(BENCH.most_against(table), {"TICK of a": 1.2})
+        with self.assertRaisesRegex(Wrong, "docs/COST.md has no table"):
+            BENCH.most_against(table.replace("At most", "Limit"))
+
+    def test_the_page(self):
+        page = text_of("docs/COST.md")
+        names = [row.name for row in self.rows()]
+        for name in names:
+            self.assertIn("| %s |" % name, page.replace("`", ""))
+        self.assertEqual(set(BENCH.most_against(page).values()), {1.2})
+        self.assertLessEqual(set(BENCH.most_against(page)), set(names))
+
+    def test_sessions(self):
+        for row in self.rows():
+            self.assertNotIn("", {line.kind for line in lines_of(row.session(1))[:-1]})
+
+    def test_against(self):
+        row = BENCH.Row("a", lambda n: "x" * n, 10, 4)
+
+        def spent(program, words, text):
+            """What a run takes: the transcript of n lines is as long as the session."""
+            return 1000.0 + (8 if words == ["run"] else 6) * text.count("x")
+
+        with tempfile.TemporaryDirectory() as folder, mock.patch.object(BENCH, "spent", spent):
+            self.assertEqual(BENCH.against(script(folder, "cat"), row), 1.5)
+
+    def test_past(self):
+        for number, past in ((1.2, False), (1.21, True)):
+            with mock.patch.multiple(BENCH, judged_rows=lambda program: [BENCH.Row("a", str, 1, 1), BENCH.Row("b", str, 1, 1)],
+                                     against=lambda program, row: number if row.name == "a" else 9.0, most_against=lambda page: {"a": 1.2},
+                                     write=mock.DEFAULT) as put:
+                self.assertEqual(BENCH.judged("its", ""), past)
+            self.assertIn("  b\n", put["write"].call_args[0][0])
+
+
 class Counting(unittest.TestCase):
     """What tools/bench counts, and how it ends."""
 
@@ -91,7 +136,7 @@ class Counting(unittest.TestCase):
         row = BENCH.Row("a tick", str, 1, 1)
         for counter, number, status in (("valgrind", 400.0, 0), ("valgrind", 401.0, 1), (None, 401.0, 0)):
             with mock.patch.multiple(BENCH, rows=lambda program: [row], counted=lambda program, row: number, spent=lambda *words: 0.0,
-                                     limits_of=lambda page: {"a tick": 400}), mock.patch("shutil.which", lambda name: counter):
+                                     limits_of=lambda page: {"a tick": 400}, judged=lambda program, page: False), mock.patch("shutil.which", lambda name: counter):
                 ended = called(BENCH, "/bin/sh")
             self.assertEqual((ended.status, "PAST" in ended.written), (status, status == 1))
             self.assertIn("%6.0f  a tick (at most 400)\n" % number, ended.written)

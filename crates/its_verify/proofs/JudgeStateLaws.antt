@@ -1,8 +1,9 @@
 -- The state of a judge after a letter or a line.
-use Rattle.std.proofs.Common.{◌≡◌, ◌≢◌, ◌<◌, ◌≤◌, ◌+◌, ◌==◌, ◌&&◌, ℕ, zero, suc, Bool, true, false, not, ltb, if◌then◌else◌, Option, Some, None, List, length, refl, sym, ap, subst, ◌∙◌, inl, inr, arith, replicate, slice_index_or, slice_set}
+use Rattle.std.proofs.Common.{◌≡◌, ◌≢◌, ◌<◌, ◌≤◌, ◌+◌, ◌==◌, ◌&&◌, ℕ, zero, suc, Bool, true, false, not, ltb, if◌then◌else◌, is_none, Option, Some, None, List, length, refl, sym, ap, subst, ◌∙◌, inl, inr, arith, replicate, slice_index_or, slice_set}
 use Rattle.std.proofs.lemmas.Bool.{cases_Bool, cases_eq, and_right, eq-eqb, ne_eqb, lt-ltb, false≢true}
 use Rattle.std.proofs.lemmas.Bool.Decides.{nat_tests}
 use Rattle.std.proofs.lemmas.List.{get_or-set_same, get_or-set_other, get_or_default}
+use Rattle.std.proofs.lemmas.Option.{none-some, same_Some}
 use Rattle.std.proofs.Math.ListN.{get_or-eq_default}
 use Rattle.its_records.specs.declared.calls.Pace.{Pace}
 use Rattle.its_records.specs.declared.calls.Pace.TheVariants.{Step, Work, Wait, Off}
@@ -17,8 +18,8 @@ use Rattle.its_direct.specs.Plain.{machine_of, is_touched}
 use Rattle.its_direct.specs.Events.{Kept}
 use Rattle.its_direct.specs.Steps.{Makes, touches}
 use Rattle.its_direct.specs.declared.plain.Plain.{Plain}
-use Rattle.its_verify.specs.Letters.{led_to}
-use Rattle.its_verify.specs.JudgeState.{dots_of, walk_of, Sure, Forgets, ForgetsBelow, Led, LedIf, forgotten}
+use Rattle.its_verify.specs.Letters.{if_so, led_to}
+use Rattle.its_verify.specs.JudgeState.{Again, dots_of, walk_of, Sure, Forgets, ForgetsBelow, Led, LedIf, forgotten}
 use Rattle.its_verify.specs.declared.judge.Judge.{Judge}
 
 pub same_dots : (f g : Dots) → ((k : ℕ) → f k ≡ g k) → f ≡ g
@@ -57,25 +58,16 @@ past_own n = grind (arith, nat_tests)
 below_own : (n : ℕ) → ltb n (n + 1) ≡ true
 below_own n = grind (arith, nat_tests)
 
-pub forget_one : (p : Plain) (old ds : List ℕ) (n : ℕ) (b : Bool) → b ≡ slice_index_or p.touched n b → b ≡ true → n < length p.touched → n < length ds
-    → ForgetsBelow n p old ds → ForgetsBelow (n + 1) p old (slice_set ds n 0)
-forget_one p old ds n b at mark_is within room h k =
+pub forget_one : (p : Plain) (old ds : List ℕ) (n d e : ℕ) (b : Bool) → b ≡ slice_index_or p.touched n b → d ≡ slice_index_or ds n d → e ≡ forgotten b d → n < length p.touched → n < length ds
+    → ForgetsBelow n p old ds → ForgetsBelow (n + 1) p old (slice_set ds n e)
+forget_one p old ds n d e b at place is within room h k =
     elim (cases_eq k n) [
-      | inl is ↦
-          (let mark : is_touched p n ≡ true = get_or_default p.touched n false b within ∙ sym at ∙ mark_is in
-          rw is (rw (below_own n, mark) (get_or-set_same ds n 0 0 room)))
-      | inr ne ↦ get_or-set_other ds n k 0 0 ne ∙ h k ∙ ap (λ (c : Bool). forgotten (c && is_touched p k) (dots_of old k)) (sym (below_more k n ne))
-    ]
-
-pub forget_none : (p : Plain) (old ds : List ℕ) (n : ℕ) (b : Bool) → b ≡ slice_index_or p.touched n b → b ≡ false → n < length p.touched
-    → ForgetsBelow n p old ds → ForgetsBelow (n + 1) p old ds
-forget_none p old ds n b at mark_is within h k =
-    elim (cases_eq k n) [
-      | inl is ↦
-          (let mark : is_touched p n ≡ false = get_or_default p.touched n false b within ∙ sym at ∙ mark_is in
+      | inl same ↦
+          (let mark : is_touched p n ≡ b = get_or_default p.touched n false b within ∙ sym at in
           let so : dots_of ds n ≡ forgotten (ltb n n && is_touched p n) (dots_of old n) = h n in
-          rw is (so ∙ rw (past_own n, below_own n, mark) refl))
-      | inr ne ↦ h k ∙ ap (λ (c : Bool). forgotten (c && is_touched p k) (dots_of old k)) (sym (below_more k n ne))
+          let was : d ≡ dots_of old n = place ∙ sym (get_or_default ds n 0 d room) ∙ so ∙ rw (past_own n) refl in
+          rw same (rw (below_own n, mark) (get_or-set_same ds n e 0 room ∙ is ∙ ap (forgotten b) was)))
+      | inr ne ↦ get_or-set_other ds n k e 0 ne ∙ h k ∙ ap (λ (c : Bool). forgotten (c && is_touched p k) (dots_of old k)) (sym (below_more k n ne))
     ]
 
 pub forget_end : (p q : Plain) (old ds : List ℕ) (n : ℕ) → length p.touched ≤ n → q ≡ p → ForgetsBelow n q old ds → Forgets p old ds
@@ -238,3 +230,36 @@ led_beside true old mid new i p plain ds led = record {
   dots = ap dots_of ds ∙ led.dots;
   place = ap (λ (x : Plain). x.place) plain ∙ led.place;
 }
+
+-- a letter that changed nothing is licensed again
+kept_if : (c : Bool) (m n : Machine) → if_so c m ≡ Some n → m ≡ n
+kept_if true m n is = same_Some m n is
+kept_if false m n is = absurd (none-some n is)
+
+still_waits : (old mid : Judge) (i : ℕ) → Led old mid i Wait → Led mid mid i Wait
+still_waits old mid i led = record {
+  leads = λ b n.
+      (let same : machine_of old.plain ≡ machine_of mid.plain =
+      kept_if (is_running ((machine_of old.plain).jobs i) && is_none (step (machine_of old.plain) i)) (machine_of old.plain) (machine_of mid.plain) (led.leads b n) in
+      subst (λ (m : Machine). if_so (is_running (m.jobs i) && is_none (step m i)) m ≡ Some (machine_of mid.plain)) same (led.leads b n));
+  dots = same_dots (dots_of mid.dots) (dots_after (machine_of mid.plain) (dots_of mid.dots) i Wait) (λ k. refl);
+  place = refl;
+}
+
+still_off : (old mid : Judge) (i : ℕ) → Led old mid i Off → Led mid mid i Off
+still_off old mid i led = record {
+  leads = λ b n.
+      (let same : machine_of old.plain ≡ machine_of mid.plain =
+      kept_if (not (is_running ((machine_of old.plain).jobs i))) (machine_of old.plain) (machine_of mid.plain) (led.leads b n) in
+      subst (λ (m : Machine). if_so (not (is_running (m.jobs i))) m ≡ Some (machine_of mid.plain)) same (led.leads b n));
+  dots = same_dots (dots_of mid.dots) (dots_after (machine_of mid.plain) (dots_of mid.dots) i Off) (λ k. refl);
+  place = refl;
+}
+
+pub again : (old mid : Judge) (i : ℕ) (p : Pace) (licensed : Bool) → licensed ≡ true → LedIf licensed old mid i p → Again p mid i
+again old mid i Step licensed is led = tt
+again old mid i Work licensed is led = tt
+again old mid i Wait true is led = still_waits old mid i led
+again old mid i Wait false is led = absurd (false≢true is)
+again old mid i Off true is led = still_off old mid i led
+again old mid i Off false is led = absurd (false≢true is)

@@ -1,10 +1,11 @@
 -- The letters of a line, one after another.
-use Rattle.std.proofs.Common.{◌≡◌, ◌<◌, ◌≤◌, ◌+◌, ◌-◌, ℕ, zero, suc, Bool, true, false, Some, None, List, [], ◌∷◌, ◌++◌, length, replicate, drop, get_or, refl, add-one, sym, ap, ◌∙◌, arith}
+use Rattle.std.proofs.Common.{◌≡◌, ◌<◌, ◌≤◌, ◌+◌, ◌-◌, ℕ, zero, suc, Bool, true, false, Some, None, List, [], ◌∷◌, ◌++◌, length, replicate, drop, get_or, refl, add-one, sym, ap, subst, ◌∙◌, arith}
 use Rattle.std.proofs.Math.Seq.{drop-cons}
 use Rattle.std.proofs.Math.ListN.{drop_of_length-le}
 use Rattle.std.proofs.lemmas.Bool.{false≢true}
 use Rattle.std.specs.Prelude.{option_and_then}
 use Rattle.its_records.specs.declared.calls.Pace.{Pace}
+use Rattle.its_records.specs.declared.calls.Pace.TheVariants.{Wait, Off}
 use Rattle.its_print.specs.declared.runs.Run.{Run}
 use Rattle.its_print.specs.Runs.{paces_in}
 use Rattle.its_plain.specs.Licence.{Dots}
@@ -13,7 +14,7 @@ use Rattle.its_plain.specs.Operator.{Block}
 use Rattle.its_plain.specs.Transcript.{after_letter}
 use Rattle.its_direct.specs.Plain.{machine_of}
 use Rattle.its_verify.specs.Letters.{led_to, paced, ticks_in}
-use Rattle.its_verify.specs.JudgeState.{AllLed, walk_of, Sure, Led, LedIf, RunLed, RunOn, RunsLed, LeadsOn}
+use Rattle.its_verify.specs.JudgeState.{Again, AllLed, walk_of, Sure, Led, LedIf, RunLed, RunOn, RunsLed, LeadsOn}
 use Rattle.its_verify.specs.declared.judge.Judge.{Judge}
 
 -- one letter
@@ -64,6 +65,17 @@ pub run_end : (old now : Judge) (i m k : ℕ) (all : List Pace) (p : Pace) → m
 run_end old now i m k all p past so b n ps =
     let none : m - k ≡ 0 = omega arith in
     so b n ps ∙ ap (λ (j : ℕ). paced (walk_of now b n) i (replicate j p ++ ps)) none
+
+-- one that changes nothing, again and again
+all_again : (j : Judge) (i k : ℕ) (p : Pace) → Led j j i p → RunLed true j j i (replicate k p)
+all_again j i zero p led b n ps = refl
+all_again j i (suc k) p led b n ps = letter_leads j j i p (replicate k p ++ ps) b n led ∙ all_again j i k p led b n ps
+
+pub waits_again : (j : Judge) (i k : ℕ) (p : Pace) → p ≡ Wait → Again p j i → RunLed true j j i (replicate k p)
+waits_again j i k p is so = all_again j i k p (subst (λ (q : Pace). Led j j i q) (sym is) (subst (λ (q : Pace). Again q j i) is so))
+
+pub off_again : (j : Judge) (i k : ℕ) (p : Pace) → p ≡ Off → Again p j i → RunLed true j j i (replicate k p)
+off_again j i k p is so = all_again j i k p (subst (λ (q : Pace). Led j j i q) (sym is) (subst (λ (q : Pace). Again q j i) is so))
 
 -- runs
 pub runs_start : (old : Judge) (i k : ℕ) (rs : List Run) → k ≡ 0 → LeadsOn old old i (paces_in rs) (paces_in (drop k rs))

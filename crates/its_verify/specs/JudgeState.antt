@@ -2,6 +2,7 @@
 -- No promise rests on this.
 use Rattle.std.specs.Prelude.{◌≡◌, ◌&&◌, ℕ, Bool, true, false, Some, None, List, ◌++◌, nat_lt, slice_index_or}
 use Rattle.its_records.specs.declared.calls.Pace.{Pace}
+use Rattle.its_records.specs.declared.calls.Pace.TheVariants.{Wait, Off}
 use Rattle.its_plain.specs.Licence.{Dots, dots_after}
 use Rattle.its_plain.specs.Operator.{Block}
 use Rattle.its_plain.specs.Transcript.{Walk}
@@ -41,6 +42,12 @@ pub record Led (old new : Judge) (i : ℕ) (p : Pace) : Type 0 where
   pub leads : (b : Block) (n : ℕ) → led_to (walk_of old b n) i p ≡ Some (machine_of new.plain)
   pub dots : dots_of new.dots ≡ dots_after (machine_of old.plain) (dots_of old.dots) i p
   pub place : new.plain.place ≡ old.plain.place
+
+-- a letter that changes nothing is licensed, and then so is each further one
+abbrev pub Again : Pace → Judge → ℕ → Type 0
+Again Wait j i = Led j j i Wait
+Again Off j i = Led j j i Off
+Again p j i = Unit {0}
 
 -- whether it did; it is not licensed if it did not
 abbrev pub LedIf : Bool → Judge → Judge → ℕ → Pace → Type 0

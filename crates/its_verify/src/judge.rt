@@ -1,5 +1,5 @@
 //! The judge: the plain machine of a session, and how many `.` came for each slot.
-ghost use Rattle.std.specs.Prelude.{◌≡◌, ◌<◌, ◌≤◌, ◌∷◌, replicate, true, false, not, Ok, IfOk, IfSome, OnOk, OnErr};
+ghost use Rattle.std.specs.Prelude.{◌≡◌, ◌<◌, ◌≤◌, ◌∷◌, ◌-◌, replicate, true, false, not, Ok, IfOk, IfSome, OnOk, OnErr};
 ghost use Rattle.its_word.specs.Limits.{slots};
 ghost use Rattle.its_session.specs.Events.{place_after};
 ghost use Rattle.its_session.specs.Fits.{EventFits};
@@ -7,14 +7,15 @@ ghost use Rattle.its_plain.specs.Machine.{no_machine};
 ghost use Rattle.its_direct.specs.Plain.{machine_of};
 ghost use Rattle.its_direct.specs.Events.{IsTold, MayStand, Told, spot_place};
 ghost use Rattle.its_print.specs.Runs.{paces_in};
-ghost use Rattle.its_plain.specs.Turns.{is_running, turn_after};
-ghost use Rattle.its_verify.specs.JudgeState.{AllLed, dots_of, Forgets, LedIf, RunLed, RunsLed, Sure};
+ghost use Rattle.its_plain.specs.Turns.{is_running, runs, turn_after};
+ghost use Rattle.its_robin.specs.Robin.{first_running};
+ghost use Rattle.its_verify.specs.JudgeState.{Again, AllLed, dots_of, forgotten, Forgets, LedIf, RunLed, RunsLed, Sure};
 
+use super::room::Room;
 use super::ticks::read_ticks;
 use its_direct::{Answer, NoMemory, Plain, Spot};
 use its_print::Run;
 use its_records::{Event, Pace, Refusal};
-use its_robin::next;
 use its_word::SLOTS;
 use std::alloc::Global;
 
@@ -122,7 +123,7 @@ impl Judge {
     }
 
     /// The same of one run.
-    #[tactic(auto, using(crate::proofs::LettersLaws::run_start, crate::proofs::LettersLaws::run_first_stops, crate::proofs::LettersLaws::run_on, crate::proofs::LettersLaws::run_stops, crate::proofs::LettersLaws::run_end))]
+    #[tactic(auto, using(crate::proofs::JudgeStateLaws::again, crate::proofs::LettersLaws::run_start, crate::proofs::LettersLaws::run_first_stops, crate::proofs::LettersLaws::run_on, crate::proofs::LettersLaws::run_stops, crate::proofs::LettersLaws::run_end))]
     fn run_licensed(&mut self, slot: u8, run: Run) -> bool
         requires going { self.old.ended ≡ false }
         requires slot { slot < slots }
@@ -145,9 +146,12 @@ impl Judge {
         true
     }
 
-    /// Takes at once, of the letters of a run after its first, as many `*` as are units of a slot's job in a row; how many.
+    /// Takes at once, of the letters of a run after its first, which is licensed, as many `*` as are units of a slot's job in a row,
+    /// and all that change nothing; how many.
+    #[tactic(auto, using(crate::proofs::LettersLaws::waits_again, crate::proofs::LettersLaws::off_again))]
     fn taken(&mut self, slot: u8, run: Run) -> u32
         requires going { self.old.ended ≡ false }
+        requires again { Again run.pace self.old slot }
         requires slot { slot < slots }
         requires outside { self.old.plain.place ≡ Spot.Plain }
         requires sure { Sure self.old }
@@ -159,7 +163,9 @@ impl Judge {
     {
         match run.pace {
             Pace::Step => self.units(slot, run.more),
-            _ => 0,
+            Pace::Work => 0,
+            Pace::Wait => run.more,
+            Pace::Off => run.more,
         }
     }
 
@@ -186,7 +192,7 @@ impl Judge {
 
     /// Whether a line says so many letters of a slot, and each is licensed in its turn.
     #[tactic(auto, using(crate::proofs::LettersLaws::all_led, crate::proofs::LettersLaws::not_read))]
-    pub fn says_ticks(&mut self, line: &[u8], slot: u8, count: u32) -> bool
+    pub fn says_ticks(&mut self, line: &[u8], slot: u8, count: u32, room: &mut Room) -> bool
         requires going { self.old.ended ≡ false }
         requires slot { slot < slots }
         requires few { count ≤ 512 }
@@ -195,24 +201,39 @@ impl Judge {
         ensures led { AllLed result self.old self.new line.now slot count }
         ensures place { self.new.plain.place ≡ self.old.plain.place }
     {
-        match read_ticks(line, slot, count) {
-            Some(runs) => self.runs_licensed(slot, &runs),
-            None => false,
+        if !read_ticks(line, slot, count, room) {
+            return false;
         }
+        self.runs_licensed(slot, &room.runs)
     }
 
     /// The slot whose turn it is, after a turn of slot `last`; None if no job runs.
-    #[tactic(auto, using(its_plain::proofs::WhoRunsLaws::turn_found, its_plain::proofs::WhoRunsLaws::turn_is_slot, its_plain::proofs::WhoRunsLaws::runs_start, its_plain::proofs::WhoRunsLaws::runs_next))]
+    #[tactic(auto, using(its_robin::proofs::RobinLaws::turn_behind, its_robin::proofs::RobinLaws::turn_around))]
     pub fn turn_after(&self, last: u8) -> Option<u8>
         requires last { last < slots }
         ensures turn { result ≡ turn_after (machine_of self.now.plain) last }
         ensures slot { IfSome result (λ s. s < slots) }
     {
-        let mut runs = [false; SLOTS];
-        for slot in 0..SLOTS {
-            runs[slot] = self.runs(slot as u8);
+        match self.first_running(last + 1, SLOTS as u8) {
+            Some(slot) => Some(slot),
+            None => self.first_running(0, last + 1),
         }
-        next(&runs, last)
+    }
+
+    /// The first slot whose job runs, of those from one on and before another.
+    #[tactic(auto, using(its_robin::proofs::RobinLaws::first_next, its_robin::proofs::RobinLaws::first_found, its_robin::proofs::RobinLaws::first_end))]
+    fn first_running(&self, from: u8, to: u8) -> Option<u8>
+        requires order { from ≤ to }
+        requires within { to ≤ slots }
+        ensures first { result ≡ first_running (runs (machine_of self.now.plain)) (to - from) from }
+        ensures slot { IfSome result (λ s. s < slots) }
+    {
+        for slot in from..to {
+            if self.runs(slot) {
+                return Some(slot);
+            }
+        }
+        None
     }
 
     /// `*`: the step of a slot's job, if it has one.
@@ -290,16 +311,21 @@ impl Judge {
     }
 
     /// No `.` came since for the slots that were touched.
-    #[tactic(auto, using(crate::proofs::JudgeStateLaws::forget_start, crate::proofs::JudgeStateLaws::forget_one, crate::proofs::JudgeStateLaws::forget_none, crate::proofs::JudgeStateLaws::forget_end))]
+    #[tactic(auto, using(crate::proofs::JudgeStateLaws::forget_start, crate::proofs::JudgeStateLaws::forget_one, crate::proofs::JudgeStateLaws::forget_end))]
     fn forget_touched(&mut self)
         ensures dots { Forgets self.old.plain self.old.dots self.new.dots }
         ensures plain { self.new.plain ≡ self.old.plain }
         ensures ended { self.new.ended ≡ self.old.ended }
     {
         for slot in 0..SLOTS {
-            if self.plain.touched[slot] {
-                self.dots[slot] = 0;
-            }
+            self.dots[slot] = forgotten(self.plain.touched[slot], self.dots[slot]);
         }
     }
+}
+
+/// A count, when its slot is touched or not.
+fn forgotten(touched: bool, dots: u8) -> u8
+    ensures { result ≡ forgotten touched dots }
+{
+    if touched { 0 } else { dots }
 }

@@ -15,6 +15,7 @@ ghost use Rattle.its_verify.specs.Rulings.{Ruling, expects};
 ghost use Rattle.its_verify.specs.Showing.{IsThere, drained_lines, lines_of, loaded_lines, names_line, shown_if, text_lines, typed_lines};
 
 use super::outcome::Outcome;
+use super::room::Bytes;
 use super::transcript_reader::TranscriptReader;
 use its_direct::{Answer, Plain};
 use its_io::{Failed, Source};
@@ -34,6 +35,7 @@ pub(crate) fn show_event<S: Source>(
     plain: &Plain,
     event: &Event,
     answer: &Answer,
+    line: &mut Bytes,
 ) -> Result<Option<Outcome>, Failed>
     requires fits { EventFits 2 event.now }
     requires there { IsThere event.now (machine_of plain.now) }
@@ -43,14 +45,14 @@ pub(crate) fn show_event<S: Source>(
     ensures cause { HasCause (S.faults src.old) (S.faults src.new) result }
 {
     match event {
-        Event::Load { .. } => show_loaded(reader, src, answer),
-        Event::TypeIn { c, .. } => show_typed(reader, src, *c, answer),
-        Event::Drain { c, .. } => show_drained(reader, src, *c, answer),
-        Event::Exam { s, a, n } => show_words(reader, src, plain, *s, *a, *n),
-        Event::List { s, a, n } => list_words(reader, src, plain, *s, *a, *n),
-        Event::State { s } => show_state(reader, src, plain, *s),
-        Event::Dir { d } => show_files(reader, src, plain, *d),
-        Event::Show { d, x, y } => show_file(reader, src, plain, *d, *x, *y),
+        Event::Load { .. } => show_loaded(reader, src, answer, line),
+        Event::TypeIn { c, .. } => show_typed(reader, src, *c, answer, line),
+        Event::Drain { c, .. } => show_drained(reader, src, *c, answer, line),
+        Event::Exam { s, a, n } => show_words(reader, src, plain, *s, *a, *n, line),
+        Event::List { s, a, n } => list_words(reader, src, plain, *s, *a, *n, line),
+        Event::State { s } => show_state(reader, src, plain, *s, line),
+        Event::Dir { d } => show_files(reader, src, plain, *d, line),
+        Event::Show { d, x, y } => show_file(reader, src, plain, *d, *x, *y, line),
         _ => Ok(None),
     }
 }
@@ -61,6 +63,7 @@ fn show_loaded<S: Source>(
     reader: &mut TranscriptReader,
     src: &mut S,
     answer: &Answer,
+    line: &mut Bytes,
 ) -> Result<Option<Outcome>, Failed>
     requires at_line { AtLine reader.old (S.left src.old) }
     ensures says { (next : Ruling) → Says result reader.old reader.new (S.left src.old) (S.left src.new) (expects (loaded_lines answer.now) next) next }
@@ -68,7 +71,7 @@ fn show_loaded<S: Source>(
     ensures cause { HasCause (S.faults src.old) (S.faults src.new) result }
 {
     match answer {
-        Answer::Slot(s) => reader.expect(src, &Reply::Loaded { s: *s }),
+        Answer::Slot(s) => reader.expect(src, &Reply::Loaded { s: *s }, line),
         Answer::Nothing => Ok(None),
         Answer::Dropped(_) => Ok(None),
         Answer::Drained(_) => Ok(None),
@@ -82,6 +85,7 @@ fn show_typed<S: Source>(
     src: &mut S,
     c: u8,
     answer: &Answer,
+    line: &mut Bytes,
 ) -> Result<Option<Outcome>, Failed>
     requires at_line { AtLine reader.old (S.left src.old) }
     ensures says { (next : Ruling) → Says result reader.old reader.new (S.left src.old) (S.left src.new) (expects (typed_lines c answer.now) next) next }
@@ -89,7 +93,7 @@ fn show_typed<S: Source>(
     ensures cause { HasCause (S.faults src.old) (S.faults src.new) result }
 {
     match answer {
-        Answer::Dropped(n) => reader.expect(src, &Reply::Typed { c, dropped: *n }),
+        Answer::Dropped(n) => reader.expect(src, &Reply::Typed { c, dropped: *n }, line),
         Answer::Nothing => Ok(None),
         Answer::Slot(_) => Ok(None),
         Answer::Drained(_) => Ok(None),
@@ -103,6 +107,7 @@ fn show_drained<S: Source>(
     src: &mut S,
     c: u8,
     answer: &Answer,
+    line: &mut Bytes,
 ) -> Result<Option<Outcome>, Failed>
     requires at_line { AtLine reader.old (S.left src.old) }
     ensures says { (next : Ruling) → Says result reader.old reader.new (S.left src.old) (S.left src.new) (expects (drained_lines c answer.now) next) next }
@@ -112,7 +117,7 @@ fn show_drained<S: Source>(
     match answer {
         Answer::Drained(bytes) => {
             let bytes = bytes.as_slice();
-            reader.expect(src, &Reply::Drained { c, bytes })
+            reader.expect(src, &Reply::Drained { c, bytes }, line)
         }
         Answer::Nothing => Ok(None),
         Answer::Slot(_) => Ok(None),
@@ -129,6 +134,7 @@ fn show_words<S: Source>(
     s: u8,
     a: u32,
     n: u32,
+    line: &mut Bytes,
 ) -> Result<Option<Outcome>, Failed>
     requires slot { s < slots }
     requires address { a < 2 ^ 18 }
@@ -143,7 +149,7 @@ fn show_words<S: Source>(
         unreachable!()
     };
     let words = words.as_slice();
-    reader.expect(src, &Reply::Words { s, a, words })
+    reader.expect(src, &Reply::Words { s, a, words }, line)
 }
 
 /// LIST shows words typed out, each in a line of its own.
@@ -155,6 +161,7 @@ fn list_words<S: Source>(
     s: u8,
     a: u32,
     n: u32,
+    line: &mut Bytes,
 ) -> Result<Option<Outcome>, Failed>
     requires slot { s < slots }
     requires address { a < 2 ^ 18 }
@@ -168,7 +175,7 @@ fn list_words<S: Source>(
     let Ok(words) = plain.words(s, a, n) else {
         unreachable!()
     };
-    list_each(reader, src, s, a, words.as_slice())
+    list_each(reader, src, s, a, words.as_slice(), line)
 }
 
 /// A line for each of some words, which are in a slot from an address on.
@@ -179,6 +186,7 @@ fn list_each<S: Source>(
     s: u8,
     a: u32,
     words: &[Word],
+    line: &mut Bytes,
 ) -> Result<Option<Outcome>, Failed>
     requires address { a < 2 ^ 18 }
     requires few { length words.now ≤ 8 }
@@ -194,7 +202,7 @@ fn list_each<S: Source>(
             a: place,
             word: *w,
         };
-        if let Some(outcome) = reader.expect(src, &word)? {
+        if let Some(outcome) = reader.expect(src, &word, line)? {
             return Ok(Some(outcome));
         }
         place += 1;
@@ -209,6 +217,7 @@ fn show_state<S: Source>(
     src: &mut S,
     plain: &Plain,
     s: u8,
+    line: &mut Bytes,
 ) -> Result<Option<Outcome>, Failed>
     requires slot { s < slots }
     requires there { IsOk (state_shown (machine_of plain.now) s) }
@@ -221,7 +230,7 @@ fn show_state<S: Source>(
         Ok(show) => {
             let version = plain.version;
             let show = &show;
-            reader.expect(src, &Reply::State { version, s, show })
+            reader.expect(src, &Reply::State { version, s, show }, line)
         }
         Err(_) => unreachable!(),
     }
@@ -233,6 +242,7 @@ fn show_files<S: Source>(
     src: &mut S,
     plain: &Plain,
     d: Word,
+    line: &mut Bytes,
 ) -> Result<Option<Outcome>, Failed>
     requires at_line { AtLine reader.old (S.left src.old) }
     ensures says { (next : Ruling) → Says result reader.old reader.new (S.left src.old) (S.left src.new) (expects (listing d (files_in d (machine_of plain.now).files)) next) next }
@@ -241,10 +251,10 @@ fn show_files<S: Source>(
 {
     let ids = plain.listed(d);
     let n = ids.len() as u32;
-    if let Some(outcome) = reader.expect(src, &Reply::Dir { d, n })? {
+    if let Some(outcome) = reader.expect(src, &Reply::Dir { d, n }, line)? {
         return Ok(Some(outcome));
     }
-    show_each(reader, src, plain, ids.as_slice())
+    show_each(reader, src, plain, ids.as_slice(), line)
 }
 
 /// A line for each of some files.
@@ -254,6 +264,7 @@ fn show_each<S: Source>(
     src: &mut S,
     plain: &Plain,
     ids: &[u32],
+    line: &mut Bytes,
 ) -> Result<Option<Outcome>, Failed>
     requires each { list_all (λ id. is_file (entry_at plain.now.files id)) ids.now ≡ true }
     requires at_line { AtLine reader.old (S.left src.old) }
@@ -262,7 +273,7 @@ fn show_each<S: Source>(
     ensures cause { HasCause (S.faults src.old) (S.faults src.new) result }
 {
     for id in ids {
-        if let Some(outcome) = show_entry(reader, src, plain, *id)? {
+        if let Some(outcome) = show_entry(reader, src, plain, *id, line)? {
             return Ok(Some(outcome));
         }
     }
@@ -276,6 +287,7 @@ fn show_entry<S: Source>(
     src: &mut S,
     plain: &Plain,
     id: u32,
+    line: &mut Bytes,
 ) -> Result<Option<Outcome>, Failed>
     requires file { is_file (entry_at plain.now.files id) ≡ true }
     requires at_line { AtLine reader.old (S.left src.old) }
@@ -284,7 +296,7 @@ fn show_entry<S: Source>(
     ensures cause { HasCause (S.faults src.old) (S.faults src.new) result }
 {
     let show = plain.show(id);
-    reader.expect(src, &Reply::Filed { show: &show })
+    reader.expect(src, &Reply::Filed { show: &show }, line)
 }
 
 /// SHOW shows how many words a file has, and the words.
@@ -295,6 +307,7 @@ fn show_file<S: Source>(
     d: Word,
     x: Word,
     y: Word,
+    line: &mut Bytes,
 ) -> Result<Option<Outcome>, Failed>
     requires at_line { AtLine reader.old (S.left src.old) }
     ensures says { (next : Ruling) → Says result reader.old reader.new (S.left src.old) (S.left src.new) (expects (shown_if (λ out. out) (file_shown (machine_of plain.now) d x y)) next) next }
@@ -302,7 +315,7 @@ fn show_file<S: Source>(
     ensures cause { HasCause (S.faults src.old) (S.faults src.new) result }
 {
     match plain.file(d, x, y) {
-        Some(id) => show_text(reader, src, plain, id, [d, x, y]),
+        Some(id) => show_text(reader, src, plain, id, [d, x, y], line),
         None => Ok(None),
     }
 }
@@ -314,6 +327,7 @@ fn show_text<S: Source>(
     plain: &Plain,
     id: u32,
     names: [Word; 3],
+    line: &mut Bytes,
 ) -> Result<Option<Outcome>, Failed>
     requires file { is_file (entry_at plain.now.files id) ≡ true }
     requires at_line { AtLine reader.old (S.left src.old) }
@@ -322,10 +336,10 @@ fn show_text<S: Source>(
     ensures cause { HasCause (S.faults src.old) (S.faults src.new) result }
 {
     let count = plain.show(id).length;
-    if let Some(outcome) = show_names(reader, src, names, count)? {
+    if let Some(outcome) = show_names(reader, src, names, count, line)? {
         return Ok(Some(outcome));
     }
-    show_rows(reader, src, plain, id, count)
+    show_rows(reader, src, plain, id, count, line)
 }
 
 /// The line of the names of a file and of how many words it has.
@@ -335,6 +349,7 @@ fn show_names<S: Source>(
     src: &mut S,
     names: [Word; 3],
     count: u32,
+    line: &mut Bytes,
 ) -> Result<Option<Outcome>, Failed>
     requires at_line { AtLine reader.old (S.left src.old) }
     ensures says { (next : Ruling) → Says result reader.old reader.new (S.left src.old) (S.left src.new) (expects (names_line names count ∷ []) next) next }
@@ -343,7 +358,7 @@ fn show_names<S: Source>(
 {
     let [d, x, y] = names;
     let k = count;
-    reader.expect(src, &Reply::Shown { d, x, y, k })
+    reader.expect(src, &Reply::Shown { d, x, y, k }, line)
 }
 
 /// The words of a file, eight in a line.
@@ -354,6 +369,7 @@ fn show_rows<S: Source>(
     plain: &Plain,
     id: u32,
     count: u32,
+    line: &mut Bytes,
 ) -> Result<Option<Outcome>, Failed>
     requires at_line { AtLine reader.old (S.left src.old) }
     ensures says { (next : Ruling) → Says result reader.old reader.new (S.left src.old) (S.left src.new) (expects (rows ((count + 7) / 8) (words_at plain.now.files id)) next) next }
@@ -362,7 +378,7 @@ fn show_rows<S: Source>(
 {
     let lines = row_count(count);
     for k in 0..lines {
-        if let Some(outcome) = show_row(reader, src, plain, id, k)? {
+        if let Some(outcome) = show_row(reader, src, plain, id, k, line)? {
             return Ok(Some(outcome));
         }
     }
@@ -385,6 +401,7 @@ fn show_row<S: Source>(
     plain: &Plain,
     id: u32,
     k: u32,
+    line: &mut Bytes,
 ) -> Result<Option<Outcome>, Failed>
     requires few { 8 * k + 8 ≤ 2 ^ 32 }
     requires at_line { AtLine reader.old (S.left src.old) }
@@ -394,5 +411,5 @@ fn show_row<S: Source>(
 {
     let words = plain.row(id, k);
     let words = words.as_slice();
-    reader.expect(src, &Reply::Row { words })
+    reader.expect(src, &Reply::Row { words }, line)
 }

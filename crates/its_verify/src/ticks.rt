@@ -1,76 +1,80 @@
 //! The letters of a `T` line, read from its text.
-ghost use Rattle.std.specs.Prelude.{◌≡◌, ◌≢◌, ◌≤◌, ◌+◌, ◌++◌, None, Some, IfNone, IfSome, bytes_eq, length, replicate};
+ghost use Rattle.std.specs.Prelude.{◌≡◌, ◌≢◌, ◌≤◌, ◌+◌, ◌++◌, true, false, None, Some, bytes_eq, length, replicate};
 ghost use Rattle.arrayvec.specs.ArrayVec.{array_vec_len};
 ghost use Rattle.its_print.specs.Printing.{Ticks, text_of_line};
 ghost use Rattle.its_print.specs.Replies.{FewParts, line_of};
 ghost use Rattle.its_print.specs.Runs.{paces_in};
 ghost use Rattle.its_verify.specs.Letters.{counted, letter_at, paces_from, ticks_in};
 
+use super::room::{Bytes, Room, Runs};
 use arrayvec::ArrayVec;
 use its_print::{Reply, Run, print_reply};
 use its_records::Pace;
 
-/// The runs of letters in a line, which has its LF, for `count` ticks of slot `slot`, of which there are at most 512; None if it is not
-/// the text of a `T` line of that slot with so many letters.
+/// Reads the runs of letters in a line, which has its LF, into the room for them, for `count` ticks of slot `slot`, of which there are at
+/// most 512; whether it is the text of a `T` line of that slot with so many letters.
 #[tactic(auto, using(crate::proofs::TickLaws::ticks_read, crate::proofs::TickLaws::ticks_other, crate::proofs::TickLaws::ticks_few))]
-pub fn read_ticks(line: &[u8], slot: u8, count: u32) -> Option<ArrayVec<Run, 512>>
+pub fn read_ticks(line: &[u8], slot: u8, count: u32, room: &mut Room) -> bool
     requires { count ≤ 512 }
-    ensures some { IfSome result (λ runs. ticks_in slot count line.now ≡ Some (paces_in runs.items)) }
-    ensures none { IfNone result (ticks_in slot count line.now ≡ None) }
+    ensures some { result ≡ true → ticks_in slot count line.now ≡ Some (paces_in room.new.runs.items) }
+    ensures none { result ≡ false → ticks_in slot count line.now ≡ None }
 {
-    let runs = read_runs(line, count)?;
-    if is_line_of(line, slot, &runs) {
-        Some(runs)
-    } else {
-        None
+    if !read_runs(line, count, &mut room.runs) {
+        return false;
     }
+    is_line_of(line, slot, &room.runs, &mut room.line)
 }
 
-/// Whether a line is the `T` line of a slot with these runs.
-fn is_line_of<const N: usize>(line: &[u8], slot: u8, runs: &ArrayVec<Run, N>) -> bool
+/// Whether a line is the `T` line of a slot with these runs; its text is printed into the room for it.
+fn is_line_of<const N: usize>(
+    line: &[u8],
+    slot: u8,
+    runs: &ArrayVec<Run, N>,
+    text: &mut Bytes,
+) -> bool
     requires few { length (paces_in runs.now.items) ≤ 512 }
     ensures { result ≡ bytes_eq line.now (text_of_line (Ticks slot (paces_in runs.now.items))) }
 {
-    is_text(line, &Reply::Ticks { s: slot, runs })
+    is_text(line, &Reply::Ticks { s: slot, runs }, text)
 }
 
-/// Whether a line is the text of a reply.
-fn is_text(line: &[u8], reply: &Reply) -> bool
+/// Whether a line is the text of a reply, which is printed into the room for it.
+fn is_text(line: &[u8], reply: &Reply, text: &mut Bytes) -> bool
     requires few { FewParts reply.now }
     ensures { result ≡ bytes_eq line.now (text_of_line (line_of reply.now)) }
 {
-    let mut text = ArrayVec::new();
-    print_reply(reply, &mut text);
+    text.clear();
+    print_reply(reply, text);
     line == text.as_slice()
 }
 
-/// The runs in a line, if they have so many letters.
+/// Reads the runs in a line; whether they have so many letters.
 #[tactic(auto, using(crate::proofs::TickLaws::at_letter, crate::proofs::TickLaws::at_other, crate::proofs::TickLaws::past_most, crate::proofs::TickLaws::at_last, crate::proofs::TickLaws::last_other))]
-fn read_runs(line: &[u8], count: u32) -> Option<ArrayVec<Run, 512>>
+fn read_runs(line: &[u8], count: u32, runs: &mut Runs) -> bool
     requires { count ≤ 512 }
-    ensures some { IfSome result (λ runs. paces_from count 0 line.now ≡ paces_in runs.items) }
-    ensures many { IfSome result (λ runs. length (paces_in runs.items) ≡ count) }
-    ensures none { IfNone result (length (paces_from count 0 line.now) ≢ count) }
+    ensures some { result ≡ true → paces_from count 0 line.now ≡ paces_in runs.new.items }
+    ensures many { result ≡ true → length (paces_in runs.new.items) ≡ count }
+    ensures none { result ≡ false → length (paces_from count 0 line.now) ≢ count }
 {
-    let mut runs = ArrayVec::new();
+    runs.clear();
     let mut ticks = 0;
     let mut number = 0;
     for byte in line {
         if let Some(pace) = letter_at(*byte) {
             if ticks + number > count {
-                return None;
+                return false;
             }
-            push_run(&mut runs, pace, number);
+            push_run(runs, pace, number);
             ticks += number;
         }
         number = counted(count, number, *byte);
     }
-    if ticks == count { Some(runs) } else { None }
+    ticks == count
 }
 
 /// Adds so many of one letter as a run, if there are any.
 #[tactic(auto, using(crate::proofs::TickLaws::run_added, crate::proofs::TickLaws::none_added, crate::proofs::TickLaws::added_length))]
-fn push_run(runs: &mut ArrayVec<Run, 512>, pace: Pace, number: u32)
+fn push_run(runs: &mut Runs, pace: Pace, number: u32)
     requires { array_vec_len runs.old + number ≤ 512 }
     ensures paces { paces_in runs.new.items ≡ paces_in runs.old.items ++ replicate number pace }
     ensures ticks { length (paces_in runs.new.items) ≡ length (paces_in runs.old.items) + number }

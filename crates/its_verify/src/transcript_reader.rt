@@ -6,7 +6,7 @@ ghost use Rattle.its_print.specs.Replies.{FewParts, line_of};
 
 use super::outcome::Outcome;
 use super::peeks::is_peek;
-use arrayvec::ArrayVec;
+use super::room::Bytes;
 use its_io::{Failed, Source};
 use its_print::{Reply, print_reply};
 use its_reader::{Next, Texts};
@@ -59,6 +59,7 @@ impl TranscriptReader {
         &mut self,
         src: &mut S,
         reply: &Reply,
+        line: &mut Bytes,
     ) -> Result<Option<Outcome>, Failed>
         requires few { FewParts reply.now }
         requires at_line { AtLine self.old (S.left src.old) }
@@ -66,9 +67,9 @@ impl TranscriptReader {
         ensures stays { Stays result self.new (S.left src.new) }
         ensures cause { HasCause (S.faults src.old) (S.faults src.new) result }
     {
-        let mut line = ArrayVec::new();
-        print_reply(reply, &mut line);
-        self.expect_text(src, &line)
+        line.clear();
+        print_reply(reply, line);
+        self.expect_text(src, line)
     }
 
     /// A line with this text is next.
@@ -130,6 +131,7 @@ impl TranscriptReader {
         src: &mut S,
         number: u32,
         reason: Reason,
+        room: &mut Bytes,
     ) -> Result<Outcome, Failed>
         requires at_line { AtLine self.old (S.left src.old) }
         ensures ends { Concludes result self.old (S.left src.old) (S.left src.new) (expects (Refused number reason ∷ []) at_end) }
@@ -137,7 +139,7 @@ impl TranscriptReader {
         ensures cause { HasCause (S.faults src.old) (S.faults src.new) result }
     {
         let line = Reply::Refused { n: number, reason };
-        if let Some(outcome) = self.expect(src, &line)? {
+        if let Some(outcome) = self.expect(src, &line, room)? {
             return Ok(outcome);
         }
         self.finish(src)

@@ -14,6 +14,7 @@ ghost use Rattle.its_verify.specs.Showing.{is_peek_event};
 
 use super::judge::Judge;
 use super::outcome::Outcome;
+use super::room::Room;
 use super::showing::show_event;
 use super::transcript_reader::TranscriptReader;
 use its_direct::{Answer, Spot};
@@ -21,12 +22,13 @@ use its_io::{Failed, Source};
 use its_records::{Event, Reason};
 
 /// The judge of a session, the lines of its transcript, and the slot of the last turn of a RUN line (before the first one the
-/// highest slot).
+/// highest slot); and room for what a line says.
 #[derive(Drop)]
 pub struct Verifier {
     pub judge: Judge,
     pub reader: TranscriptReader,
     pub last: u8,
+    pub room: Room,
 }
 
 impl Verifier {
@@ -60,7 +62,9 @@ impl Verifier {
         if let Some(outcome) = self.reader.read(src)? {
             return Ok(Some(outcome));
         }
-        let licensed = self.judge.says_ticks(&self.reader.texts.text, slot, count);
+        let licensed = self
+            .judge
+            .says_ticks(&self.reader.texts.text, slot, count, &mut self.room);
         Ok(self.reader.pass_if(licensed))
     }
 
@@ -144,7 +148,10 @@ impl Verifier {
         ensures last { self.new.last ≡ self.old.last }
         ensures cause { HasCause (S.faults src.old) (S.faults src.new) result }
     {
-        Ok(Some(self.reader.refused(src, number, reason)?))
+        Ok(Some(
+            self.reader
+                .refused(src, number, reason, &mut self.room.line)?,
+        ))
     }
 
     /// A line other than TICK and END.
@@ -192,7 +199,14 @@ impl Verifier {
         if is_peek_event(event) {
             self.reader.peek(src)
         } else {
-            show_event(&mut self.reader, src, &self.judge.plain, event, answer)
+            show_event(
+                &mut self.reader,
+                src,
+                &self.judge.plain,
+                event,
+                answer,
+                &mut self.room.line,
+            )
         }
     }
 }

@@ -14,6 +14,7 @@ ghost use Rattle.its_verify.specs.Finds.{Found as IsFound, Judges, ReadsOut};
 use super::judge::Judge;
 use super::keeping::{Broken, Part, keep};
 use super::outcome::Outcome;
+use super::room::Room;
 use super::transcript_reader::TranscriptReader;
 use super::verifier::Verifier;
 use its_direct::Spot;
@@ -72,6 +73,7 @@ fn judge_transcript<S: Source>(
         return Err(Broken::Memory);
     };
     let room = MOST_LINES - texts.number;
+    let lines = Room::new();
     texts.most = TRANSCRIPT_BYTES;
     let mut verifier = Verifier {
         judge,
@@ -81,6 +83,7 @@ fn judge_transcript<S: Source>(
             room,
         },
         last: HIGHEST,
+        room: lines,
     };
     let mut session = SafeSource::of(session);
     match verifier.go(src, &mut session) {

@@ -10,7 +10,7 @@ shown-requires-clause-there g c = told_there c.args.event.now c.in-Ok.answer c.a
 
 pub returns-in-Ok-clause-says : goal.returns-in-Ok-clause-says
 returns-in-Ok-clause-says g c =
-    let mid : Verifier = record { judge = c.event.new.self; reader = c.args.self.now.reader; last = c.args.self.now.last } in
+    let mid : Verifier = record { judge = c.event.new.self; reader = c.args.self.now.reader; last = c.args.self.now.last; room = c.args.self.now.room } in
     told_says c.args.event.now c.in-Ok.answer c.shown.result c.args.self.now mid c.shown.new.self (g.S.Source.left c.args.src.now) (g.S.Source.left c.shown.new.src) c.args.number c.in-Ok.ensures.told c.in-Ok.ensures.dots refl
     c.shown.ensures.judge c.shown.ensures.says
 
