@@ -51,9 +51,9 @@ class Limits(unittest.TestCase):
         limits = BENCH.limits_of(page)
         for name in [BENCH.GEN] + [row.name for row in self.rows()]:
             self.assertIn("| %s" % name, page.replace("`", ""))
-            wanted = 110 if "SOJG" in name else 120 if "mixed" in name else 400 if name.startswith(("gen", "a tick")) else None
+            wanted = 110 if "SOJG" in name else 120 if "mixed" in name else 250 if "64 jobs" in name else 400 if name.startswith(("gen", "a tick")) else None
             self.assertEqual(limits.get(name), wanted, name)
-        self.assertEqual(len(limits), 10)
+        self.assertEqual(len(limits), 11)
 
     def test_sessions(self):
         for row in self.rows():

@@ -1,4 +1,4 @@
-ghost use Rattle.std.specs.Prelude.{◌≡◌, ◌<◌, ◌≤◌, ◌⊎◌, ◌↔◌, true, false, replicate, IfOk};
+ghost use Rattle.std.specs.Prelude.{◌≡◌, ◌<◌, ◌≤◌, ◌⊎◌, ◌↔◌, ℕ, IsTrue, true, false, replicate, IfOk};
 ghost use Rattle.its_word.specs.Limits.{slots};
 ghost use Rattle.its_plain.specs.Machine.{no_machine};
 ghost use Rattle.its_plain.specs.OneByte.{EachByte};
@@ -68,6 +68,18 @@ impl Monitor {
         ensures kept { Kept self.new.world }
     {
         its_tick::steps(&mut self.world, slot, n)
+    }
+
+    /// Whether the call of a slot was found not ready, and the slot is on a wait list. Then each of its ticks is `w`, and none changes anything.
+    #[inline]
+    pub fn waits(&self, slot: u8) -> bool
+        requires slot { slot < slots }
+        requires kept { Kept self.now.world }
+        ensures paces { IsTrue result → (n : ℕ) → paces_of (state_of self.now.world) slot n ≡ replicate n Pace.Wait }
+        ensures state { IsTrue result → (n : ℕ) → after_ticks (state_of self.now.world) slot n ≡ state_of self.now.world }
+        ensures no { result ≡ false → InRing self.now.world slot → ⊥ }
+    {
+        its_tick::waits_on(&self.world, slot)
     }
 
     /// Whether a slot has a job that is not stopped. It disturbs nobody: nothing changes.

@@ -101,3 +101,12 @@ run_ends text n letter rs i d below other =
     ∙ ap (λ b. spaced text (if b then runs_from (n + 1) letter (replicate r.more r.pace ++ rest) else run_of n letter ∷ runs_from 1 (letter_of r.pace) (replicate r.more r.pace ++ rest))) test
     ∙ spaced-append text (run_of n letter ∷ []) (runs_from 1 (letter_of r.pace) (replicate r.more r.pace ++ rest))
     ∙ ap (spaced (spaced text (run_of n letter ∷ []))) (more_go_on r.more 1 (letter_of r.pace) r.pace rest refl)
+
+-- the digits of a number of two
+pub two_digits : (n : ℕ) (text : List ℕ) → 8 ≤ n → n < 64 → (text ++ (48 + n / 8) ∷ []) ++ (48 + n % 8) ∷ [] ≡ text ++ digits_of n
+two_digits n text large small =
+    let one : digits_of (n / 8) ≡ (48 + n / 8) ∷ [] = digits_below_8 (n / 8) (omega arith) in
+    ap (λ ds. (text ++ ds) ++ (48 + n % 8) ∷ []) (sym one) ∙ last_digit n text large
+
+pub two_counted : (n : ℕ) → 8 ≤ n → n < 64 → length (digits_of n) ≡ 2
+two_counted n large small = more_digits n large ∙ ap (λ k. k + 1) (one_digit (n / 8) (omega arith))

@@ -34,8 +34,9 @@ pub fn put_number(out: &mut ArrayVec<u8, 2048>, n: u64)
     put_digits(out, n);
 }
 
-/// The digits of a number, without leading zeros and with no space before them.
-#[tactic(auto, using(its_word::proofs::DigitLaws::digits_below_8, crate::proofs::PutLaws::one_digit, crate::proofs::PutLaws::more_digits, crate::proofs::PutLaws::last_digit))]
+/// The digits of a number, without leading zeros and with no space before them. Most numbers have one or two.
+#[inline]
+#[tactic(auto, using(its_word::proofs::DigitLaws::digits_below_8, crate::proofs::PutLaws::one_digit, crate::proofs::PutLaws::two_digits, crate::proofs::PutLaws::two_counted))]
 fn put_digits(out: &mut ArrayVec<u8, 2048>, n: u64)
     requires room { array_vec_len out.old + length (digits_of n) ≤ 2048 }
     ensures text { out.new.items ≡ out.old.items ++ digits_of n }
@@ -43,8 +44,25 @@ fn put_digits(out: &mut ArrayVec<u8, 2048>, n: u64)
 {
     if n < 8 {
         out.push(b'0' + n as u8);
+    } else if n < 64 {
+        out.push(b'0' + (n / 8) as u8);
+        out.push(b'0' + (n % 8) as u8);
     } else {
-        put_digits(out, n / 8);
+        put_all_digits(out, n);
+    }
+}
+
+/// The same of any number.
+#[tactic(auto, using(its_word::proofs::DigitLaws::digits_below_8, crate::proofs::PutLaws::one_digit, crate::proofs::PutLaws::more_digits, crate::proofs::PutLaws::last_digit))]
+fn put_all_digits(out: &mut ArrayVec<u8, 2048>, n: u64)
+    requires room { array_vec_len out.old + length (digits_of n) ≤ 2048 }
+    ensures text { out.new.items ≡ out.old.items ++ digits_of n }
+    ensures len { array_vec_len out.new ≡ array_vec_len out.old + length (digits_of n) }
+{
+    if n < 8 {
+        out.push(b'0' + n as u8);
+    } else {
+        put_all_digits(out, n / 8);
         out.push(b'0' + (n % 8) as u8);
     }
 }

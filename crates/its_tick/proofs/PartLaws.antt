@@ -23,10 +23,10 @@ use Rattle.its_tick.specs.Kept.{Kept}
 use Rattle.its_tick.proofs.HelpLaws.{help_spared}
 use Rattle.its_tick.proofs.TrialLaws.{Clear, Decides, OnCall, Readies, ReachPages, mid_ready}
 
-abbrev Asks : World → ℕ → Ask → ℕ → Type 0
+abbrev pub Asks : World → ℕ → Ask → ℕ → Type 0
 Asks w s a n = IfSome (standing_of (frame_at w.frames.items s)) (λ f. (a ≡ f.ask) × (n ≡ f.owes))
 
-abbrev OnRaw : World → ℕ → (Whole → Type 0) → Type 0
+abbrev pub OnRaw : World → ℕ → (Whole → Type 0) → Type 0
 OnRaw w s P = IfSome (raw_at w.files w.core w.jobs w.alarms.items s) P
 
 -- what holds of what is asked for, and of the raw job
@@ -57,10 +57,10 @@ module _ (w : World) (s : ℕ) (a : Ask) (n : ℕ) (r : Option Part) (p : Part) 
   pub part_awake : IfSome r (λ p. call_named a.name ≡ Some Siot) → IfSome (standing_of (frame_at w.frames.items s)) (λ f. sleeps (call_named f.ask.name) ≡ false)
   part_awake h = asleep (standing_of (frame_at w.frames.items s)) a n is (some_part (λ p. call_named a.name ≡ Some Siot) h)
 
-  abbrev Goes : Type 0
+  abbrev pub Goes : Type 0
   Goes = IfSome r (λ p. OnRaw w s (λ q. going p ≡ decision (state_of w).raw s q a))
 
-  abbrev Alone : Type 0
+  abbrev pub Alone : Type 0
   Alone = IfSome r (λ p. OnRaw w s (λ q. reach (state_of w).raw s q a ≡ []))
 
   pub part_decides : Goes → Decides w s (going p)

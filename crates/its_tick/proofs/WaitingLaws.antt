@@ -1,6 +1,6 @@
 -- The tick of a slot that is on a wait list: `w`, and nothing changes; and a slot whose call was found not ready has
 -- this letter in no other case.
-use Rattle.std.specs.Prelude.{if◌then◌else◌, ◌≡◌, ◌<◌, ◌==◌, ℕ, Bool, true, false, Option, Some, None, IfSome, List, [], refl}
+use Rattle.std.specs.Prelude.{if◌then◌else◌, ◌≡◌, ◌<◌, ◌==◌, ℕ, zero, suc, Bool, true, false, Option, Some, None, IfSome, List, [], ◌∷◌, replicate, refl}
 use Rattle.std.proofs.Common.{sym, ◌∙◌, ap, subst}
 use Rattle.its_records.specs.declared.calls.Ask.{Ask}
 use Rattle.its_records.specs.declared.calls.Pace.TheVariants.{Wait as Waited}
@@ -27,7 +27,8 @@ use Rattle.its_stepped.specs.Commit.{after_commit}
 use Rattle.its_stepped.specs.Forest.{Forest}
 use Rattle.its_stepped.specs.Sound.{Sound, IsWaitable}
 use Rattle.its_stepped.specs.State.{State, plain, seen, same, waiting}
-use Rattle.its_stepped.specs.Tick.{tick_in, tick, tried, with_preparation, helps, after_help_if}
+use Rattle.its_stepped.specs.Lines.{paces_of, after_ticks}
+use Rattle.its_stepped.specs.Tick.{Ticked, tick_in, tick, tried, with_preparation, helps, after_help_if}
 use Rattle.its_stepped.specs.Unwind.{all_unwound}
 use Rattle.its_stepped.proofs.ConsoledLaws.{raw_consoled}
 use Rattle.its_stepped.proofs.TriedLaws.{waits_unreached}
@@ -169,3 +170,13 @@ waits_blocked w s kept h e = let f = waiting_of (frame_at w.frames.items s) h in
 -- a slot that is on a wait list of a kept world waits
 pub blocked_waits : (w : World) (s : ℕ) → Kept w → Blocked w s → is_waiting (frame_at w.frames.items s) ≡ true
 blocked_waits w s kept b = ap is_waiting (rung w s kept b).in_frame
+
+-- all its ticks
+pub ticks_blocked : (w : World) (s n : ℕ) → Kept w → Blocked w s → (paces_of (state_of w) s n ≡ replicate n Waited) × (after_ticks (state_of w) s n ≡ state_of w)
+ticks_blocked w s zero kept b = (refl, refl)
+ticks_blocked w s (suc n) kept b =
+    let t = tick_blocked w s kept b in
+    let more = ticks_blocked w s n kept b in (
+      ap (λ (x : Ticked). x.pace ∷ paces_of x.state s n) t ∙ ap (λ ps. Waited ∷ ps) more.0,
+      ap (λ (x : Ticked). after_ticks x.state s n) t ∙ more.1,
+    )

@@ -22,4 +22,4 @@ mod users;
 
 pub use its_records::Pace;
 pub use its_world::World;
-pub use ticks::{running, steps, tick};
+pub use ticks::{running, steps, tick, waits_on};

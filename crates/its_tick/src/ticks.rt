@@ -40,8 +40,9 @@ pub fn tick(w: &mut World, slot: u8) -> Pace
     go_on(w, slot)
 }
 
-/// Whether the call of a slot was found not ready, and the slot is on a wait list.
-fn waits_on(w: &World, slot: u8) -> bool
+/// Whether the call of a slot was found not ready, and the slot is on a wait list. Then each of its ticks is `w`, and changes nothing.
+#[inline]
+pub fn waits_on(w: &World, slot: u8) -> bool
     requires slot { slot < slots }
     requires can { Kept w.now ⊎ InRing w.now slot }
     ensures yes { IsTrue result → InRing w.now slot }

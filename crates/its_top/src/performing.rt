@@ -1,5 +1,5 @@
 //! An event is performed: what it does to the monitor and to the block, and what it shows.
-ghost use Rattle.std.specs.Prelude.{◌≡◌, ◌↔◌, ◌≤◌, ◌<◌, ◌+◌, ◌-◌, ◌^◌, IsTrue, Ok, Err, IfSome, IfOk, IfErr, OnOk, List, ◌∷◌, [], length, take};
+ghost use Rattle.std.specs.Prelude.{◌≡◌, ◌≤◌, ◌<◌, ◌+◌, ◌^◌, Ok, Err, IfSome, IfOk, IfErr, OnOk, List, ◌∷◌, ◌++◌, [], length, replicate, take};
 ghost use Rattle.its_word.specs.Limits.{slots};
 ghost use Rattle.its_records.specs.declared.calls.Pace.{Pace};
 ghost use Rattle.its_session.specs.Fits.{EventFits};
@@ -242,8 +242,8 @@ fn store_words(m: &mut Monitor, slot: u8, a: u32, words: &[Word]) -> Result<(), 
     Ok(())
 }
 
-/// The letters of n ticks of a slot, as runs, which are put into an empty array.
-#[tactic(auto, using(crate::proofs::PaceLaws::pacing_start, crate::proofs::PaceLaws::pacing_end))]
+/// The letters of n ticks of a slot, as runs, which are put into an empty array. If the slot waits, they are known before any is made.
+#[tactic(auto, using(crate::proofs::PaceLaws::all_wait, crate::proofs::PaceLaws::paces_length))]
 pub fn paces_of(m: &mut Monitor, s: u8, n: u32, runs: &mut Runs)
     requires sound { Kept m.old.world }
     requires slot { s < slots }
@@ -254,27 +254,62 @@ pub fn paces_of(m: &mut Monitor, s: u8, n: u32, runs: &mut Runs)
     ensures state { state_of m.new.world ≡ after_ticks (state_of m.old.world) s n }
     ensures sound { Kept m.new.world }
 {
-    let mut made = 0;
-    let mut stepped = false;
-    while made < n {
-        let run = run_of(m, s, n - made, stepped);
-        runs.push(run);
-        made += 1 + run.more;
-        stepped = is_step(run.pace);
+    if m.waits(s) {
+        put_run(runs, Pace::Wait, n);
+    } else {
+        paces_made(m, s, n, runs);
     }
 }
 
-/// Whether a tick was a step.
-fn is_step(pace: Pace) -> bool
-    ensures { IsTrue result ↔ (pace ≡ Pace.Step) }
+/// The same, tick by tick. Ticks that follow one another and have the same letter are one run.
+#[inline(never)]
+#[tactic(auto, using(crate::proofs::PaceLaws::pacing_end))]
+fn paces_made(m: &mut Monitor, s: u8, n: u32, runs: &mut Runs)
+    requires sound { Kept m.old.world }
+    requires slot { s < slots }
+    requires few { n ≤ 512 }
+    requires empty { runs.old.items ≡ [] }
+    ensures paces { paces_in runs.new.items ≡ paces_of (state_of m.old.world) s n }
+    ensures state { state_of m.new.world ≡ after_ticks (state_of m.old.world) s n }
+    ensures sound { Kept m.new.world }
 {
-    matches!(pace, Pace::Step)
+    let mut made = 0;
+    let mut last = Pace::Off;
+    let mut count = 0;
+    while made < n {
+        let run = run_of(m, s, n - made, last);
+        if run.pace == last {
+            count += 1 + run.more;
+        } else {
+            put_run(runs, last, count);
+            last = run.pace;
+            count = 1 + run.more;
+        }
+        made += 1 + run.more;
+    }
+    put_run(runs, last, count);
 }
 
-/// The letters of the first ticks of a slot, n at most: of one; and if that is a step, and the tick before it was also one, of all
-/// steps that follow it in user mode. (After a call's one step the job is inside the call.)
-#[tactic(auto, using(crate::proofs::PaceLaws::one_more, crate::proofs::PaceLaws::one_and_steps))]
-fn run_of(m: &mut Monitor, s: u8, n: u32, stepped: bool) -> Run
+/// Puts so many ticks with one letter after the runs: one run, or nothing if they are none.
+#[inline]
+#[tactic(auto, using(crate::proofs::PaceLaws::put_none, crate::proofs::PaceLaws::put_some))]
+fn put_run(runs: &mut Runs, pace: Pace, count: u32)
+    requires room { length runs.old.items + count ≤ 512 }
+    ensures paces { paces_in runs.new.items ≡ paces_in runs.old.items ++ replicate count pace }
+    ensures few { length runs.new.items ≤ length runs.old.items + count }
+{
+    if count > 0 {
+        runs.push(Run {
+            pace,
+            more: count - 1,
+        });
+    }
+}
+
+/// The letters of the first ticks of a slot, n at most: of one, and if the tick before it had the same letter, `last`, of all that surely have
+/// it too.
+#[tactic(auto, using(crate::proofs::PaceLaws::one_more, crate::proofs::PaceLaws::one_and_more))]
+fn run_of(m: &mut Monitor, s: u8, n: u32, last: Pace) -> Run
     requires sound { Kept m.old.world }
     requires slot { s < slots }
     requires some { 0 < n }
@@ -284,12 +319,28 @@ fn run_of(m: &mut Monitor, s: u8, n: u32, stepped: bool) -> Run
     ensures sound { Kept m.new.world }
 {
     let pace = m.tick(s);
+    if pace == last {
+        let more = more_of(m, s, pace, n - 1);
+        return Run { pace, more };
+    }
+    Run { pace, more: 0 }
+}
+
+/// How many ticks of a slot, n at most, surely have the letter of the two before them: after steps all that follow in user mode, and if the
+/// slot waits, all ticks. They are made. (After a call's one step the job is inside the call.)
+#[tactic(auto, using(crate::proofs::PaceLaws::like_these))]
+fn more_of(m: &mut Monitor, s: u8, pace: Pace, n: u32) -> u32
+    requires sound { Kept m.old.world }
+    requires slot { s < slots }
+    ensures few { result ≤ n }
+    ensures paces { paces_of (state_of m.old.world) s result ≡ replicate result pace }
+    ensures state { state_of m.new.world ≡ after_ticks (state_of m.old.world) s result }
+    ensures sound { Kept m.new.world }
+{
     match pace {
-        Pace::Step if stepped => {
-            let more = m.steps(s, n - 1);
-            Run { pace, more }
-        }
-        _ => Run { pace, more: 0 },
+        Pace::Step => m.steps(s, n),
+        Pace::Wait if m.waits(s) => n,
+        _ => 0,
     }
 }
 

@@ -1,21 +1,26 @@
 -- A slot is on a wait list if it is on a list, and not on the Awake list of its console or link.
-use Rattle.std.specs.Prelude.{◌≡◌, ◌<◌, ◌≤◌, ◌↔◌, ◌⊎◌, ◌+◌, ℕ, Bool, true, false, IsTrue, not, Option, Some, None, List, length, nat_lt, refl}
+use Rattle.std.specs.Prelude.{◌≡◌, ◌≢◌, ◌<◌, ◌≤◌, ◌↔◌, ◌⊎◌, ◌+◌, ℕ, Bool, true, false, IsTrue, not, Option, Some, None, List, [], length, unwrap_or, refl}
 use Rattle.std.proofs.Common.{sym, ◌∙◌, ap, subst, inl, inr, arith}
-use Rattle.std.proofs.lemmas.Bool.{cases_Bool, both_ways}
-use Rattle.std.proofs.lemmas.Bool.Decides.{nat_tests}
+use Rattle.std.proofs.lemmas.Bool.{cases_Bool, both_ways, lt-ltb}
 use Rattle.its_links.specs.Lists.{list_at, count, times}
 use Rattle.its_links.proofs.CountLaws.{hit_same, count-le-times, two-le-times}
+use Rattle.its_records.specs.declared.jobs.Channel.{Channel}
 use Rattle.its_records.specs.declared.jobs.Job.{Job}
 use Rattle.its_jobs.specs.Table.{job_at}
 use Rattle.its_frame.specs.declared.decision.Wait.{Wait}
 use Rattle.its_frame.specs.declared.decision.Wait.TheVariants.{Hang, Clock, Input, Output, Drained, Empty, Room}
 use Rattle.its_frame.specs.declared.frame.Frame.{Frame}
-use Rattle.its_frame.specs.declared.frame.Frame.TheVariants.{Entered, Parsed, Asked, Holding, Waiting, Moving, Ending}
+use Rattle.its_frame.specs.declared.frame.Frame.TheVariants.{Waiting}
+use Rattle.its_frame.specs.declared.frame.Waiting.{Waiting as Waits}
+use Rattle.its_frame.specs.declared.name.CallName.{CallName}
+use Rattle.its_frame.specs.declared.name.CallName.TheVariants as calls
 use Rattle.its_records.specs.Links.{most_links}
 use Rattle.its_plain.specs.Arguments.{input}
-use Rattle.its_plain.specs.Reasons.{Doors, held_up}
+use Rattle.its_plain.specs.Decide.{call_named}
+use Rattle.its_plain.specs.Machine.{Chan, TtyIn, TtyOut, Linked}
+use Rattle.its_plain.specs.Reasons.{Doors, held_up, of_transfer, of_finish, of_listen, reason_by}
 use Rattle.its_world.specs.Rings.{heads, IsWaitRing, awake_of, is_within, Within, place_at, StandsIn, IsIn}
-use Rattle.its_world.specs.Filed.{frame_at, wait_reason, if_within, place_for, place_by, doors_of, wait_list_of, awake_for, awake_by, awake_at, Blocked}
+use Rattle.its_world.specs.Filed.{frame_at, kind_of, channel_of, wait_reason, if_within, place_for, place_by, doors_of, wait_list_of, awake_for, awake_by, awake_at, Blocked}
 use Rattle.its_world.proofs.PlaceLaws.{within_is}
 use Rattle.its_world.proofs.RingLaws.{times_none}
 use Rattle.its_world.specs.declared.world.World.{World}
@@ -139,3 +144,49 @@ blocked_not w k i linked is no_link linked_is = (
   (λ h. absurd (both_ways linked no_link h)),
   (λ b. linked_is.1 (subst (λ n. 0 < times n w.rings.lists) (sym is) (blocked_linked w k b))),
 )
+
+-- a call at no link: the Awake list is that of its job's console, or there is none
+abbrev AtConsole : ℕ → Option ℕ → Type 0
+AtConsole c p = (p ≡ None) ⊎ (p ≡ Some (26 + c))
+
+transfer_at : (c : ℕ) (on : Chan) → ((l : ℕ) (w : Bool) → on ≢ Linked l w) → c < 8 → AtConsole c (awake_for (of_transfer c on))
+transfer_at c TtyIn none l = inr (ap (λ b. if_within b (Some (26 + c))) (lt-ltb c 8 l))
+transfer_at c TtyOut none l = inr (ap (λ b. if_within b (Some (26 + c))) (lt-ltb c 8 l))
+transfer_at c (Linked n w) none l = absurd (none n w refl)
+transfer_at c _ none l = inl refl
+
+finish_at : (c : ℕ) (on : Chan) → c < 8 → AtConsole c (awake_for (of_finish c on))
+finish_at c TtyOut l = inr (ap (λ b. if_within b (Some (26 + c))) (lt-ltb c 8 l))
+finish_at c _ l = inl refl
+
+listen_at : (c : ℕ) (on : Chan) → c < 8 → AtConsole c (awake_for (of_listen c on))
+listen_at c TtyIn l = inr (ap (λ b. if_within b (Some (26 + c))) (lt-ltb c 8 l))
+listen_at c TtyOut l = inr (ap (λ b. if_within b (Some (26 + c))) (lt-ltb c 8 l))
+listen_at c _ l = inl refl
+
+reason_at : (c : ℕ) (on : Chan) (o : Option CallName) → ((l : ℕ) (w : Bool) → on ≢ Linked l w) → c < 8 → AtConsole c (awake_for (reason_by c on o))
+reason_at c on (Some calls.Iot) none l = transfer_at c on none l
+reason_at c on (Some calls.Siot) none l = transfer_at c on none l
+reason_at c on (Some calls.Finish) none l = finish_at c on l
+reason_at c on (Some calls.Listen) none l = listen_at c on l
+reason_at c on _ none l = inl refl
+
+no_one : (lists : List (List ℕ)) (k c : ℕ) (p : Option ℕ) → AtConsole c p → list_at lists (26 + c) ≡ [] → IsIn lists k p → ⊥
+no_one lists k c p (inl none) still is = subst (IsIn lists k) none is
+no_one lists k c p (inr at) still is = let h : 0 < count k (list_at lists (26 + c)) = subst (IsIn lists k) at is in let e : count k (list_at lists (26 + c)) ≡ 0 = ap (count k) still in omega arith
+
+pub asleep : (w : World) (k c : ℕ) (j : Job) (f : Waits) (g : Channel) → job_at w.jobs k ≡ Some j → frame_at w.frames.items k ≡ Some (Waiting f)
+    → g ≡ channel_of j (input f.ask 0) → ((l : ℕ) (b : Bool) → kind_of g ≢ Linked l b) → c ≡ unwrap_or j.console 0 → c < 8 → list_at w.rings.lists (26 + c) ≡ []
+    → IsIn w.rings.lists k (awake_at w k) → ⊥
+unfolding awake_at
+asleep w k c j f g job fr on none at l still is =
+    let name = call_named f.ask.name in
+    let seen : IsIn w.rings.lists k (awake_by (Some j) (Some (Waiting f))) =
+    subst (λ (o : Option Frame). IsIn w.rings.lists k (awake_by (Some j) o)) fr (subst (λ (o : Option Job). IsIn w.rings.lists k (awake_by o (frame_at w.frames.items k))) job is) in
+    let held : IsIn w.rings.lists k (awake_for (reason_by (unwrap_or j.console 0) (kind_of g) name)) =
+    subst (λ (x : Channel). IsIn w.rings.lists k (awake_for (reason_by (unwrap_or j.console 0) (kind_of x) name))) (sym on) seen in
+    no_one w.rings.lists k c (awake_for (reason_by c (kind_of g) name)) (reason_at c (kind_of g) name none l) still
+    (subst (λ n. IsIn w.rings.lists k (awake_for (reason_by n (kind_of g) name))) (sym at) held)
+
+pub not_awake : {P : Type 0} → (P → ⊥) → IsTrue false ↔ P
+not_awake never = ((λ h. cc), (λ p. absurd (never p)))

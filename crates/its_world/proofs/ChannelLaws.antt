@@ -6,7 +6,7 @@ use Rattle.its_word.specs.Directory.{without_names, with_changed, named}
 use Rattle.its_word.specs.Limits.{slots}
 use Rattle.its_word.specs.Only.{Only, Same}
 use Rattle.its_records.specs.declared.jobs.Channel.{Channel}
-use Rattle.its_records.specs.declared.jobs.Channel.TheVariants.{Closed, TtyIn, TtyOut, Reading, Writing, Usr}
+use Rattle.its_records.specs.declared.jobs.Channel.TheVariants.{Closed, Reading, Writing, Usr}
 use Rattle.its_files.specs.Files.{Store, IsStore, entry_at, is_file, names_at, names_by, words_at, readers_at, directory, found, with_readers, with_draft, after_discard, with_word, close, delete, rename, new_names}
 use Rattle.its_files.specs.declared.entry.Entry.TheVariants.{File, Draft}
 use Rattle.its_frame.specs.declared.change.Change.TheVariants.{Open, Shut as Shuts, Move, Append, Close, Delete, Rename}

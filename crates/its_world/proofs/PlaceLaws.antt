@@ -21,13 +21,13 @@ use Rattle.its_plain.specs.CallLink.{is_dry, is_crowded}
 use Rattle.its_plain.specs.Machine.{Shut}
 use Rattle.its_plain.specs.Moves.{Device, AtConsole, AtLink}
 use Rattle.its_plain.specs.Decide.{call_named}
-use Rattle.its_frame.specs.declared.frame.Frame.TheVariants.{Entered, Parsed, Asked, Holding, Waiting, Moving, Ending}
+use Rattle.its_frame.specs.declared.frame.Frame.TheVariants.{Waiting}
 use Rattle.its_plain.specs.Arguments.{input}
 use Rattle.its_plain.specs.Reasons.{Doors, held_up, reason_by}
 use Rattle.its_records.specs.Links.{most_links}
 use Rattle.its_pipes.specs.Pipes.{piped}
 use Rattle.its_machine.proofs.PartLaws.{all_closed}
-use Rattle.its_world.specs.Rings.{heads, awake_of, post_of, is_within, Within, place_at, mark, StandsIn, AwayFrom, input_lists, output_lists, lists_at, lists_to, link_lists, link_lists_to, lists_of}
+use Rattle.its_world.specs.Rings.{heads, post_of, is_within, Within, place_at, mark, StandsIn, AwayFrom, input_lists, output_lists, lists_at, lists_to, link_lists, link_lists_to, lists_of}
 use Rattle.its_world.specs.Filed.{frame_at, console_at, holder_at, kind_of, channel_of, wait_reason, if_within, place_for, place_by, doors_of, wait_list_of, Ringed, OnlyRings, Refiled, Resettled, SlotWritten, DoorsWritten}
 use Rattle.its_world.specs.declared.world.World.{World}
 

@@ -24,7 +24,7 @@ use Rattle.its_world.specs.declared.world.World.{World}
 use Rattle.its_machine.specs.Channels.{OnlyChannel, Shows}
 use Rattle.its_machine.proofs.ChanLaws.{raw_alike, job_by, chan_by, shut_by}
 use Rattle.its_machine.proofs.KeptLaws.{Kept, Stays}
-use Rattle.its_machine.proofs.SetLaws.{only_same, channel_put, channel_absent, channel_same, none_before, raw_channel}
+use Rattle.its_machine.proofs.SetLaws.{channel_put, channel_absent, channel_same, none_before, raw_channel}
 use Rattle.its_world.proofs.MarkLaws.{mark_none, none_marked}
 use Rattle.its_world.proofs.PlaceLaws.{ringed_alike, slot_ringed}
 use Rattle.its_world.proofs.WorldLaws.{alike}

@@ -12,7 +12,6 @@ use Rattle.its_jobs.specs.Table.{job_at}
 use Rattle.its_plain.specs.Change.{rest_of}
 use Rattle.its_machine.proofs.CoreLaws.{same_core, same_clear}
 use Rattle.its_world.specs.World.{frame_at, console_at, holder_at, frames_after, with_frames, Becomes, CoreBecomes, PageBecomes, ConsoleBecomes, HolderBecomes, LinkBecomes, ClockBecomes, typed_at}
-use Rattle.its_records.specs.Links.{most_links}
 use Rattle.its_plain.specs.Machine.{Pipe}
 use Rattle.its_plain.specs.Moves.{AtConsole, AtLink}
 use Rattle.its_pipes.specs.Pipes.{piped}

@@ -1,15 +1,17 @@
 //! Slots whose calls wait are on the list of their reason: each write of the world puts the slots whose place it can
 //! change on the lists to which they belong.
 
-ghost use Rattle.std.specs.Prelude.{◌≡◌, ◌<◌, ◌∷◌, ◌++◌, ◌↔◌, ◌⊎◌, [], IsTrue, length, true, false, None};
+ghost use Rattle.std.specs.Prelude.{◌≡◌, ◌≢◌, ◌<◌, ◌+◌, ◌∷◌, ◌++◌, ◌↔◌, ◌⊎◌, [], ℕ, Bool, IsTrue, length, true, false, None};
 ghost use Rattle.its_word.specs.Limits.{slots};
 ghost use Rattle.its_records.specs.Links.{most_links};
 ghost use Rattle.its_jobs.specs.Table.{job_at};
+ghost use Rattle.its_links.specs.Lists.{list_at};
+ghost use Rattle.its_plain.specs.Machine.{Linked};
 ghost use Rattle.its_plain.specs.Arguments.{input};
 ghost use Rattle.its_plain.specs.CallTty.{is_other};
 ghost use Rattle.its_plain.specs.Reasons.{held_up};
 ghost use Rattle.its_world.specs.Rings.{heads, input_lists, lists_at, lists_to, link_lists, link_lists_to, output_lists, IsIn, StandsIn};
-ghost use Rattle.its_world.specs.Filed.{console_at, holder_at, channel_of, wait_reason, place_for, wait_list_of, awake_for, awake_at, doors_of, Blocked, Refiled, Resettled};
+ghost use Rattle.its_world.specs.Filed.{console_at, holder_at, kind_of, channel_of, wait_reason, place_for, wait_list_of, awake_for, awake_at, doors_of, Blocked, Refiled, Resettled};
 
 use super::rings::{CLOCK_RING, awake_of, is_within, put, reason_by, ring_of, stands_in};
 use super::world::{CONSOLES, World};
@@ -43,6 +45,13 @@ fn channel_of(job: &Job, n: u64) -> Channel
     } else {
         Channel::Closed
     }
+}
+
+/// Whether a channel is on a link.
+fn is_link(channel: Channel) -> bool
+    ensures { result ≡ false → (l : ℕ) (w : Bool) → kind_of channel ≢ Linked l w }
+{
+    matches!(channel, Channel::Link { .. })
 }
 
 /// The Awake list of the console of a reason, if the reason is at one of the eight, or of its link, if it is at one of the
@@ -151,9 +160,48 @@ impl World {
         }
     }
 
+    /// Whether no slot is on the Awake list of a console.
+    #[inline]
+    fn is_still(&self, console: u8) -> bool
+        ensures { result ≡ true → (console < 8) × (list_at self.now.rings.lists (26 + console) ≡ []) }
+    {
+        console < 8 && self.rings.front(26 + u32::from(console)).is_none()
+    }
+
+    /// Whether the channel of the call of a slot is on no link, and nobody is on the Awake list of its job's console. If so, the slot is on no
+    /// Awake list.
+    #[inline]
+    fn is_asleep(&self, slot: u8) -> bool
+        requires { slot < slots }
+        ensures { result ≡ true → IsIn self.now.rings.lists slot (awake_at self.now slot) → ⊥ }
+    {
+        let View::Waiting { ask, .. } = self.frame(slot) else {
+            return false;
+        };
+        let Some(job) = self.jobs.job(slot) else {
+            return false;
+        };
+        if is_link(channel_of(job, first_input(ask))) {
+            return false;
+        }
+        self.is_still(job.console.unwrap_or(0))
+    }
+
     /// Whether a slot is on the Awake list of the console or link at which its call waits.
-    #[inline(never)]
+    #[inline]
     fn is_awake(&self, slot: u8) -> bool
+        requires { slot < slots }
+        ensures { IsTrue result ↔ IsIn self.now.rings.lists slot (awake_at self.now slot) }
+    {
+        if self.is_asleep(slot) {
+            return false;
+        }
+        self.stands_awake(slot)
+    }
+
+    /// Whether a slot is on the Awake list of the console or link at which its call waits: that list is searched.
+    #[inline(never)]
+    fn stands_awake(&self, slot: u8) -> bool
         requires { slot < slots }
         ensures { IsTrue result ↔ IsIn self.now.rings.lists slot (awake_at self.now slot) }
     {

@@ -1,5 +1,5 @@
-use Rattle.its_world.proofs.BlockedLaws.{awake_within}
+use Rattle.its_world.proofs.BlockedLaws.{not_awake}
 use Rattle.its_world.proofs.world.World.is_awake.Goals as goal
 
-pub stands_in-requires-clause-head : goal.stands_in-requires-clause-head
-stands_in-requires-clause-head c = awake_within c.args.self.now c.args.slot c.in-Some.head _ c.awake_at.ensures c.in-Some.is
+pub returns-then-is_asleep : goal.returns-then-is_asleep
+returns-then-is_asleep c = not_awake (c.is_asleep.ensures c.if-is_asleep.true)
