@@ -1,6 +1,6 @@
 -- Whether a test stops a transfer, and the decision that it then makes.
-use Rattle.std.specs.Prelude.{◌≡◌, Bool, true, false, Option, Some, None, is_some, refl}
-use Rattle.std.proofs.Common.{sym, ◌∙◌}
+use Rattle.std.specs.Prelude.{◌≡◌, Option, Some, None}
+use Rattle.std.proofs.Common.{sym}
 use Rattle.its_frame.specs.declared.decision.Decision.{Decision}
 
 pub stopped_so : (o : Option Decision) (d : Decision) → o ≡ Some d → Some d ≡ o

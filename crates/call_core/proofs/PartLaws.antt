@@ -1,6 +1,6 @@
 -- A part of SIOT is the decision of its call, which reaches no other job.
-use Rattle.std.specs.Prelude.{if◌then◌else◌, ◌==◌, ◌≡◌, ℕ, Bool, true, false, Option, Some, None, IfSome, List, [], refl}
-use Rattle.std.proofs.Common.{sym, ◌∙◌, ap, subst}
+use Rattle.std.specs.Prelude.{if◌then◌else◌, ◌==◌, ◌≡◌, ℕ, Bool, true, false, Option, Some, None, IfSome, [], refl}
+use Rattle.std.proofs.Common.{sym, ◌∙◌, ap}
 use Rattle.std.proofs.lemmas.Bool.{eq-eqb, eqb-true}
 use Rattle.its_records.specs.declared.calls.Ask.{Ask}
 use Rattle.its_records.specs.declared.jobs.Channel.{Channel}
@@ -8,18 +8,17 @@ use Rattle.its_records.specs.declared.jobs.Channel.TheVariants.{Usr}
 use Rattle.its_records.specs.declared.jobs.Job.{Job}
 use Rattle.its_files.specs.Files.{Store}
 use Rattle.its_frame.specs.Calls.{call_named, sixbit}
-use Rattle.its_frame.specs.declared.decision.Decision.{Decision}
 use Rattle.its_frame.specs.declared.name.CallName.{CallName}
 use Rattle.its_frame.specs.declared.name.CallName.TheVariants.{Siot}
 use Rattle.its_jobs.specs.Table.{job_at}
 use Rattle.its_machine.specs.Called.{channel_under}
-use Rattle.its_machine.specs.Parts.{chan_of, chans_of}
+use Rattle.its_machine.specs.Parts.{chan_of}
 use Rattle.its_machine.proofs.NumberLaws.{under}
 use Rattle.its_plain.specs.Arguments.{input}
 use Rattle.its_plain.specs.CallBasic.{channel_at, is_oneself}
 use Rattle.its_plain.specs.CallDevice.{siot_call}
 use Rattle.its_plain.specs.CallStep.{decision}
-use Rattle.its_plain.specs.Decide.{argument_of, decided, decided_by, inferior_on, listed, reach, reach_by, target, target_by}
+use Rattle.its_plain.specs.Decide.{argument_of, decided, decided_by, inferior_on, listed, reach, target, target_by}
 use Rattle.its_plain.specs.Machine.{Machine, Whole}
 use Rattle.its_plain.specs.Tests.{fails}
 use Rattle.its_plain.specs.View.{View}

@@ -3,7 +3,6 @@
 use Rattle.std.specs.Prelude.{if◌then◌else◌, ◌≡◌, ◌≢◌, ◌≤◌, ◌<◌, ℕ, Bool, true, false, Option, None, [], option_map}
 use Rattle.its_word.specs.Core.{no_core}
 use Rattle.its_word.specs.Only.{Only}
-use Rattle.its_records.specs.declared.jobs.Channel.TheVariants as channels
 use Rattle.its_records.specs.declared.jobs.Job.{Job}
 use Rattle.its_core.specs.Cores.{core_at, clear_at}
 use Rattle.its_jobs.specs.Table.{job_at}

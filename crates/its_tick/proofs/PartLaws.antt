@@ -1,5 +1,5 @@
 -- A part of SIOT is tried in the world as it is: nobody is reached, and nothing is to be performed before.
-use Rattle.std.specs.Prelude.{◌≡◌, ℕ, true, false, Option, Some, None, IfSome, is_some, List, [], refl}
+use Rattle.std.specs.Prelude.{◌≡◌, ℕ, true, false, Option, Some, None, IfSome, is_some, List, []}
 use Rattle.std.proofs.Common.{sym, ◌∙◌, ap, subst}
 use Rattle.call_basic.specs.Parts.{going}
 use Rattle.call_basic.specs.declared.transfer.Part.{Part}

@@ -9,12 +9,12 @@ use Rattle.its_print.specs.Printing.{text_of_line, text}
 use Rattle.its_print.specs.Printing as printed
 use Rattle.its_plain.specs.Operator.{Block}
 use Rattle.its_plain.specs.OperatorLines.{operate, lined}
-use Rattle.its_plain.specs.Turns.{runs, turn_after, turns_asked, ticks_asked}
+use Rattle.its_plain.specs.Turns.{turn_after, turns_asked, ticks_asked}
 use Rattle.its_stepped.specs.State.{State}
 use Rattle.its_stepped.specs.Lines.{Told, after_calm, paces_of, after_ticks, turned_by, turned, told}
 use Rattle.its_top.specs.declared.flow.Flow.{Flow}
 use Rattle.its_top.specs.declared.flow.Flow.TheVariants as flows
-use Rattle.its_top.specs.Telling.{Says, said, after, BeginsText, line_says, session_says, Answers, FollowsBy, CircledBy, goes_on}
+use Rattle.its_top.specs.Telling.{Says, said, after, BeginsText, session_says, Answers, FollowsBy, CircledBy, goes_on}
 use Rattle.its_top.specs.Answer.{WroteFor, Tells, Answered, Follows, Circled, CircleSo}
 use Rattle.its_top.proofs.EventLaws.{after_after, text_one, said_telling}
 use Rattle.its_top.proofs.ConclusionLaws.{on_of}

@@ -1,5 +1,5 @@
 -- The lines that the monitor writes have at most twelve `.` in a row (docs/STEPS.md, "Lines").
-use Rattle.std.specs.Prelude.{◌≡◌, ◌<◌, ◌≤◌, ℕ, zero, suc, ◌+◌, Option, Some, None, List, [], ◌∷◌, length, drop, unwrap_or, refl}
+use Rattle.std.specs.Prelude.{◌≡◌, ◌<◌, ◌≤◌, ℕ, zero, suc, ◌+◌, Option, Some, None, List, ◌∷◌, length, unwrap_or, refl}
 use Rattle.std.proofs.Common.{sym, ap, subst, arith}
 use Rattle.std.proofs.lemmas.List.{drop_at}
 use Rattle.std.specs.List.{AllByRecursion}
@@ -16,7 +16,7 @@ use Rattle.its_plain.specs.Licence.{Licensed, Dots, dots_after, dots_after_line}
 use Rattle.its_plain.specs.Machine.{Machine, no_machine}
 use Rattle.its_plain.specs.Operator.{Block, no_block, Refuses, Does, Ticks, Quits}
 use Rattle.its_plain.specs.OperatorLines.{Lined, Done, Peeks, lined}
-use Rattle.its_plain.specs.Transcript.{Walk, at_start, after_letter, walk_after, next_line}
+use Rattle.its_plain.specs.Transcript.{Walk, at_start, after_letter, next_line}
 use Rattle.its_plain.specs.Turns.{turn_after, highest, turns_asked, ticks_asked}
 use Rattle.its_plain.proofs.FairLaws.{turn_within}
 use Rattle.its_stepped.specs.Calling.{Decoding}

@@ -1,18 +1,16 @@
 -- From what the program did for a command to the promises of the top call.
-use Rattle.std.specs.Prelude.{◌≡◌, ◌≢◌, ◌⊎◌, ℕ, ◌+◌, true, false, Option, Some, None, IfSome, List, [], refl}
-use Rattle.std.proofs.Common.{sym, ◌∙◌, subst, arith, append-nil, inl, inr}
+use Rattle.std.specs.Prelude.{◌≡◌, ◌≢◌, ◌⊎◌, ℕ, true, false, Option, Some, None, IfSome, List, [], refl}
+use Rattle.std.proofs.Common.{sym, ◌∙◌, subst, append-nil, inl, inr}
 use Rattle.std.specs.Io.KnownBytes.{Appends, Consumes}
-use Rattle.its_print.specs.Printing.{text}
 use Rattle.its_session.specs.Events.{events_of}
 use Rattle.its_reader.specs.Items.{ReadOut}
-use Rattle.its_stepped.specs.Lines.{stepped}
 use Rattle.its_top.specs.declared.status.Status.{Status}
 use Rattle.its_top.specs.declared.status.Status.TheVariants as statuses
 use Rattle.its_top.specs.declared.commands.Command.{Command}
 use Rattle.its_top.specs.declared.commands.Command.TheVariants as commands
 use Rattle.its_top.specs.declared.checking.Checked.{Checked}
 use Rattle.its_top.specs.declared.checking.Checked.TheVariants as checks
-use Rattle.its_top.specs.Conclusion.{IsDone, WasRun, Session}
+use Rattle.its_top.specs.Conclusion.{WasRun, Session}
 use Rattle.its_top.specs.Commands.{reads_input, keeps, IfGenerates}
 use Rattle.its_top.specs.Checking.{checked, checked_text, Passes, Fails, StatusFor, WroteText, CheckOf, Check}
 use Rattle.its_top.specs.Generating.{generated_text}
@@ -21,7 +19,6 @@ use Rattle.its_top.specs.Assembling.{Asm, AsmOf}
 use Rattle.its_top.specs.Verifying.{Verify}
 use Rattle.its_top.specs.Outcomes.{Begins, CheckBreaks, CheckFails, CheckPasses, CheckRunsOn, usage}
 use Rattle.its_top.specs.Top.{DoneFor, Obeyed, Refrains}
-use Rattle.its_top.proofs.TopLaws.{session_done, session_refused, session_too_long, session_breaks, session_begins, session_written, session_transcribed, one_of, session_complete}
 
 pub if_all : (left : Option (List ℕ)) (P : List ℕ → Type 0) → ((b : List ℕ) → P b) → IfSome left P
 if_all None P f = tt

@@ -1,14 +1,12 @@
 -- The promises of the top call, command by command, from what was done for the command.
 use Rattle.std.specs.Prelude.{◌≡◌, ◌≢◌, ◌⊎◌, ℕ, ◌+◌, Option, Some, None, IfSome, List, refl}
 use Rattle.std.proofs.Common.{subst, inl, inr}
-use Rattle.std.specs.Io.KnownBytes.{Appends}
 use Rattle.its_top.specs.declared.commands.Command.{Command}
 use Rattle.its_top.specs.declared.commands.Command.TheVariants as commands
 use Rattle.its_top.specs.declared.status.Status.{Status}
 use Rattle.its_top.specs.declared.status.Status.TheVariants as statuses
 use Rattle.its_top.specs.Commands.{IfGenerates}
 use Rattle.its_top.specs.Conclusion.{Session, WasRun}
-use Rattle.its_top.specs.Generating.{generated_text}
 use Rattle.its_top.specs.Outcomes.{AsmSays, CheckSays, Faults, OfAsm, OfCheck, OfGen, OfNoCommand, OfRun, OfVerify, RunSays, Unfailed, VerifySays, WroteAll}
 use Rattle.its_top.specs.Top.{Obeyed}
 use Rattle.its_top.proofs.AssemblingLaws.{asm_answered, asm_begins, asm_breaks, asm_done, asm_ran, asm_refused, asm_too_long}

@@ -1,7 +1,7 @@
 -- What each answer of the program says: why it comes, what was written, and what was read (docs/PROVED.md, "Answers"). What is written
 -- of a session is a function of its events, by the stepped machine; that it is a transcript is said in Promise.
 -- No promise rests on this.
-use Rattle.std.specs.Prelude.{◌≡◌, ◌≢◌, ◌⊎◌, ℕ, ◌+◌, true, false, Option, Some, None, IfSome, Err, List, [], ◌++◌, codes}
+use Rattle.std.specs.Prelude.{◌≡◌, ◌≢◌, ◌⊎◌, ℕ, ◌+◌, true, false, Option, Some, IfSome, Err, List, [], ◌++◌, codes}
 use Rattle.std.specs.Io.KnownBytes.{Appends, Consumes}
 use Rattle.its_print.specs.Printing.{text}
 use Rattle.its_session.specs.Events.{events_of, whole_events_of}

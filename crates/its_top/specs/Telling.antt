@@ -1,6 +1,6 @@
 -- What a session writes from some point on, over its items.
 -- No promise rests on this.
-use Rattle.std.specs.Prelude.{◌≡◌, ℕ, ◌+◌, Bool, true, false, Some, List, ◌∷◌, ◌++◌}
+use Rattle.std.specs.Prelude.{◌≡◌, ℕ, ◌+◌, Bool, true, false, List, ◌∷◌, ◌++◌}
 use Rattle.its_records.specs.Item.{Item, Read}
 use Rattle.its_records.specs.declared.session.Event.{Event}
 use Rattle.its_records.specs.declared.session.Event.TheVariants as events

@@ -1,13 +1,13 @@
 -- The result of `its verify` (docs/SESSION.md, "its verify").
 -- No promise rests on this.
-use Rattle.std.specs.Prelude.{◌≡◌, ◌≢◌, ◌≤◌, ◌<◌, ◌⊎◌, ℕ, ◌+◌, Option, Some, IfSome, List, [], ◌∷◌, ◌++◌, length}
+use Rattle.std.specs.Prelude.{◌≡◌, ◌≢◌, ◌≤◌, ◌<◌, ◌⊎◌, ℕ, ◌+◌, Option, Some, IfSome, List, [], ◌++◌, length}
 use Rattle.std.specs.Io.KnownBytes.{Appends}
 use Rattle.its_session.specs.Events.{events_of, most_lines}
 use Rattle.its_reader.specs.TextLines.{lines_in}
-use Rattle.its_verify.specs.Accepted.{Accepted, IsFirst}
+use Rattle.its_verify.specs.Accepted.{IsFirst}
 use Rattle.its_verify.specs.Finds.{Breaks}
 use Rattle.its_verify.specs.Rulings.{Yes, No}
-use Rattle.its_verify.specs.Verified.{Answer, Judged, Long, Cut, TooLong, Both, LongLine, NoEnd, TooMany, parts_from, verified, answer_text}
+use Rattle.its_verify.specs.Verified.{Answer, Judged, Long, Cut, TooLong, LongLine, NoEnd, TooMany, parts_from, verified, answer_text}
 use Rattle.its_top.specs.Promise.{IsCut, Licensed}
 use Rattle.its_top.specs.declared.status.Status.{Status}
 use Rattle.its_top.specs.declared.status.Status.TheVariants as statuses

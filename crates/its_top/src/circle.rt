@@ -9,10 +9,11 @@ ghost use Rattle.its_monitor.specs.Kept.{Kept};
 ghost use Rattle.its_top.specs.Causes.{FlowCause};
 ghost use Rattle.its_top.specs.Answer.{Circled, FindsStart, Follows, block_of};
 
-use super::answer::{answer, tick_line};
+use super::answer::answer;
 use super::flow::Flow;
 use super::progress::Progress;
 use super::room::Room;
+use super::ticking::tick_line;
 use its_io::Sink;
 use its_monitor::Monitor;
 use its_records::Event;

@@ -1,29 +1,28 @@
 //! An event is performed: what it does to the monitor and to the block, and what it shows.
-ghost use Rattle.std.specs.Prelude.{◌≡◌, ◌≤◌, ◌<◌, ◌+◌, ◌^◌, Ok, Err, IfSome, IfOk, IfErr, OnOk, List, ◌∷◌, ◌++◌, [], length, replicate, take};
+ghost use Rattle.std.specs.Prelude.{◌≡◌, ◌≤◌, ◌<◌, ◌+◌, ◌^◌, Ok, Err, IfSome, IfOk, IfErr, OnOk, List, length};
 ghost use Rattle.its_word.specs.Limits.{slots};
 ghost use Rattle.its_records.specs.declared.calls.Pace.{Pace};
 ghost use Rattle.its_session.specs.Fits.{EventFits};
 ghost use Rattle.its_plain.specs.Operator.{Block};
-ghost use Rattle.its_plain.specs.OperatorJobs.{with_words_loaded, with_words_stored, examined};
-ghost use Rattle.its_plain.specs.OperatorConsoles.{with_typed, dropped, after_drain};
+ghost use Rattle.its_plain.specs.OperatorJobs.{examined};
 ghost use Rattle.its_stepped.specs.Unwind.{unwound};
-ghost use Rattle.its_stepped.specs.Lines.{paces_of, after_ticks};
 ghost use Rattle.its_world.specs.World.{state_of};
 ghost use Rattle.its_records.specs.Refusals.{reason_of};
-ghost use Rattle.its_monitor.specs.Kept.{Kept, Lands};
+ghost use Rattle.its_monitor.specs.Kept.{Kept};
 ghost use Rattle.its_print.specs.Runs.{paces_in};
 ghost use Rattle.its_top.specs.Answer.{FindsStart, block_of};
 ghost use Rattle.its_top.specs.Performing.{Performed, quiet};
 
-use super::consoles::{drain, load_job, type_in};
+use super::consoles::{drain_bytes, type_bytes};
 use super::filing::{add_words, find_file, list_files, make_file};
+use super::loading::{load_job, load_words};
 use super::progress::Progress;
 use super::room::Runs;
 use super::shown::{Over, Shown};
+use super::ticking::paces_of;
 use arrayvec::ArrayVec;
 use its_monitor::Monitor;
-use its_print::Run;
-use its_records::{Event, Pace, Refusal};
+use its_records::{Event, Refusal};
 use its_word::Word;
 
 /// Performs an event, unless the event ends the session. The letters of its ticks are then in the room for them, and nothing else is.
@@ -204,183 +203,4 @@ pub fn words_of(m: &mut Monitor, s: u8, a: u32, n: u32) -> Result<ArrayVec<Word,
         }
     }
     Ok(words)
-}
-
-/// Loads the words of an a/ line, in order; all are tested for read-only pages before the first is stored.
-#[tactic(auto, using(crate::proofs::LoadingLaws::barred, crate::proofs::LoadingLaws::stored, crate::proofs::LoadingLaws::not_stored))]
-pub fn load_words(m: &mut Monitor, slot: u8, a: u32, words: &[Word]) -> Result<(), Refusal>
-    requires sound { Kept m.old.world }
-    requires slot { slot < slots }
-    requires some { 1 ≤ length words.now }
-    requires end { a + length words.now ≤ 2 ^ 18 }
-    ensures done { OnOk result (Lands (unwound (state_of m.old.world) slot) (state_of m.new.world) (with_words_loaded (unwound (state_of m.old.world) slot).raw slot a words.now)) }
-    ensures refused { IfErr result (λ e. with_words_loaded (unwound (state_of m.old.world) slot).raw slot a words.now ≡ Err (reason_of e)) }
-    ensures sound { Kept m.new.world }
-{
-    if m.barred(slot, a, words.len() as u32) {
-        return Err(Refusal::ReadOnly);
-    }
-    store_words(m, slot, a, words)
-}
-
-/// Stores the words of an a/ line, in order, and makes the pages that they need.
-#[tactic(auto, using(crate::proofs::LoadingLaws::loading_start, crate::proofs::LoadingLaws::loading_fails, crate::proofs::LoadingLaws::loading_end))]
-fn store_words(m: &mut Monitor, slot: u8, a: u32, words: &[Word]) -> Result<(), Refusal>
-    requires sound { Kept m.old.world }
-    requires slot { slot < slots }
-    requires some { 1 ≤ length words.now }
-    requires end { a + length words.now ≤ 2 ^ 18 }
-    ensures done { OnOk result (Lands (unwound (state_of m.old.world) slot) (state_of m.new.world) (with_words_stored (unwound (state_of m.old.world) slot).raw slot a words.now)) }
-    ensures refused { IfErr result (λ e. with_words_stored (unwound (state_of m.old.world) slot).raw slot a words.now ≡ Err (reason_of e)) }
-    ensures sound { Kept m.new.world }
-{
-    let mut at = a;
-    for w in words {
-        m.load_word(slot, at, *w)?;
-        at += 1;
-    }
-    Ok(())
-}
-
-/// The letters of n ticks of a slot, as runs, which are put into an empty array. If the slot waits, they are known before any is made.
-#[tactic(auto, using(crate::proofs::PaceLaws::all_wait, crate::proofs::PaceLaws::paces_length))]
-pub fn paces_of(m: &mut Monitor, s: u8, n: u32, runs: &mut Runs)
-    requires sound { Kept m.old.world }
-    requires slot { s < slots }
-    requires few { n ≤ 512 }
-    requires empty { runs.old.items ≡ [] }
-    ensures paces { paces_in runs.new.items ≡ paces_of (state_of m.old.world) s n }
-    ensures count { length (paces_in runs.new.items) ≡ n }
-    ensures state { state_of m.new.world ≡ after_ticks (state_of m.old.world) s n }
-    ensures sound { Kept m.new.world }
-{
-    if m.waits(s) {
-        put_run(runs, Pace::Wait, n);
-    } else {
-        paces_made(m, s, n, runs);
-    }
-}
-
-/// The same, tick by tick. Ticks that follow one another and have the same letter are one run.
-#[inline(never)]
-#[tactic(auto, using(crate::proofs::PaceLaws::pacing_end))]
-fn paces_made(m: &mut Monitor, s: u8, n: u32, runs: &mut Runs)
-    requires sound { Kept m.old.world }
-    requires slot { s < slots }
-    requires few { n ≤ 512 }
-    requires empty { runs.old.items ≡ [] }
-    ensures paces { paces_in runs.new.items ≡ paces_of (state_of m.old.world) s n }
-    ensures state { state_of m.new.world ≡ after_ticks (state_of m.old.world) s n }
-    ensures sound { Kept m.new.world }
-{
-    let mut made = 0;
-    let mut last = Pace::Off;
-    let mut count = 0;
-    while made < n {
-        let run = run_of(m, s, n - made, last);
-        if run.pace == last {
-            count += 1 + run.more;
-        } else {
-            put_run(runs, last, count);
-            last = run.pace;
-            count = 1 + run.more;
-        }
-        made += 1 + run.more;
-    }
-    put_run(runs, last, count);
-}
-
-/// Puts so many ticks with one letter after the runs: one run, or nothing if they are none.
-#[inline]
-#[tactic(auto, using(crate::proofs::PaceLaws::put_none, crate::proofs::PaceLaws::put_some))]
-fn put_run(runs: &mut Runs, pace: Pace, count: u32)
-    requires room { length runs.old.items + count ≤ 512 }
-    ensures paces { paces_in runs.new.items ≡ paces_in runs.old.items ++ replicate count pace }
-    ensures few { length runs.new.items ≤ length runs.old.items + count }
-{
-    if count > 0 {
-        runs.push(Run {
-            pace,
-            more: count - 1,
-        });
-    }
-}
-
-/// The letters of the first ticks of a slot, n at most: of one, and if the tick before it had the same letter, `last`, of all that surely have
-/// it too.
-#[tactic(auto, using(crate::proofs::PaceLaws::one_more, crate::proofs::PaceLaws::one_and_more))]
-fn run_of(m: &mut Monitor, s: u8, n: u32, last: Pace) -> Run
-    requires sound { Kept m.old.world }
-    requires slot { s < slots }
-    requires some { 0 < n }
-    ensures few { 1 + result.more ≤ n }
-    ensures paces { paces_in (result ∷ []) ≡ paces_of (state_of m.old.world) s (1 + result.more) }
-    ensures state { state_of m.new.world ≡ after_ticks (state_of m.old.world) s (1 + result.more) }
-    ensures sound { Kept m.new.world }
-{
-    let pace = m.tick(s);
-    if pace == last {
-        let more = more_of(m, s, pace, n - 1);
-        return Run { pace, more };
-    }
-    Run { pace, more: 0 }
-}
-
-/// How many ticks of a slot, n at most, surely have the letter of the two before them: after steps all that follow in user mode, and if the
-/// slot waits, all ticks. They are made. (After a call's one step the job is inside the call.)
-#[tactic(auto, using(crate::proofs::PaceLaws::like_these))]
-fn more_of(m: &mut Monitor, s: u8, pace: Pace, n: u32) -> u32
-    requires sound { Kept m.old.world }
-    requires slot { s < slots }
-    ensures few { result ≤ n }
-    ensures paces { paces_of (state_of m.old.world) s result ≡ replicate result pace }
-    ensures state { state_of m.new.world ≡ after_ticks (state_of m.old.world) s result }
-    ensures sound { Kept m.new.world }
-{
-    match pace {
-        Pace::Step => m.steps(s, n),
-        Pace::Wait if m.waits(s) => n,
-        _ => 0,
-    }
-}
-
-/// Types bytes at a console, and counts those that find no room.
-#[tactic(auto, using(crate::proofs::ConsoleLaws::typing_start, crate::proofs::ConsoleLaws::typing_room, crate::proofs::ConsoleLaws::typing_full, crate::proofs::ConsoleLaws::typing_end))]
-pub fn type_bytes(m: &mut Monitor, c: u8, bytes: &[u8]) -> u32
-    requires sound { Kept m.old.world }
-    requires console { c < 8 }
-    requires some { 1 ≤ length bytes.now }
-    requires few { length bytes.now ≤ 32 }
-    ensures dropped { result ≡ dropped ((state_of m.old.world).raw.consoles c) bytes.now }
-    ensures done { Lands (state_of m.old.world) (state_of m.new.world) (Ok (with_typed c bytes.now (state_of m.old.world).raw)) }
-    ensures sound { Kept m.new.world }
-{
-    let mut count = 0;
-    for b in bytes {
-        if !type_in(m, c, *b) {
-            count += 1;
-        }
-    }
-    count
-}
-
-/// Takes up to n bytes of output of a console.
-#[tactic(auto, using(crate::proofs::ConsoleLaws::draining_start, crate::proofs::ConsoleLaws::draining_some, crate::proofs::ConsoleLaws::draining_stop, crate::proofs::ConsoleLaws::draining_end))]
-pub fn drain_bytes(m: &mut Monitor, c: u8, n: u32) -> ArrayVec<u8, 64>
-    requires sound { Kept m.old.world }
-    requires console { c < 8 }
-    requires few { n ≤ 64 }
-    ensures bytes { result.items ≡ take n ((state_of m.old.world).raw.consoles c).output }
-    ensures few { length result.items ≤ 64 }
-    ensures done { Lands (state_of m.old.world) (state_of m.new.world) (Ok (after_drain c n (state_of m.old.world).raw)) }
-    ensures sound { Kept m.new.world }
-{
-    let mut bytes = ArrayVec::new();
-    for _k in 0..n {
-        match drain(m, c) {
-            Some(b) => bytes.push(b),
-            None => return bytes,
-        }
-    }
-    bytes
 }

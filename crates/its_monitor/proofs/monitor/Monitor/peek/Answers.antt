@@ -3,7 +3,7 @@ use Rattle.std.specs.Prelude.{is_some, slice_index_or}
 use Rattle.its_core.specs.Cores.{core_at}
 use Rattle.its_stepped.specs.Unwind.{left_by}
 use Rattle.its_monitor.specs.Peeking.{Shows}
-use Rattle.its_monitor.proofs.PeekStateLaws.{peek_absent, peek_call, peek_few}
+use Rattle.its_monitor.proofs.PeekStateLaws.{peek_absent, peek_call}
 use Rattle.its_monitor.proofs.monitor.Monitor.peek.Goals as goal
 
 pub returns-then-is_none-clause-refused : goal.returns-then-is_none-clause-refused

@@ -1,9 +1,9 @@
-use Rattle.std.proofs.Common.{◌≡◌, ◌≤◌, ◌+◌, ◌-◌, ◌++◌, length, replicate}
+use Rattle.std.proofs.Common.{◌≤◌, ◌+◌, ◌-◌, ◌++◌, length, replicate}
 use Rattle.its_print.specs.Runs.{paces_in}
 use Rattle.its_world.specs.World.{state_of}
 use Rattle.its_monitor.specs.Kept.{Kept}
 use Rattle.its_top.specs.Answer.{PacesSo}
-use Rattle.its_top.proofs.performing.paces_made.Given as goal
+use Rattle.its_top.proofs.ticking.paces_made.Given as goal
 
 abbrev pub invariant-loop-made : goal.invariant-loop-made
 invariant-loop-made l = record {

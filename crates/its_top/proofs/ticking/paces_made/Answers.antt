@@ -2,8 +2,8 @@ use Rattle.std.proofs.Common.{◌≤◌, ◌+◌, ◌∙◌, refl, sym, ap, arit
 use Rattle.its_print.specs.Runs.{paces_in}
 use Rattle.its_records.specs.declared.calls.Pace.TheVariants.{Off}
 use Rattle.its_top.proofs.PaceLaws.{pacing_as, runs_start, same_letter, same_pace, other_letter}
-use Rattle.its_top.proofs.performing.paces_made.Goals.{then-eq, else-eq}
-use Rattle.its_top.proofs.performing.paces_made.Goals as goal
+use Rattle.its_top.proofs.ticking.paces_made.Goals.{then-eq, else-eq}
+use Rattle.its_top.proofs.ticking.paces_made.Goals as goal
 
 pub loop-made-init : goal.loop-made-init
 loop-made-init c = record {

@@ -3,7 +3,7 @@ use Rattle.its_stepped.specs.Unwind.{unwound}
 use Rattle.its_world.specs.World.{state_of}
 use Rattle.its_monitor.specs.Kept.{Kept}
 use Rattle.its_top.specs.Answer.{LoadSo}
-use Rattle.its_top.proofs.performing.store_words.Given as goal
+use Rattle.its_top.proofs.loading.store_words.Given as goal
 
 abbrev pub invariant-loop-w : goal.invariant-loop-w
 invariant-loop-w l = record {

@@ -2,7 +2,7 @@ use Rattle.std.proofs.Common.{◌≤◌, drop}
 use Rattle.its_world.specs.World.{state_of}
 use Rattle.its_monitor.specs.Kept.{Kept}
 use Rattle.its_top.specs.Answer.{TypedSo}
-use Rattle.its_top.proofs.performing.type_bytes.Given as goal
+use Rattle.its_top.proofs.consoles.type_bytes.Given as goal
 
 abbrev pub invariant-loop-b : goal.invariant-loop-b
 invariant-loop-b l = record {

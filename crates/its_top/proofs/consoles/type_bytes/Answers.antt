@@ -1,7 +1,7 @@
 use Rattle.std.proofs.Common.{arith, refl}
 use Rattle.its_top.proofs.ConsoleLaws.{typing_room, typing_full}
-use Rattle.its_top.proofs.performing.type_bytes.Goals.{then-not-type_in, else-not-type_in}
-use Rattle.its_top.proofs.performing.type_bytes.Goals as goal
+use Rattle.its_top.proofs.consoles.type_bytes.Goals.{then-not-type_in, else-not-type_in}
+use Rattle.its_top.proofs.consoles.type_bytes.Goals as goal
 
 pub loop-b-preserved : goal.loop-b-preserved
 loop-b-preserved c = elim c.if-not-type_in.branch [

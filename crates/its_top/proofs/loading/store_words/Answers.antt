@@ -1,7 +1,7 @@
 use Rattle.std.proofs.Common.{arith, refl}
 use Rattle.std.proofs.lemmas.List.{get_or_read_under}
 use Rattle.its_top.proofs.LoadingLaws.{loading_next}
-use Rattle.its_top.proofs.performing.store_words.Goals as goal
+use Rattle.its_top.proofs.loading.store_words.Goals as goal
 
 pub loop-w-preserved : goal.loop-w-preserved
 loop-w-preserved c = record {

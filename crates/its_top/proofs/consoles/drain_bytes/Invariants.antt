@@ -2,7 +2,7 @@ use Rattle.std.proofs.Common.{◌≤◌, length}
 use Rattle.its_world.specs.World.{state_of}
 use Rattle.its_monitor.specs.Kept.{Kept}
 use Rattle.its_top.specs.Answer.{DrainedSo}
-use Rattle.its_top.proofs.performing.drain_bytes.Given as goal
+use Rattle.its_top.proofs.consoles.drain_bytes.Given as goal
 
 abbrev pub invariant-loop-k : goal.invariant-loop-k
 invariant-loop-k l = record {

@@ -1,6 +1,6 @@
 use Rattle.std.proofs.Common.{◌∙◌, sym, arith}
 use Rattle.its_top.proofs.ConsoleLaws.{draining_some, draining_stop}
-use Rattle.its_top.proofs.performing.drain_bytes.Goals as goal
+use Rattle.its_top.proofs.consoles.drain_bytes.Goals as goal
 
 pub loop-k-preserved : goal.loop-k-preserved
 loop-k-preserved c = record {
