@@ -5,7 +5,7 @@ ghost use Rattle.its_core.specs.Cores.{reserved_at};
 
 use super::{finish, iot_in, iot_out, listen, open_tty, siot_in, siot_out, ttylnd};
 use arrayvec::ArrayVec;
-use call_basic::{channel, input};
+use call_basic::{channel, decision_of, input};
 use its_core::Core;
 use its_frame::{CallName, Change, Decision, Exit, Held, Opened, Store, Wait};
 use its_jobs::Jobs;
@@ -303,8 +303,12 @@ fn decided(rt: &impl Abort, w: &World, job: &Job, ask: &Ask) -> Decision {
         (Some(CallName::Open), _) => Some(open_tty(w, 1, job, ask)),
         (Some(CallName::Iot), Channel::TtyIn) => Some(iot_in(w, 1, job, ask)),
         (Some(CallName::Iot), Channel::TtyOut) => Some(iot_out(w, 1, job, ask)),
-        (Some(CallName::Siot), Channel::TtyIn) => Some(siot_in(w, 1, job, ask)),
-        (Some(CallName::Siot), Channel::TtyOut) => Some(siot_out(w, 1, job, ask)),
+        (Some(CallName::Siot), Channel::TtyIn) => {
+            Some(decision_of(job, ask, siot_in(w, 1, job, ask)))
+        }
+        (Some(CallName::Siot), Channel::TtyOut) => {
+            Some(decision_of(job, ask, siot_out(w, 1, job, ask)))
+        }
         (Some(CallName::Finish), _) => Some(finish(w, 1, job, ask)),
         (Some(CallName::Listen), _) => Some(listen(w, 1, job, ask)),
         (Some(CallName::Ttylnd), _) => Some(ttylnd(w, 1, job, ask)),
