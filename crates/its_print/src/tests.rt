@@ -37,22 +37,6 @@ fn prints_ticks(rt: HostRuntime) {
 }
 
 #[test]
-fn prints_bytes_and_words(rt: HostRuntime) {
-    prints!(rt; b"Y 0 0\n"; Reply::Typed { c: 0, dropped: 0 });
-    prints!(rt; b"Y 7 40\n"; Reply::Typed { c: 7, dropped: 32 });
-    prints!(rt; b"D 0 101\n"; Reply::Drained { c: 0, bytes: &[0o101] });
-    prints!(rt; b"D 0\n"; Reply::Drained { c: 0, bytes: &[] });
-    prints!(rt; b"D 1 12 0 177\n"; Reply::Drained { c: 1, bytes: &[0o12, 0, 0o177] });
-    prints!(rt; b"E 0 000200 000000000005\n"; Reply::Words { s: 0, a: 0o200, words: &[Word::new(5)] });
-    prints!(rt; b"E 0 000200 350700001000 000000000004\n"; Reply::Words { s: 0, a: 0o200, words: &[Word::new(0o350700001000), Word::new(4)] });
-    prints!(rt; b"E 77 777777 777777777777\n"; Reply::Words { s: 0o77, a: 0o777777, words: &[Word::ONES] });
-    prints!(rt; b"L 0 000100 MOVEI 1,5\n"; Reply::Listed { s: 0, a: 0o100, word: Word::new(0o201040000005) });
-    prints!(rt; b"L 137 777777 WORD 0,,0\n"; Reply::Listed { s: 0o137, a: 0o777777, word: Word::ZERO });
-    prints!(rt; b"L 77 000000 JRST 17,@777777(17)\n"; Reply::Listed { s: 0o77, a: 0, word: Word::new(0o254777777777) });
-    prints!(rt; b"/ 000000000123\n"; Reply::Row { words: &[Word::new(0o123)] });
-}
-
-#[test]
 fn prints_jobs(rt: HostRuntime) {
     let job = JobShow {
         u: Word::new(0o650000000000),
