@@ -9,8 +9,6 @@ mod names;
 mod put;
 mod replies;
 mod runs;
-#[cfg(test)]
-mod tests;
 
 pub use lines::{longest_line, print_reply};
 pub use replies::Reply;
