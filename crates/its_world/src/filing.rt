@@ -330,9 +330,9 @@ impl World {
         ensures { Resettled self.old self.new (link_lists link) }
     {
         let l = u32::from(link);
-        self.settle(34 + l);
-        self.settle(50 + l);
-        self.settle(66 + l);
+        self.settle_any(34 + l);
+        self.settle_any(50 + l);
+        self.settle_any(66 + l);
     }
 
     /// The same of all consoles and links.
