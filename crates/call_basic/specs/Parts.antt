@@ -3,17 +3,30 @@
 use Rattle.std.specs.Prelude.{◌==◌, ◌&&◌, ◌||◌, ℕ, Bool, false, not, Option, Some, None, Result, Ok, Err, List, [], ◌∷◌}
 use Rattle.its_records.specs.declared.calls.Ask.{Ask}
 use Rattle.its_records.specs.declared.jobs.Job.{Job}
+use Rattle.its_frame.specs.declared.change.Change.{Change}
+use Rattle.its_frame.specs.declared.change.Change.TheVariants as changes
 use Rattle.its_frame.specs.declared.decision.Decision.{Decision}
 use Rattle.its_frame.specs.declared.decision.Decision.TheVariants as decisions
 use Rattle.its_plain.specs.Job.{bit_of, with_pending}
 use Rattle.its_plain.specs.Own.{exit_of, with_advance}
 use Rattle.its_plain.specs.Tests.{goes, number_at}
+use Rattle.call_basic.specs.declared.transfer.Moved.{Moved}
+use Rattle.call_basic.specs.declared.transfer.Moved.TheVariants as moved
 use Rattle.call_basic.specs.declared.transfer.Part.{Part}
 use Rattle.call_basic.specs.declared.transfer.Stop.{Stop}
 use Rattle.call_basic.specs.declared.transfer.Stop.TheVariants.{Fails, Faults, Finishes, Waits}
 
+-- the change of a part
+abbrev pub change_of : Moved → Change
+change_of (moved.Move n at) = changes.Move n at
+change_of (moved.Append n w) = changes.Append n w
+change_of (moved.Take c) = changes.Take c
+change_of (moved.Put c b) = changes.Put c b
+change_of (moved.Send l w) = changes.Send l w
+change_of (moved.Receive l) = changes.Receive l
+
 abbrev pub going : Part → Decision
-going p = goes (p.change ∷ []) p.held (p.next ∷ p.left ∷ [])
+going p = goes (change_of p.moved ∷ []) p.held (p.next ∷ p.left ∷ [])
 
 -- what a job with these registers decides if SIOT moves no byte
 abbrev pub stop_of : Job → Ask → Stop → Decision

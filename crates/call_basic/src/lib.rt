@@ -30,6 +30,6 @@ pub use returning::dismiss;
 pub use setting::usrvar;
 pub use sleeping::{is_negative, is_read_only, is_shared_place, sleep};
 pub use transfer::{
-    Part, Stop, bar_of_store, decision_of, iot_ends, moves, moves_with, next_byte, next_pointer,
-    one_less, part_in, stopped,
+    Moved, Part, Stop, bar_of_store, change_of, decision_of, iot_ends, moves, moves_with,
+    next_byte, next_pointer, one_less, part_in, stopped,
 };

@@ -13,7 +13,7 @@ ghost use Rattle.its_plain.specs.Own.{with_advance, exit_of};
 ghost use Rattle.its_plain.specs.Tests.{goes};
 ghost use Rattle.its_plain.specs.Transfer.{is_indexed, next_pointer, siot_tests, word_bits};
 ghost use Rattle.its_machine.specs.Called.{bar_of, first_of};
-ghost use Rattle.call_basic.specs.Parts.{going, part_in, part_of, stop_in, stop_of};
+ghost use Rattle.call_basic.specs.Parts.{change_of, going, part_in, part_of, stop_in, stop_of};
 ghost use Rattle.call_basic.specs.Seen.{seen_by};
 
 use super::arguments::{are_apart, in_footprint, input, place_of_input};
@@ -76,10 +76,37 @@ pub enum Stop {
     Waits(Wait),
 }
 
+/// What changes if SIOT moves a byte or a word, outside its job's own words and registers: the position of a channel; the draft of a channel; the
+/// input or the output of a console; or the words of a link. Each is a `Change`; this type has no other, and is small.
+#[derive(Clone, Copy, Debug, PartialEq, Eq)]
+pub enum Moved {
+    Move { channel: u8, at: u32 },
+    Append { channel: u8, word: Word },
+    Take { console: u8 },
+    Put { console: u8, byte: u8 },
+    Send { link: u8, word: Word },
+    Receive { link: u8 },
+}
+
+/// The change that is made.
+#[inline(always)]
+pub fn change_of(moved: Moved) -> Change
+    ensures { result ≡ change_of moved }
+{
+    match moved {
+        Moved::Move { channel, at } => Change::Move { channel, at },
+        Moved::Append { channel, word } => Change::Append { channel, word },
+        Moved::Take { console } => Change::Take { console },
+        Moved::Put { console, byte } => Change::Put { console, byte },
+        Moved::Send { link, word } => Change::Send { link, word },
+        Moved::Receive { link } => Change::Receive { link },
+    }
+}
+
 /// A part of SIOT that moves one byte: what changes, the byte that is held if it is input, and the pointer and count of the rest.
 #[derive(Clone, Copy, Debug, PartialEq, Eq)]
 pub struct Part {
-    pub change: Change,
+    pub moved: Moved,
     pub held: Option<Held>,
     pub next: Word,
     pub left: Word,
@@ -88,7 +115,7 @@ pub struct Part {
 /// The pointer to the byte that SIOT moves next, whatever its channel is on; or the first of its tests that holds: errors 17, WRO, 21, 22,
 /// the end with count 0 or if `ended` says that the channel is at its end (of a file or of an inferior's core), and error 20. `words` says
 /// that its device moves only whole words.
-#[inline(never)]
+#[inline(always)]
 #[tactic(auto, unfolding(its_plain::specs::View::view, its_world::specs::World::state_of))]
 pub fn next_byte(w: &World, slot: u8, ask: &Ask, words: bool, ended: bool) -> Result<Word, Stop>
     requires { slot < slots }
@@ -124,6 +151,7 @@ pub fn next_byte(w: &World, slot: u8, ask: &Ask, words: bool, ended: bool) -> Re
 }
 
 /// Whether the word of pointer or count is an argument without a word of its own. `apart` may say that neither is.
+#[inline(always)]
 fn is_one_shared(ask: &Ask, p: Option<u32>, k: Option<u32>, apart: bool) -> bool
     requires { apart ≡ true → (shared_place ask.now p || shared_place ask.now k) ≡ false }
     ensures { result ≡ (shared_place ask.now p || shared_place ask.now k) }
@@ -184,7 +212,7 @@ fn going(part: Part) -> Decision
     ensures { result ≡ going part }
 {
     let mut changes = ArrayVec::new();
-    changes.push(part.change);
+    changes.push(change_of(part.moved));
     goes_with(changes, part.held, part.next, part.left)
 }
 

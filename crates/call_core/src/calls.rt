@@ -43,7 +43,6 @@ pub fn decide(w: &World, slot: u8, ask: &Ask) -> Decision
 
 /// The part of the call of a slot's job that is done next, if the call is SIOT and moves a byte by one change. Then it reaches no
 /// other job, and no close is half made. None says nothing.
-#[inline(always)]
 pub fn part(w: &World, slot: u8, ask: &Ask) -> Option<Part>
     requires slot { slot < slots }
     requires job { is_some (job_at w.now.jobs slot) ≡ true }
@@ -63,7 +62,6 @@ pub fn part(w: &World, slot: u8, ask: &Ask) -> Option<Part>
 }
 
 /// The same if no close is half made.
-#[inline(always)]
 fn unmarked_part(w: &World, slot: u8, ask: &Ask) -> Option<Part>
     requires slot { slot < slots }
     requires job { is_some (job_at w.now.jobs slot) ≡ true }

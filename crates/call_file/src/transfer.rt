@@ -11,7 +11,9 @@ ghost use Rattle.call_basic.specs.Parts.{part_of};
 ghost use Rattle.call_basic.specs.Seen.{seen_by};
 
 use arrayvec::ArrayVec;
-use call_basic::{Part, Stop, bar_of_store, faults, input, ioc, iot_ends, next_byte, one_less};
+use call_basic::{
+    Moved, Part, Stop, bar_of_store, faults, input, ioc, iot_ends, next_byte, one_less,
+};
 use its_bytes::load;
 use its_frame::{Change, Decision, Held, Store, error};
 use its_records::{Ask, Job};
@@ -137,7 +139,7 @@ fn siot_read(
         return Err(Stop::Faults(fault));
     }
     Ok(Part {
-        change: Change::Move {
+        moved: Moved::Move {
             channel: input(ask, 0).value() as u8,
             at: at + 1,
         },
@@ -191,7 +193,7 @@ fn siot_write(
         return Err(Stop::Fails(error::DEVICE_FULL));
     }
     Ok(Part {
-        change: Change::Append {
+        moved: Moved::Append {
             channel: input(ask, 0).value() as u8,
             word: Word::new(load(next, word)),
         },

@@ -10,7 +10,7 @@ ghost use Rattle.call_basic.specs.Seen.{seen_by};
 
 use arrayvec::ArrayVec;
 use call_basic::{
-    Part, Stop, bar_of_store, faults, input, ioc, iot_ends, next_byte, one_less, store_at,
+    Moved, Part, Stop, bar_of_store, faults, input, ioc, iot_ends, next_byte, one_less, store_at,
 };
 use its_bytes::load;
 use its_frame::{Change, Decision, Held, Wait, error};
@@ -130,7 +130,7 @@ fn siot_receive(
         byte: w.pipes.first_word(link).unwrap_or(Word::ZERO),
     };
     Ok(Part {
-        change: Change::Receive { link },
+        moved: Moved::Receive { link },
         held: Some(held),
         next,
         left: one_less(input(ask, 2)),
@@ -169,7 +169,7 @@ fn siot_send(w: &World, slot: u8, job: &Job, ask: &Ask, next: Word, link: u8) ->
     }
     let word = Word::new(load(next, word));
     Ok(Part {
-        change: Change::Send { link, word },
+        moved: Moved::Send { link, word },
         held: None,
         next,
         left: one_less(input(ask, 2)),

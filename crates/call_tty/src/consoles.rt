@@ -57,6 +57,7 @@ fn is_other(w: &World, slot: u8, console: u8) -> bool
 }
 
 /// Whether a job can take no byte from a console.
+#[inline(always)]
 pub(crate) fn input_waits(w: &World, slot: u8, console: u8) -> bool
     ensures { result ≡ cannot_take (console_at w.now.consoles.items console) slot (holder_at w.now.holders console) }
 {
@@ -64,6 +65,7 @@ pub(crate) fn input_waits(w: &World, slot: u8, console: u8) -> bool
 }
 
 /// Whether a job can put no byte to a console.
+#[inline(always)]
 pub(crate) fn output_waits(w: &World, slot: u8, console: u8) -> bool
     ensures { result ≡ cannot_put (console_at w.now.consoles.items console) slot (holder_at w.now.holders console) }
 {

@@ -9,7 +9,7 @@ ghost use Rattle.call_basic.specs.Seen.{seen_by};
 
 use super::consoles::{console_of, first_typed, input_waits, output_waits};
 use arrayvec::ArrayVec;
-use call_basic::{Part, Stop, bar_of_store, faults, input, iot_ends, next_byte, one_less};
+use call_basic::{Moved, Part, Stop, bar_of_store, faults, input, iot_ends, next_byte, one_less};
 use its_bytes::load;
 use its_frame::{Change, Decision, Held, Store, Wait};
 use its_records::{Ask, Job};
@@ -110,7 +110,7 @@ fn takes_byte(w: &World, slot: u8, job: &Job, ask: &Ask, next: Word) -> Result<P
         byte: Word::new(u64::from(first_typed(w, console))),
     };
     Ok(Part {
-        change: Change::Take { console },
+        moved: Moved::Take { console },
         held: Some(held),
         next,
         left: one_less(input(ask, 2)),
@@ -134,7 +134,7 @@ fn puts_byte(w: &World, slot: u8, job: &Job, ask: &Ask, next: Word) -> Result<Pa
     }
     let byte = shown(Word::new(load(next, word)));
     Ok(Part {
-        change: Change::Put { console, byte },
+        moved: Moved::Put { console, byte },
         held: None,
         next,
         left: one_less(input(ask, 2)),

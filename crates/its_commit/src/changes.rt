@@ -43,6 +43,7 @@ pub fn apply(w: &mut World, slot: u8, changes: &[Change])
 }
 
 /// Makes one change.
+#[inline(never)]
 #[tactic(auto, unfolding(its_stepped::specs::Commit::effect_on, its_plain::specs::Change::effect))]
 fn apply_one(w: &mut World, slot: u8, change: &Change)
     requires slot { slot < slots }

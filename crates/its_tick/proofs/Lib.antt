@@ -14,3 +14,4 @@ pub mod StepsLaws
 pub mod RunningLaws
 pub mod WaitingLaws
 mod PartLaws
+mod ByteLaws

@@ -1,7 +1,7 @@
 -- A part of SIOT is tried in the world as it is: nobody is reached, and nothing is to be performed before.
 use Rattle.std.specs.Prelude.{◌≡◌, ℕ, true, false, Option, Some, None, IfSome, is_some, List, []}
 use Rattle.std.proofs.Common.{sym, ◌∙◌, ap, subst}
-use Rattle.call_basic.specs.Parts.{going}
+use Rattle.call_basic.specs.Parts.{change_of, going}
 use Rattle.call_basic.specs.declared.transfer.Part.{Part}
 use Rattle.its_records.specs.declared.calls.Ask.{Ask}
 use Rattle.its_frame.specs.declared.frame.Holding.{Holding}
@@ -46,7 +46,7 @@ asleep : (o : Option Holding) (a : Ask) (n : ℕ) → IfSome o (λ f. (a ≡ f.a
 asleep (Some f) a n is e = subst (λ (x : Ask). sleeps (call_named x.name) ≡ false) is.0 (ap sleeps e)
 asleep None a n is e = tt
 
-can_first : (o : Option Holding) (w : State) (s : ℕ) (p : Part) → is_some o ≡ true → IfSome o (λ f. CanCommit w s f (going p)) → CanMake p.change s w
+can_first : (o : Option Holding) (w : State) (s : ℕ) (p : Part) → is_some o ≡ true → IfSome o (λ f. CanCommit w s f (going p)) → CanMake (change_of p.moved) s w
 can_first (Some f) w s p i h = h.0
 can_first None w s p i h = cc
 
@@ -82,6 +82,6 @@ module _ (w : World) (s : ℕ) (a : Ask) (n : ℕ) (r : Option Part) (p : Part) 
       (each_raw (raw_at w.files w.core w.jobs w.alarms.items s) (λ q. reach (state_of w).raw s q a ≡ []) (λ q. w.core.frames ≡ pages_unwound (reach (state_of w).raw s q a) (state_of w) w.core.frames)
       (λ q z. sym (ap (λ (ks : List ℕ). pages_unwound ks (state_of w) w.core.frames) z)) (alone h))
 
-  pub part_makes : Kept w → (stands : is_some (standing_of (frame_at w.frames.items s)) ≡ true) → Clear w s → IfSome r (λ p. w.files.mark ≡ None) → Alone → Goes → CanMake p.change s (state_of w)
+  pub part_makes : Kept w → (stands : is_some (standing_of (frame_at w.frames.items s)) ≡ true) → Clear w s → IfSome r (λ p. w.files.mark ≡ None) → Alone → Goes → CanMake (change_of p.moved) s (state_of w)
   part_makes kept stands clear m h g =
       can_first (standing_of (frame_at w.frames.items s)) (state_of w) s p stands (mid_ready w w s kept stands clear (part_readies m h) (going p) (part_decides g))

@@ -57,7 +57,7 @@ tick_at w s o e = ap (tick_of (state_of w) s) e
 pub tick_absent : (w : World) (s : ℕ) → job_at w.jobs s ≡ None → tick (state_of w) s ≡ ticked (state_of w) Off
 tick_absent w s none = tick_at w s None (raw_none w s none)
 
-tick_some : (w : World) (s : ℕ) (j : Job) (b : Bool) → job_at w.jobs s ≡ Some j → j.stopped ≡ b
+pub tick_some : (w : World) (s : ℕ) (j : Job) (b : Bool) → job_at w.jobs s ≡ Some j → j.stopped ≡ b
     → tick (state_of w) s ≡ tick_unless (state_of w) s (raw_job w.files (core_at w.core s) j (superior_at w.jobs s) (alarm_at w.alarms.items s)) b
 tick_some w s j b is h =
     let q : Whole = raw_job w.files (core_at w.core s) j (superior_at w.jobs s) (alarm_at w.alarms.items s) in

@@ -3,3 +3,4 @@ pub mod Waits
 pub mod Ticks
 pub mod Beside
 pub mod Pages
+pub mod Bytes

@@ -1,6 +1,6 @@
 //! Ticks of a job inside a call: its decoding in two steps, its preparation, its trials, and its pending steps. The frame stays in its
 //! place: a tick reads what it needs, and writes what it changes.
-ghost use Rattle.std.specs.Prelude.{if◌then◌else◌, ◌≡◌, ◌<◌, ◌+◌, Some, None, IfSome, IfErr, is_some, true, length};
+ghost use Rattle.std.specs.Prelude.{if◌then◌else◌, ◌≡◌, ◌<◌, ◌+◌, Some, None, IfSome, IfErr, is_some, true, false, length};
 ghost use Rattle.its_word.specs.Limits.{slots};
 ghost use Rattle.its_calls.specs.Calls.{entered_in, parsed_in};
 ghost use Rattle.its_core.specs.Cores.{clear_at};
@@ -18,10 +18,11 @@ ghost use Rattle.its_tick.specs.Kept.{Kept};
 ghost use Rattle.its_tick.specs.Pages.{pages_in};
 ghost use Rattle.its_tick.specs.Ticks.{asked_in, pace_of, pace_decoded, state_decoded, ticked, IsClearing};
 
+use super::bytes::bytes;
 use super::ready::make_ready;
-use call_core::{decide, is_siot, part, reserves};
+use call_core::{decide, reserves};
 use its_calls::{Next, View};
-use its_commit::{carry_out, carry_part, standing};
+use its_commit::{carry_out, standing};
 use its_frame::Decision;
 use its_pclsr::unwind_one;
 use its_records::Pace;
@@ -36,6 +37,7 @@ const QUARTERS: u8 = 4;
 pub fn in_call(w: &mut World, slot: u8) -> Pace
     requires slot { slot < slots }
     requires kept { Kept w.old }
+    requires running { IfSome (job_at w.old.jobs slot) (λ j. j.stopped ≡ false) }
     requires frame { is_some (call_in w.old slot) ≡ true }
     ensures row { IfSome (raw_in w.old slot) (λ q. tick_in (state_of w.old) slot q (call_in w.old slot) ≡ ticked (state_of w.new) result) }
     ensures pages { IfSome (raw_in w.old slot) (λ q. w.new.core.frames ≡ pages_in (state_of w.old) slot q (call_in w.old slot) w.old.core.frames) }
@@ -44,7 +46,7 @@ pub fn in_call(w: &mut World, slot: u8) -> Pace
     match w.frame(slot) {
         View::Holding { page, owes, .. } => match page {
             Some(clear) if clear < QUARTERS => clear_next(w, slot, clear, owes),
-            _ => attempt(w, slot),
+            _ => attempt_held(w, slot),
         },
         View::Waiting { .. } => attempt(w, slot),
         View::Moving { .. } => pay(w, slot),
@@ -217,50 +219,29 @@ fn clear_quarter(w: &mut World, slot: u8, q: u8)
     w.core.clear_quarter(slot, q);
 }
 
-/// A call is tried.
+/// A call that is held is tried. If it is SIOT, most trials move one byte, and need neither a world that is made ready nor a decision as a
+/// value.
 #[inline]
-fn attempt(w: &mut World, slot: u8) -> Pace
+fn attempt_held(w: &mut World, slot: u8) -> Pace
     requires slot { slot < slots }
     requires kept { Kept w.old }
+    requires running { IfSome (job_at w.old.jobs slot) (λ j. j.stopped ≡ false) }
     requires stands { is_some (standing_of (call_in w.old slot)) ≡ true }
     requires clear { IfSome (standing_of (call_in w.old slot)) (λ f. IsTried f.page) }
     ensures row { IfSome (raw_in w.old slot) (λ q. tick_in (state_of w.old) slot q (call_in w.old slot) ≡ ticked (state_of w.new) result) }
     ensures pages { IfSome (raw_in w.old slot) (λ q. w.new.core.frames ≡ pages_in (state_of w.old) slot q (call_in w.old slot) w.old.core.frames) }
     ensures tidy { Tidy w.new }
 {
-    let (ask, _) = standing(w, slot);
-    if is_siot(ask) {
-        attempt_siot(w, slot)
+    if bytes(w, slot, 1) == 1 {
+        Pace::Step
     } else {
-        attempt_any(w, slot)
-    }
-}
-
-/// SIOT is tried. Most trials move one byte, and need neither a world that is made ready nor a decision as a value.
-#[inline(never)]
-#[tactic(auto, using(crate::proofs::TrialLaws::stands_job))]
-fn attempt_siot(w: &mut World, slot: u8) -> Pace
-    requires slot { slot < slots }
-    requires kept { Kept w.old }
-    requires stands { is_some (standing_of (call_in w.old slot)) ≡ true }
-    requires clear { IfSome (standing_of (call_in w.old slot)) (λ f. IsTried f.page) }
-    ensures row { IfSome (raw_in w.old slot) (λ q. tick_in (state_of w.old) slot q (call_in w.old slot) ≡ ticked (state_of w.new) result) }
-    ensures pages { IfSome (raw_in w.old slot) (λ q. w.new.core.frames ≡ pages_in (state_of w.old) slot q (call_in w.old slot) w.old.core.frames) }
-    ensures tidy { Tidy w.new }
-{
-    let (ask, _) = standing(w, slot);
-    match part(w, slot, ask) {
-        Some(part) => {
-            carry_part(w, slot, part.change, part.held, part.next, part.left);
-            Pace::Step
-        }
-        None => attempt_any(w, slot),
+        attempt(w, slot)
     }
 }
 
 /// A call is tried: the world is made ready for it, it is decided, and that is carried out.
 #[inline(never)]
-fn attempt_any(w: &mut World, slot: u8) -> Pace
+fn attempt(w: &mut World, slot: u8) -> Pace
     requires slot { slot < slots }
     requires kept { Kept w.old }
     requires stands { is_some (standing_of (call_in w.old slot)) ≡ true }

@@ -14,6 +14,7 @@
 //! - What holds of a world between two calls is kept (`kept`): `specs/Kept`, of which the wait lists are `specs/Waits`.
 #![tactic(auto)]
 
+mod bytes;
 mod calls;
 mod reach;
 mod ready;

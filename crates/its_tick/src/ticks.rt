@@ -13,6 +13,7 @@ ghost use Rattle.its_tick.specs.Beside.{AllBeside};
 ghost use Rattle.its_tick.specs.Pages.{pages_ticked};
 ghost use Rattle.its_tick.specs.Ticks.{InRing, is_waiting, ticked, unit_due};
 
+use super::bytes::bytes;
 use super::calls::in_call;
 use super::users::{deliver_to, make_unit, units_in_place};
 use its_calls::View;
@@ -98,9 +99,9 @@ fn one_tick(w: &mut World, slot: u8) -> Pace
     make_unit(w, slot)
 }
 
-/// As many units of a slot's job as are possible in user mode while nothing else is due, n at most; how many. The state is that of so
-/// many ticks, each with the letter `*`. None is executed if the slot is empty, its job is stopped or inside a call, or an interrupt is
-/// deliverable.
+/// As many units of a slot's job as are possible in user mode while nothing else is due, or as many bytes of SIOT as can be moved, n at most; how
+/// many. The state is that of so many ticks, each with the letter `*`. None is made if the slot is empty, its job is stopped or inside another
+/// call, or an interrupt is deliverable in user mode.
 #[tactic(auto, using(crate::proofs::UserLaws::user_addressed, crate::proofs::StepsLaws::due_absent, crate::proofs::StepsLaws::due_stopped, crate::proofs::StepsLaws::due_framed))]
 pub fn steps(w: &mut World, slot: u8, n: u32) -> u32
     requires slot { slot < slots }
@@ -119,7 +120,7 @@ pub fn steps(w: &mut World, slot: u8, n: u32) -> u32
         return 0;
     }
     if w.has_frame(slot) {
-        return 0;
+        return bytes(w, slot, n);
     }
     units_in_place(w, slot, n)
 }

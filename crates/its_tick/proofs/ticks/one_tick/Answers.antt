@@ -1,5 +1,6 @@
 use Rattle.std.proofs.Common.{◌∙◌, sym}
 use Rattle.its_tick.proofs.TickLaws.{tick_call, tick_unit}
+use Rattle.its_tick.proofs.ByteLaws.{running_at}
 use Rattle.its_tick.proofs.StepsLaws.{quiet_at}
 use Rattle.its_tick.proofs.FramesLaws.{frames_call, frames_delivery, frames_unit}
 use Rattle.its_tick.proofs.ticks.one_tick.Goals as goal
@@ -28,3 +29,6 @@ returns-then-deliverable-clause-pages c =
 
 pub make_unit-requires-clause-quiet : goal.make_unit-requires-clause-quiet
 make_unit-requires-clause-quiet c = quiet_at _ _ (sym c.in-Some.ensures.job) (sym c.deliverable.ensures ∙ c.if-deliverable.false)
+
+pub in_call-requires-clause-running : goal.in_call-requires-clause-running
+in_call-requires-clause-running c = running_at _ _ (sym c.in-Some.ensures.job) c.if-job.false

@@ -1,5 +1,5 @@
 use Rattle.std.proofs.Common.{◌∙◌, sym}
-use Rattle.its_tick.proofs.StepsLaws.{steps_kept, steps_most, steps_pages, steps_paces, steps_state, steps_tidy}
+use Rattle.its_tick.proofs.StepsLaws.{due_framed, steps_kept, steps_most, steps_pages, steps_paces, steps_state, steps_tidy}
 use Rattle.its_tick.proofs.ticks.steps.Goals as goal
 
 pub returns-clause-state : goal.returns-clause-state
@@ -27,3 +27,19 @@ pub returns-clause-most : goal.returns-clause-most
 returns-clause-most c =
     steps_most c.args.w.now c.units_in_place.new.w c.args.slot c.units_in_place.result c.args.n c.in-Some.job.now c.units_in_place.ensures.made (sym c.in-Some.ensures.job) c.if-job.false
     (sym c.has_frame.ensures ∙ c.if-has_frame.false)
+
+-- bytes of SIOT
+pub returns-then-has_frame-clause-state : goal.returns-then-has_frame-clause-state
+returns-then-has_frame-clause-state c = c.bytes.ensures.made.state
+
+pub returns-then-has_frame-clause-paces : goal.returns-then-has_frame-clause-paces
+returns-then-has_frame-clause-paces c = c.bytes.ensures.made.paces
+
+pub returns-then-has_frame-clause-most : goal.returns-then-has_frame-clause-most
+returns-then-has_frame-clause-most c = λ h. due_framed c.bytes.new.w c.args.slot c.bytes.ensures.made.frame
+
+pub returns-then-has_frame-clause-pages : goal.returns-then-has_frame-clause-pages
+returns-then-has_frame-clause-pages c = c.bytes.ensures.made.pages
+
+pub returns-then-has_frame-clause-kept : goal.returns-then-has_frame-clause-kept
+returns-then-has_frame-clause-kept c = c.bytes.ensures.made.kept

@@ -1,6 +1,6 @@
 use Rattle.its_tick.proofs.TrialLaws.{mid_job, mid_stands, mid_unmarked, mid_forest, mid_ready, trial_made}
 use Rattle.its_tick.proofs.TrialLaws.{trial_pages}
-use Rattle.its_tick.proofs.calls.attempt_any.Goals as goal
+use Rattle.its_tick.proofs.calls.attempt.Goals as goal
 
 pub decide_in-decision-requires-clause-job : goal.decide_in-decision-requires-clause-job
 decide_in-decision-requires-clause-job c = mid_job c.args.w.now c.make_ready.new.w c.args.slot c.requires.kept c.requires.stands c.requires.clear c.make_ready.ensures.row
