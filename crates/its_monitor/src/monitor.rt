@@ -55,8 +55,8 @@ impl Monitor {
         its_tick::tick(&mut self.world, slot)
     }
 
-    /// As many units of a slot's job as can be made in user mode while nothing else is due, n at most; how many. The state is
-    /// that of so many ticks, each letter `*`.
+    /// As many units of a slot's job as can be made in user mode while nothing else is due, or as many bytes as can be moved by SIOT, n at
+    /// most; how many. The state is that of so many ticks, each letter `*`.
     pub fn steps(&mut self, slot: u8, n: u32) -> u32
         requires slot { slot < slots }
         requires kept { Kept self.old.world }
