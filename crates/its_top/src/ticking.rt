@@ -118,8 +118,8 @@ fn run_of(m: &mut Monitor, s: u8, n: u32, last: Pace) -> Run
     Run { pace, more: 0 }
 }
 
-/// How many ticks of a slot, n at most, surely have the letter of the two before them: after steps all that follow in user mode, and if the
-/// slot waits, all ticks. They are made. (After a call's one step the job is inside the call.)
+/// How many ticks of a slot, n at most, surely have the letter of the two before them: after steps all that follow in user mode, or all bytes
+/// that SIOT moves one after the other, and if the slot waits, all ticks. They are made.
 #[tactic(auto, using(crate::proofs::PaceLaws::like_these))]
 fn more_of(m: &mut Monitor, s: u8, pace: Pace, n: u32) -> u32
     requires sound { Kept m.old.world }
