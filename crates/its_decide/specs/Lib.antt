@@ -4,3 +4,4 @@ pub mod Fits
 pub mod Directory
 pub mod Targets
 pub mod Reach
+pub mod Moving

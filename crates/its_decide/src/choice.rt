@@ -177,13 +177,13 @@ impl Caller<'_> {
     {
         match self.channel(self.input(0)) {
             Channel::Closed => self.fails(error::BAD_CHANNEL),
-            Channel::TtyIn => self.siot_in(),
-            Channel::TtyOut => self.siot_out(),
-            Channel::Reading { file, at } => self.siot_reads(file, at),
-            Channel::Writing { draft } => self.siot_writes(draft),
+            Channel::TtyIn => self.outcome(self.siot_in()),
+            Channel::TtyOut => self.outcome(self.siot_out()),
+            Channel::Reading { file, at } => self.outcome(self.siot_reads(file, at)),
+            Channel::Writing { draft } => self.outcome(self.siot_writes(draft)),
             Channel::Usr { slot, write, at } => self.siot_through(slot, write, at),
-            Channel::Link { link, write: true } => self.siot_sends(link),
-            Channel::Link { link, write: false } => self.siot_receives(link),
+            Channel::Link { link, write: true } => self.outcome(self.siot_sends(link)),
+            Channel::Link { link, write: false } => self.outcome(self.siot_receives(link)),
         }
     }
 }

@@ -6,10 +6,12 @@ ghost use Rattle.its_plain.specs.CallTty.{can_take, view_console, finish, first_
 ghost use Rattle.its_plain.specs.CallBasic.{is_superior};
 ghost use Rattle.its_plain.specs.Transfer.{next_pointer, siot_by};
 ghost use Rattle.its_decide.specs.Called.{looks};
+ghost use Rattle.its_decide.specs.Moving.{outcome};
 
 use super::arguments::is_oneself;
 use super::caller::Caller;
-use super::ends::{ends, moves, store_at};
+use super::ends::{ends, store_at};
+use super::moving::{Halt, Moved, one_moved};
 use arrayvec::ArrayVec;
 use its_bytes::load;
 use its_frame::{Change, Decision, Held, Opened, Wait, error};
@@ -274,60 +276,60 @@ impl Caller<'_> {
     }
 
     /// SIOT from a console: one byte, which is held and stored by the next step; pointer and count become those of the rest.
-    pub(crate) fn siot_in(&self) -> Decision
-        ensures { result ≡ siot_by (looks self.now) self.now.ask.now false false (siot_in (looks self.now) self.now.ask.now (next_pointer (input self.now.ask.now 1)) (input self.now.ask.now 2) (view_console (looks self.now))) }
+    pub(crate) fn siot_in(&self) -> Result<Moved, Halt>
+        ensures { outcome (looks self.now) self.now.ask.now result ≡ siot_by (looks self.now) self.now.ask.now false false (siot_in (looks self.now) self.now.ask.now (next_pointer (input self.now.ask.now 1)) (input self.now.ask.now 2) (view_console (looks self.now))) }
     {
         match self.next_byte(false, false) {
             Ok(next) => self.takes_byte(next),
-            Err(stop) => stop,
+            Err(halt) => Err(halt),
         }
     }
 
     /// The byte of the next pointer comes from a console.
     #[tactic(auto, unfolding(its_plain::specs::View::view))]
-    fn takes_byte(&self, next: Word) -> Decision
-        ensures { result ≡ siot_in (looks self.now) self.now.ask.now next (input self.now.ask.now 2) (view_console (looks self.now)) }
+    fn takes_byte(&self, next: Word) -> Result<Moved, Halt>
+        ensures { outcome (looks self.now) self.now.ask.now result ≡ siot_in (looks self.now) self.now.ask.now next (input self.now.ask.now 2) (view_console (looks self.now)) }
     {
         let place = next.right();
         if let Some(fault) = self.bar(place) {
-            return self.faults(fault);
+            return Err(Halt::Bit(fault));
         }
         let console = self.console();
         if self.input_waits() {
-            return Decision::Waits(Wait::Input(console));
+            return Err(Halt::Later(Wait::Input(console)));
         }
         let held = Held {
             place,
             byte: self.first_typed(),
         };
-        moves(Change::Take { console }, Some(held), next, self.input(2))
+        Ok(one_moved(Change::Take { console }, Some(held), next, self.input(2)))
     }
 
     /// SIOT to a console: one byte; pointer and count become those of the rest.
-    pub(crate) fn siot_out(&self) -> Decision
-        ensures { result ≡ siot_by (looks self.now) self.now.ask.now false false (siot_out (looks self.now) self.now.ask.now (next_pointer (input self.now.ask.now 1)) (input self.now.ask.now 2) (view_console (looks self.now))) }
+    pub(crate) fn siot_out(&self) -> Result<Moved, Halt>
+        ensures { outcome (looks self.now) self.now.ask.now result ≡ siot_by (looks self.now) self.now.ask.now false false (siot_out (looks self.now) self.now.ask.now (next_pointer (input self.now.ask.now 1)) (input self.now.ask.now 2) (view_console (looks self.now))) }
     {
         match self.next_byte(false, false) {
             Ok(next) => self.puts_byte(next),
-            Err(stop) => stop,
+            Err(halt) => Err(halt),
         }
     }
 
     /// The byte of the next pointer goes to a console.
     #[tactic(auto, unfolding(its_plain::specs::View::view))]
-    fn puts_byte(&self, next: Word) -> Decision
+    fn puts_byte(&self, next: Word) -> Result<Moved, Halt>
         requires { has_size next ≡ true }
-        ensures { result ≡ siot_out (looks self.now) self.now.ask.now next (input self.now.ask.now 2) (view_console (looks self.now)) }
+        ensures { outcome (looks self.now) self.now.ask.now result ≡ siot_out (looks self.now) self.now.ask.now next (input self.now.ask.now 2) (view_console (looks self.now)) }
     {
         let Some(word) = self.seen.core.word(self.slot, next.right()) else {
-            return self.faults(Fault::Mpv);
+            return Err(Halt::Bit(Fault::Mpv));
         };
         let console = self.console();
         if self.output_waits() {
-            return Decision::Waits(Wait::Output(console));
+            return Err(Halt::Later(Wait::Output(console)));
         }
         let byte = shown(Word::new(load(next, word)));
-        moves(Change::Put { console, byte }, None, next, self.input(2))
+        Ok(one_moved(Change::Put { console, byte }, None, next, self.input(2)))
     }
 }
 

@@ -1,7 +1,7 @@
 //! The ways in which a call ends.
-ghost use Rattle.std.specs.Prelude.{◌≡◌, ◌<◌, ◌-◌, ◌^◌, ◌∷◌, [], None};
+ghost use Rattle.std.specs.Prelude.{◌≡◌, ◌<◌, ◌^◌, ◌∷◌, [], None};
 ghost use Rattle.std.specs.Option.{option_to_list};
-ghost use Rattle.its_frame.specs.declared.decision.Decision.TheVariants.{Ends};
+ghost use Rattle.its_frame.specs.declared.decision.Decision.TheVariants.{Ends, Goes};
 ghost use Rattle.its_plain.specs.Job.{IOC as IOC_BIT, bit_of, with_pending};
 ghost use Rattle.its_plain.specs.Own.{with_advance, exit_of};
 ghost use Rattle.its_plain.specs.Tests.{goes, number_at, out};
@@ -88,15 +88,18 @@ impl Caller<'_> {
     }
 }
 
-/// A part of the call is done: one thing changes, a byte or word may be held, and pointer and count become those of the rest.
-pub(crate) fn moves(change: Change, held: Option<Held>, next: Word, count: Word) -> Decision
-    ensures { result ≡ goes (change ∷ []) held (next ∷ (count - 1) ∷ []) }
+/// A part of the call is done: these changes, a byte or word may be held, and pointer and count become those of the rest.
+pub(crate) fn goes_with(
+    changes: ArrayVec<Change, 2>,
+    held: Option<Held>,
+    next: Word,
+    left: Word,
+) -> Decision
+    ensures { result ≡ Goes changes held (record { items = next ∷ left ∷ [] }) }
 {
     let mut values = ArrayVec::new();
     values.push(next);
-    values.push(Word::new(count.value().saturating_sub(1)));
-    let mut changes = ArrayVec::new();
-    changes.push(change);
+    values.push(left);
     Decision::Goes {
         values,
         held,

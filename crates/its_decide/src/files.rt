@@ -11,10 +11,12 @@ ghost use Rattle.its_word.specs.Byte.{has_size};
 ghost use Rattle.its_records.specs.declared.jobs.Channel.TheVariants.{Reading, Writing};
 ghost use Rattle.its_machine.specs.Called.{channel_under};
 ghost use Rattle.its_decide.specs.Called.{looks};
+ghost use Rattle.its_decide.specs.Moving.{outcome};
 ghost use Rattle.its_decide.specs.Fits.{SeenFits};
 
 use super::caller::Caller;
-use super::ends::{ends, moves};
+use super::ends::ends;
+use super::moving::{Halt, Moved, one_moved};
 use super::words::END_OF_FILE;
 use arrayvec::ArrayVec;
 use its_bytes::load;
@@ -152,52 +154,52 @@ impl Caller<'_> {
 
     /// SIOT from a file: the word at its position is held, and stored by the next step.
     #[tactic(auto, using(crate::proofs::FileLaws::reading), unfolding(its_plain::specs::View::view))]
-    pub(crate) fn siot_reads(&self, file: u32, at: u32) -> Decision
+    pub(crate) fn siot_reads(&self, file: u32, at: u32) -> Result<Moved, Halt>
         requires on { channel_under self.now.job.now (input self.now.ask.now 0) ≡ Reading file at }
         requires fits { SeenFits self.now.seen.now }
-        ensures { result ≡ siot_reads (looks self.now) self.now.ask.now (input self.now.ask.now 0) at (slice_get (words_of (looks self.now) (names_at self.now.seen.now.files.now file)) at) }
+        ensures { outcome (looks self.now) self.now.ask.now result ≡ siot_reads (looks self.now) self.now.ask.now (input self.now.ask.now 0) at (slice_get (words_of (looks self.now) (names_at self.now.seen.now.files.now file)) at) }
     {
         let word = self.word_of_file(file, at);
         match self.next_byte(true, word.is_none()) {
             Ok(next) => self.siot_gets(next, at, word.unwrap_or(Word::ZERO)),
-            Err(decision) => decision,
+            Err(halt) => Err(halt),
         }
     }
 
     /// SIOT to a draft. Error 10 if there is no room.
     #[tactic(auto, unfolding(its_plain::specs::View::view))]
-    pub(crate) fn siot_writes(&self, draft: u32) -> Decision
+    pub(crate) fn siot_writes(&self, draft: u32) -> Result<Moved, Halt>
         requires on { channel_under self.now.job.now (input self.now.ask.now 0) ≡ Writing draft }
         requires fits { SeenFits self.now.seen.now }
-        ensures { result ≡ siot_writes (looks self.now) self.now.ask.now (input self.now.ask.now 0) (file_at self.now.seen.now.files.now draft) }
+        ensures { outcome (looks self.now) self.now.ask.now result ≡ siot_writes (looks self.now) self.now.ask.now (input self.now.ask.now 0) (file_at self.now.seen.now.files.now draft) }
     {
         match self.next_byte(true, false) {
             Ok(next) => self.siot_write(next, draft),
-            Err(decision) => decision,
+            Err(halt) => Err(halt),
         }
     }
 
     /// The same if no test of its arguments stops it.
     #[tactic(auto, using(its_machine::proofs::StopLaws::loaded_fits, crate::proofs::FileLaws::writing, crate::proofs::FileLaws::seen_full, its_files::proofs::EntryLaws::draft_stands), unfolding(its_plain::specs::View::view))]
-    fn siot_write(&self, next: Word, draft: u32) -> Decision
+    fn siot_write(&self, next: Word, draft: u32) -> Result<Moved, Halt>
         requires on { channel_under self.now.job.now (input self.now.ask.now 0) ≡ Writing draft }
         requires size { has_size next ≡ true }
         requires fits { SeenFits self.now.seen.now }
-        ensures { result ≡ siot_write (looks self.now) self.now.ask.now next (input self.now.ask.now 2) (input self.now.ask.now 0) (file_at self.now.seen.now.files.now draft) }
+        ensures { outcome (looks self.now) self.now.ask.now result ≡ siot_write (looks self.now) self.now.ask.now next (input self.now.ask.now 2) (input self.now.ask.now 0) (file_at self.now.seen.now.files.now draft) }
     {
         self.seen.files.seen();
         let Some(word) = self.seen.core.word(self.slot, next.right()) else {
-            return self.faults(Fault::Mpv);
+            return Err(Halt::Bit(Fault::Mpv));
         };
         if self.seen.files.is_full(draft) {
-            return self.fails(error::DEVICE_FULL);
+            return Err(Halt::Error(error::DEVICE_FULL));
         }
-        moves(
+        Ok(one_moved(
             self.appends(Word::new(load(next, word))),
             None,
             next,
             self.input(2),
-        )
+        ))
     }
 
     /// The draft of a call's channel gets a word more.

@@ -213,7 +213,7 @@ impl Caller<'_> {
     {
         match self.next_byte(true, at >= ADDRESSES) {
             Ok(next) => self.siot_peeks(next, at, self.seen.core.word(inferior, at)),
-            Err(decision) => decision,
+            Err(halt) => self.halts(halt),
         }
     }
 
@@ -225,7 +225,7 @@ impl Caller<'_> {
         ensures { result ≡ siot_peeks (looks self.now) self.now.ask.now next (input self.now.ask.now 2) (input self.now.ask.now 0) at word }
     {
         if let Some(word) = word {
-            return self.siot_gets(next, at, word);
+            return self.outcome(self.siot_gets(next, at, word));
         }
         match self.bar(next.right()) {
             Some(fault) => self.faults(fault),
@@ -241,7 +241,7 @@ impl Caller<'_> {
     {
         match self.next_byte(true, at >= ADDRESSES) {
             Ok(next) => self.siot_pokes(next, inferior, at),
-            Err(decision) => decision,
+            Err(halt) => self.halts(halt),
         }
     }
 

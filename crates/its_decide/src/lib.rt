@@ -3,7 +3,7 @@
 //! order of the definitions, and then its end.
 //!
 //! Proved: `decide` is exactly the definition's decision of any call, if the parts of the machine fit each other
-//! (`Fits`), and `disturbs` says whom its commit disturbs.
+//! (`Fits`), and `disturbed_by` says whom its commit disturbs: at most one job, or those of whom `disturbs` asks slot by slot.
 #![tactic(auto)]
 
 mod arguments;
@@ -16,6 +16,7 @@ mod ends;
 mod files;
 mod inferiors;
 mod links;
+mod moving;
 mod opening;
 mod pages;
 mod reach;
@@ -25,4 +26,5 @@ mod words;
 
 pub use caller::Seen;
 pub use choice::decide;
-pub use reach::disturbs;
+pub use moving::{Moved, next_move};
+pub use reach::{Disturbed, disturbed_by, disturbs};

@@ -9,9 +9,11 @@ ghost use Rattle.its_plain.specs.Arguments.{input};
 ghost use Rattle.its_plain.specs.CallLink.{can_open, iot_receives, iot_sends, joins, link_named, makes_link, opens_end, opens_link, siot_receive, siot_receives, siot_send, siot_sends};
 ghost use Rattle.its_plain.specs.Own.{with_advance, exit_of};
 ghost use Rattle.its_decide.specs.Called.{looks};
+ghost use Rattle.its_decide.specs.Moving.{outcome};
 
 use super::caller::Caller;
-use super::ends::{ends, moves};
+use super::ends::ends;
+use super::moving::{Halt, Moved, one_moved};
 use super::words::END_OF_FILE;
 use arrayvec::ArrayVec;
 use its_bytes::load;
@@ -138,59 +140,59 @@ impl Caller<'_> {
 
     /// SIOT from a link: its first word is held, and its low bits are stored by the next step. At its end the call finishes.
     #[tactic(auto, unfolding(its_plain::specs::View::view))]
-    pub(crate) fn siot_receives(&self, link: u8) -> Decision
-        ensures { result ≡ siot_receives (looks self.now) self.now.ask.now link }
+    pub(crate) fn siot_receives(&self, link: u8) -> Result<Moved, Halt>
+        ensures { outcome (looks self.now) self.now.ask.now result ≡ siot_receives (looks self.now) self.now.ask.now link }
     {
         match self.next_byte(false, self.seen.pipes.is_ended(link)) {
             Ok(next) => self.siot_receive(next, link),
-            Err(stop) => stop,
+            Err(halt) => Err(halt),
         }
     }
 
     /// The byte of the next pointer comes from a link.
     #[tactic(auto, unfolding(its_plain::specs::View::view))]
-    fn siot_receive(&self, next: Word, link: u8) -> Decision
-        ensures { result ≡ siot_receive (looks self.now) next (input self.now.ask.now 2) link }
+    fn siot_receive(&self, next: Word, link: u8) -> Result<Moved, Halt>
+        ensures { outcome (looks self.now) self.now.ask.now result ≡ siot_receive (looks self.now) next (input self.now.ask.now 2) link }
     {
         let place = next.right();
         if let Some(fault) = self.bar(place) {
-            return self.faults(fault);
+            return Err(Halt::Bit(fault));
         }
         if self.seen.pipes.is_dry(link) {
-            return Decision::Waits(Wait::Empty(link));
+            return Err(Halt::Later(Wait::Empty(link)));
         }
         let byte = self.seen.pipes.first_word(link).unwrap_or(Word::ZERO);
         let held = Held { place, byte };
-        moves(Change::Receive { link }, Some(held), next, self.input(2))
+        Ok(one_moved(Change::Receive { link }, Some(held), next, self.input(2)))
     }
 
     /// SIOT to a link: the byte becomes a word, which is sent. Error 26 if the reading end is closed.
     #[tactic(auto, unfolding(its_plain::specs::View::view))]
-    pub(crate) fn siot_sends(&self, link: u8) -> Decision
-        ensures { result ≡ siot_sends (looks self.now) self.now.ask.now link }
+    pub(crate) fn siot_sends(&self, link: u8) -> Result<Moved, Halt>
+        ensures { outcome (looks self.now) self.now.ask.now result ≡ siot_sends (looks self.now) self.now.ask.now link }
     {
         match self.next_byte(false, false) {
             Ok(next) => self.siot_send(next, link),
-            Err(stop) => stop,
+            Err(halt) => Err(halt),
         }
     }
 
     /// The byte of the next pointer is sent through a link.
     #[tactic(auto, using(its_machine::proofs::StopLaws::loaded_fits), unfolding(its_plain::specs::View::view))]
-    fn siot_send(&self, next: Word, link: u8) -> Decision
+    fn siot_send(&self, next: Word, link: u8) -> Result<Moved, Halt>
         requires { has_size next ≡ true }
-        ensures { result ≡ siot_send (looks self.now) self.now.ask.now next (input self.now.ask.now 2) link }
+        ensures { outcome (looks self.now) self.now.ask.now result ≡ siot_send (looks self.now) self.now.ask.now next (input self.now.ask.now 2) link }
     {
         let Some(word) = self.seen.core.word(self.slot, next.right()) else {
-            return self.faults(Fault::Mpv);
+            return Err(Halt::Bit(Fault::Mpv));
         };
         if self.seen.pipes.is_unread(link) {
-            return self.fails(error::NOBODY_READS);
+            return Err(Halt::Error(error::NOBODY_READS));
         }
         if self.seen.pipes.is_crowded(link) {
-            return Decision::Waits(Wait::Room(link));
+            return Err(Halt::Later(Wait::Room(link)));
         }
         let word = Word::new(load(next, word));
-        moves(Change::Send { link, word }, None, next, self.input(2))
+        Ok(one_moved(Change::Send { link, word }, None, next, self.input(2)))
     }
 }

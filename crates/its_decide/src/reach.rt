@@ -1,11 +1,12 @@
 //! Whom the commit of a call disturbs.
 ghost use Rattle.std.specs.Prelude.{◌≡◌, ◌<◌};
 ghost use Rattle.its_word.specs.Limits.{slots};
+ghost use Rattle.its_jobs.specs.Table.{superior_at};
 ghost use Rattle.its_records.specs.Tree.{slots_below};
 ghost use Rattle.its_plain.specs.Change.{superiors};
 ghost use Rattle.its_plain.specs.Decide.{reach};
 ghost use Rattle.its_plain.specs.Footprint.{among};
-ghost use Rattle.its_decide.specs.Reach.{is_listed};
+ghost use Rattle.its_decide.specs.Reach.{is_listed, slots_of};
 ghost use Rattle.its_decide.specs.Seen.{machine_seen, raw_with};
 
 use super::caller::Seen;
@@ -13,27 +14,46 @@ use super::choice::target;
 use its_frame::CallName;
 use its_records::{Ask, Job};
 
-/// Whether the commit of the call of a slot's job, whose registers these are, disturbs the job of slot k: the one into which it
-/// reaches; for LOGOUT those below the caller, and its superior; and for UCLOSE those below the one into which it reaches too.
-#[tactic(auto, using(crate::proofs::ReachLaws::is_one, crate::proofs::ReachLaws::with_listed), unfolding(its_plain::specs::Decide::reach))]
-pub fn disturbs(seen: &Seen<'_>, slot: u8, job: &Job, ask: &Ask, k: u8) -> bool
+/// The jobs that the commit of a call disturbs, beside its caller: the one into which it reaches, if there is one; for UCLOSE that one and
+/// all below it; for LOGOUT all below the caller, and its superior.
+#[derive(Clone, Copy, Debug, PartialEq, Eq)]
+pub enum Disturbed {
+    Target(Option<u8>),
+    TargetTree(u8),
+    Kin,
+}
+
+/// Whom the commit of the call of a slot's job disturbs, whose registers these are.
+#[tactic(auto, unfolding(its_plain::specs::Decide::reach))]
+pub fn disturbed_by(seen: &Seen<'_>, slot: u8, job: &Job, ask: &Ask) -> Disturbed
     requires slot { slot < slots }
-    requires k { k < slots }
-    ensures { result ≡ among k (reach (machine_seen seen.now) slot (raw_with seen.now slot job.now) ask.now) }
+    ensures { slots_of result (machine_seen seen.now) slot (superior_at seen.now.jobs.now slot) ≡ reach (machine_seen seen.now) slot (raw_with seen.now slot job.now) ask.now }
 {
     if ask.fail != 0 {
-        return false;
+        return Disturbed::Target(None);
     }
     let target = target(seen, slot, job, ask);
     match CallName::named(ask.name) {
-        Some(CallName::Logout) => {
-            is_below(seen, slot, k) || is_listed(k, seen.jobs.superior(slot))
-        }
+        Some(CallName::Logout) => Disturbed::Kin,
         Some(CallName::Uclose) => match target {
-            Some(t) => is_below(seen, t, k) || is_listed(k, target),
-            None => false,
+            Some(root) => Disturbed::TargetTree(root),
+            None => Disturbed::Target(None),
         },
-        _ => is_listed(k, target),
+        _ => Disturbed::Target(target),
+    }
+}
+
+/// Whether the job of slot k is one of those that the commit of the call of a slot's job disturbs.
+#[tactic(auto, using(crate::proofs::ReachLaws::is_one, crate::proofs::ReachLaws::with_listed))]
+pub fn disturbs(seen: &Seen<'_>, slot: u8, whom: Disturbed, k: u8) -> bool
+    requires slot { slot < slots }
+    requires k { k < slots }
+    ensures { result ≡ among k (slots_of whom (machine_seen seen.now) slot (superior_at seen.now.jobs.now slot)) }
+{
+    match whom {
+        Disturbed::Target(target) => is_listed(k, target),
+        Disturbed::TargetTree(root) => is_below(seen, root, k) || is_listed(k, Some(root)),
+        Disturbed::Kin => is_below(seen, slot, k) || is_listed(k, seen.jobs.superior(slot)),
     }
 }
 

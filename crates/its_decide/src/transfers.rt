@@ -7,11 +7,12 @@ ghost use Rattle.its_plain.specs.Arguments.{input};
 ghost use Rattle.its_plain.specs.Transfer.{is_indexed, next_pointer, siot_by, siot_tests, word_bits};
 ghost use Rattle.its_machine.specs.Called.{bar_of, first_of};
 ghost use Rattle.its_decide.specs.Called.{looks};
+ghost use Rattle.its_decide.specs.Moving.{halted, halted_by};
 
 use super::caller::Caller;
-use arrayvec::ArrayVec;
+use super::moving::Halt;
 use its_bytes::{has_size, increment};
-use its_frame::{Decision, error};
+use its_frame::error;
 use its_word::{Fault, Word};
 
 /// Bits 13 to 17 of a byte pointer, I and X, are the low five bits of its left half.
@@ -27,46 +28,46 @@ const WORD_BITS: u32 = 36;
 const BIT_0: u64 = 0o400000000000;
 
 impl Caller<'_> {
-    /// The pointer to the next byte of SIOT, if no test of its arguments stops it; or the decision of the first test that holds.
-    pub(crate) fn next_byte(&self, words: bool, at_end: bool) -> Result<Word, Decision>
+    /// The pointer to the next byte of SIOT, if no test of its arguments stops it; or what the first test that holds says.
+    pub(crate) fn next_byte(&self, words: bool, at_end: bool) -> Result<Word, Halt>
         ensures next { IfOk result (λ p. (p ≡ next_pointer (input self.now.ask.now 1)) × (has_size p ≡ true)) }
         ensures left { IfOk result (λ p. at_end ≡ false) }
         ensures goes { IfOk result (λ p. (m : DecisionOf) → m ≡ siot_by (looks self.now) self.now.ask.now words at_end m) }
-        ensures stops { IfErr result (λ d. (m : DecisionOf) → d ≡ siot_by (looks self.now) self.now.ask.now words at_end m) }
+        ensures stops { IfErr result (λ h. (m : DecisionOf) → halted (looks self.now) self.now.ask.now h ≡ siot_by (looks self.now) self.now.ask.now words at_end m) }
     {
         match self.stop(words, at_end) {
-            Some(decision) => Err(decision),
+            Some(halt) => Err(halt),
             None => Ok(next_pointer(self.input(1))),
         }
     }
 
-    /// The decision of the first of SIOT's tests that holds: errors 17, WRO, 21, 22, the end with count 0 or if its channel is at its
+    /// What the first of SIOT's tests says that holds: errors 17, WRO, 21, 22, the end with count 0 or if its channel is at its
     /// end (of a file or of an inferior's core), and error 20. `words` says that the channel moves only whole words.
     #[tactic(auto, unfolding(its_plain::specs::View::view))]
-    fn stop(&self, words: bool, at_end: bool) -> Option<Decision>
-        ensures { result ≡ first_of (siot_tests (looks self.now) self.now.ask.now (input self.now.ask.now 1) (input self.now.ask.now 2) words at_end) }
+    fn stop(&self, words: bool, at_end: bool) -> Option<Halt>
+        ensures { halted_by (looks self.now) self.now.ask.now result ≡ first_of (siot_tests (looks self.now) self.now.ask.now (input self.now.ask.now 1) (input self.now.ask.now 2) words at_end) }
     {
         let (pointer, count) = (self.input(1), self.input(2));
         if self.is_shared(1) || self.is_shared(2) {
-            return Some(self.fails(error::NO_WORD));
+            return Some(Halt::Error(error::NO_WORD));
         }
         if self.is_read_only(1) || self.is_read_only(2) {
-            return Some(self.faults(Fault::Wro));
+            return Some(Halt::Bit(Fault::Wro));
         }
         if !has_size(pointer) || is_indexed(pointer) {
-            return Some(self.fails(error::BAD_POINTER));
+            return Some(Halt::Error(error::BAD_POINTER));
         }
         if words && !is_word_sized(pointer) {
-            return Some(self.fails(error::BAD_POINTER));
+            return Some(Halt::Error(error::BAD_POINTER));
         }
         if count.value() >= BIT_0 {
-            return Some(self.fails(error::OUT_OF_RANGE));
+            return Some(Halt::Error(error::OUT_OF_RANGE));
         }
         if count == Word::ZERO || at_end {
-            return Some(self.finishes(ArrayVec::new()));
+            return Some(Halt::Over);
         }
         if self.is_used(next_pointer(pointer).right()) {
-            return Some(self.fails(error::WORD_IN_USE));
+            return Some(Halt::Error(error::WORD_IN_USE));
         }
         None
     }

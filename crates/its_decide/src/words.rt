@@ -7,9 +7,11 @@ ghost use Rattle.its_plain.specs.Arguments.{input};
 ghost use Rattle.its_plain.specs.CallFile.{siot_read};
 ghost use Rattle.its_plain.specs.Own.{with_advance, exit_of};
 ghost use Rattle.its_decide.specs.Called.{looks};
+ghost use Rattle.its_decide.specs.Moving.{outcome};
 
 use super::caller::Caller;
-use super::ends::{ends, moves, store_at};
+use super::ends::{ends, store_at};
+use super::moving::{Halt, Moved, one_moved};
 use its_frame::{Change, Decision, Held};
 use its_word::Word;
 
@@ -45,16 +47,16 @@ impl Caller<'_> {
     /// SIOT gets a word, which is held and stored by the next step, at the next byte of its pointer; the position that it came
     /// from is one more. MPV or WRO by the word that it will be stored in.
     #[tactic(auto, unfolding(its_plain::specs::View::view))]
-    pub(crate) fn siot_gets(&self, next: Word, at: u32, word: Word) -> Decision
+    pub(crate) fn siot_gets(&self, next: Word, at: u32, word: Word) -> Result<Moved, Halt>
         requires number { input self.now.ask.now 0 < 16 }
         requires few { at < 2 ^ 18 }
-        ensures { result ≡ siot_read (looks self.now) next (input self.now.ask.now 2) (input self.now.ask.now 0) at word }
+        ensures { outcome (looks self.now) self.now.ask.now result ≡ siot_read (looks self.now) next (input self.now.ask.now 2) (input self.now.ask.now 0) at word }
     {
         let place = next.right();
         if let Some(fault) = self.bar(place) {
-            return self.faults(fault);
+            return Err(Halt::Bit(fault));
         }
         let held = Held { place, byte: word };
-        moves(self.moves_to(at + 1), Some(held), next, self.input(2))
+        Ok(one_moved(self.moves_to(at + 1), Some(held), next, self.input(2)))
     }
 }

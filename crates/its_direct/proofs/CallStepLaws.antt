@@ -2,7 +2,7 @@
 use Rattle.std.specs.Prelude.{◌≡◌, ◌≢◌, ◌<◌, ◌≤◌, ◌==◌, ◌^◌, ◌&&◌, ◌||◌, if◌then◌else◌, ℕ, ◌+◌, Bool, true, false, not, Option, Some, None, IfSome, is_some, option_map, List, [], ◌∷◌, ◌++◌, length, slice_index_or, slice_set, Result, Ok, Err, refl}
 use Rattle.std.specs.List.{range_with_len}
 use Rattle.std.proofs.Common.{sym, ap, ◌∙◌, subst, arith, inl, inr}
-use Rattle.std.proofs.lemmas.Bool.{cases_eq, cases_lt, ne_eqb}
+use Rattle.std.proofs.lemmas.Bool.{cases_eq, cases_lt, eq-eqb, false≢true, ne_eqb}
 use Rattle.std.proofs.lemmas.List.{get_or-set_same, get_or-set_other, get_or_past, length-set}
 use Rattle.std.proofs.lemmas.List.Folds.{list_any-append}
 use Rattle.std.proofs.lemmas.Option.{IfSome_then, same_Some}
@@ -32,7 +32,7 @@ use Rattle.its_plain.specs.Footprint.{SiteFits, among}
 use Rattle.its_plain.specs.Job.{bit_of, with_pending}
 use Rattle.its_plain.specs.Machine.{Chan, On, Machine, Whole}
 use Rattle.its_plain.specs.Turns.{is_running}
-use Rattle.its_plain.proofs.StepLaws.{step_by}
+use Rattle.its_plain.proofs.StepLaws.{AllOf, step_by}
 use Rattle.its_plain.proofs.FitsLaws.{site_fits}
 use Rattle.its_machine.specs.Across.{Across, channel_at, channel_by}
 use Rattle.its_machine.specs.Parts.{alarm_at, bare, chan_of, chans_of, raw_machine, raw_of}
@@ -43,18 +43,21 @@ use Rattle.its_stepped.proofs.FitLaws.{forest_steps}
 use Rattle.its_stepped.proofs.ForestLaws.{channel_of, forest_few, inferior_stands, job_few}
 use Rattle.its_stepped.proofs.UnwindLaws.{filtered_out}
 use Rattle.its_decide.specs.Fits.{SeenFits, OnJob}
+use Rattle.its_decide.specs.Reach.{slots_of}
 use Rattle.its_decide.specs.Seen.{machine_seen, raw_with}
+use Rattle.its_decide.specs.declared.reach.Disturbed.{Disturbed}
 use Rattle.its_decide.specs.declared.caller.Seen.{Seen}
 use Rattle.its_direct.specs.Events.{Kept, SpotFits}
 use Rattle.its_direct.specs.Plain.{machine_of, is_touched, no_slots, Tidy, JobBecomes}
 use Rattle.its_direct.specs.Ready.{CanCarryOut}
-use Rattle.its_direct.specs.Steps.{Acts, CallsAt, Lent, LosesOnly, Makes, SteppedBy, Steps, marked_by, own_of}
+use Rattle.its_direct.specs.Steps.{Acts, CallsAt, Lent, LosesOnly, Makes, SteppedBy, Steps, makes_job, marked_by, own_of}
 use Rattle.its_direct.specs.declared.plain.Plain.{Plain}
 use Rattle.its_direct.specs.declared.plain.Spot.TheVariants as spots
+use Rattle.its_direct.proofs.MadeLaws.{unmade_by}
 use Rattle.its_direct.proofs.ReadyLaws.{plain_ready}
 use Rattle.its_direct.proofs.SlotLaws.{placed_at, slot_machine, slot_tidy, touched_machine, touched_tidy}
 use Rattle.its_direct.proofs.StepKeepsLaws.{step_loses}
-use Rattle.its_direct.proofs.TouchLaws.{none_touched, slot_some, step_touched}
+use Rattle.its_direct.proofs.TouchLaws.{none_touched, or_false, slot_some, step_touched}
 use Rattle.its_direct.proofs.UserLaws.{nobody_is, own_is}
 
 -- whether a job runs
@@ -121,9 +124,16 @@ lent_fits p s h tidy forest = record {
 pub decision_seen : (p : Plain) (s : Seen) (k : ℕ) (j : Job) (a : Ask) → Lent p s → decision (machine_seen s) k (raw_with s k j) a ≡ decision (machine_of p) k (own_of p k j) a
 decision_seen p s k j a h = λ t. decision (lent_machine p s h t) k (lent_own p s k j h t) a
 
-pub reach_seen : (p : Plain) (s : Seen) (i k : ℕ) (j : Job) (a : Ask) → Lent p s
-    → among i (reach (machine_seen s) k (raw_with s k j) a) ≡ among i (reach (machine_of p) k (own_of p k j) a)
-reach_seen p s i k j a h = λ t. among i (reach (lent_machine p s h t) k (lent_own p s k j h t) a)
+slots_seen : (p : Plain) (s : Seen) (k : ℕ) (w : Disturbed) → Lent p s → slots_of w (machine_seen s) k (superior_at s.jobs.now k) ≡ slots_of w (machine_of p) k (superior_at p.jobs k)
+slots_seen p s k w h = λ t. slots_of w (lent_machine p s h t) k (superior_at (h.jobs t) k)
+
+pub reach_seen : (p : Plain) (s : Seen) (k : ℕ) (j : Job) (a : Ask) (w : Disturbed) → Lent p s → slots_of w (machine_seen s) k (superior_at s.jobs.now k) ≡ reach (machine_seen s) k (raw_with s k j) a
+    → slots_of w (machine_of p) k (superior_at p.jobs k) ≡ reach (machine_of p) k (own_of p k j) a
+reach_seen p s k j a w h e = sym (slots_seen p s k w h) ∙ e ∙ (λ t. reach (lent_machine p s h t) k (lent_own p s k j h t) a)
+
+pub marks_seen : (p : Plain) (s : Seen) (k i : ℕ) (w : Disturbed) → Lent p s
+    → among i (slots_of w (machine_seen s) k (superior_at s.jobs.now k)) ≡ among i (slots_of w (machine_of p) k (superior_at p.jobs k))
+marks_seen p s k i w h = ap (λ (ks : List ℕ). among i ks) (slots_seen p s k w h)
 
 -- a call reaches no slot past those that there are
 listed_few : (k : ℕ) (o : Option ℕ) → IfSome o (λ s. s < slots) → slots ≤ k → among k (listed o) ≡ false
@@ -186,6 +196,17 @@ reach_few m j q a k d is past = by_fail (a.fail == 0)
 
 pub own_few : (p : Plain) (s : ℕ) (j : Job) (a : Ask) (k : ℕ) → Kept p → job_at p.jobs s ≡ Some j → slots ≤ k → among k (reach (machine_of p) s (own_of p s j) a) ≡ false
 own_few p s j a k kept had past = reach_few (machine_of p) s (own_of p s j) a k kept.forest (own_is p s j had) past
+
+-- so the one that it reaches alone is one of them
+pub target_within : (o : Option ℕ) → ((k : ℕ) → slots ≤ k → among k (listed o) ≡ false) → IfSome o (λ s. s < slots)
+target_within None h = tt
+target_within (Some s) h = elim (cases_lt s slots) [
+  | inl below ↦ below
+  | inr above ↦ absurd (false≢true (sym (h s above) ∙ rw (eq-eqb s s refl) refl))
+]
+
+pub within_reach : (p : Plain) (s : ℕ) (j : Job) (a : Ask) (ks : List ℕ) → Kept p → job_at p.jobs s ≡ Some j → ks ≡ reach (machine_of p) s (own_of p s j) a → (k : ℕ) → slots ≤ k → among k ks ≡ false
+within_reach p s j a ks kept had e k past = ap (λ (xs : List ℕ). among k xs) e ∙ own_few p s j a k kept had past
 
 -- a list that says of each slot below n what a test says
 pub record Marked (test : ℕ → Bool) (n : ℕ) (bs : List Bool) : Type 0 where
@@ -256,6 +277,30 @@ module _ (old mid new : Plain) (s : ℕ) (a : Ask) (ks : List ℕ) (d : Decision
           place = ap (λ (p : Plain). p.place) same ∙ h.place;
         };
       }
+
+-- the same of a decision that makes no job
+pub act_alone : (old mid new : Plain) (s : ℕ) (a : Ask) (ks : List ℕ) (d : Decision) (b : Bool) → makes_job d ≡ false → new ≡ record mid { touched = new.touched }
+    → ((k : ℕ) → is_touched new k ≡ among k ks) → Acts b (acted (machine_of old) s a [] d) old mid → b ≡ true → Makes true (acted (machine_of old) s a ks d) old new
+act_alone old mid new s a ks d b none same touched h e = subst (λ (o : Option Transition). Makes true o old new) (sym (acted_reaches (machine_of old) s a ks d))
+    (go (acted (machine_of old) s a [] d) (λ k. unmade_by (machine_of old) s a [] d k none) (subst (λ (x : Bool). Acts x (acted (machine_of old) s a [] d) old mid) e h))
+  where
+    go : (o : Option Transition) → ((k : ℕ) → AllOf (λ t. is_made (machine_of old) t.machine k ≡ false) o) → Acts true o old mid
+        → Makes true (option_map (λ (t : Transition). record t { disturbs = ks }) o) old new
+    go None u h = absurd h
+    go (Some t) u h = record {
+      transition = record t { disturbs = ks };
+      is = refl;
+      steps = record {
+        machine = touched_machine mid new new.touched same ∙ h.machine;
+        touched = λ k. touched k ∙ or_false (among k ks) (is_made (machine_of old) t.machine k) (u k);
+        place = ap (λ (p : Plain). p.place) same ∙ h.place;
+      };
+    }
+
+-- what is decided and whom it disturbs, as the definitions say it
+pub act_is : (old new : Plain) (s : ℕ) (j : Job) (a : Ask) (ks : List ℕ) (d : Decision) (b : Bool) → ks ≡ reach (machine_of old) s (own_of old s j) a → d ≡ decision (machine_of old) s (own_of old s j) a
+    → Makes b (acted (machine_of old) s a ks d) old new → Makes b (by_ask (machine_of old) s (own_of old s j) (Ok a)) old new
+act_is old new s j a ks d b reached decided h = subst (λ (o : Option Transition). Makes b o old new) (λ t. acted (machine_of old) s a (reached t) (decided t)) h
 
 -- the decoding of a call faults
 module _ (old put new : Plain) (s : ℕ) (i k : Job) (f : Fault) (had : job_at old.jobs s ≡ Some i) (is : k ≡ with_pending i (bit_of f)) (b : JobBecomes old put s k)

@@ -29,3 +29,5 @@ pub mod ToldLaws
 pub mod ShownLaws
 pub mod SeriesLaws
 pub mod PlacedLaws
+pub mod MadeLaws
+pub mod PartLaws

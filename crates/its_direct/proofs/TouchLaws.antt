@@ -59,7 +59,7 @@ one_touched new old s l e none k = ap (λ (xs : List Bool). slice_index_or xs k 
     other : (s k : ℕ) → s ≢ k → among k (s ∷ []) ≡ false
     other s k ne = rw (ne_eqb s k ne) refl
 
-or_false : (b c : Bool) → c ≡ false → b ≡ (b || c)
+pub or_false : (b c : Bool) → c ≡ false → b ≡ (b || c)
 or_false true c e = refl
 or_false false c e = sym e
 

@@ -71,10 +71,10 @@ pc_kept : (n : ℕ) (i k : Job) → k ≡ with_pending i n → i.pc < 2 ^ 18 →
 pc_kept n i k is h = subst (λ (j : Job). j.pc < 2 ^ 18) (sym is) h
 
 -- a unit
-unit_is : (p : Plain) (s : ℕ) (i : Job) (o : Outcome) → unit (core_at p.core s) i ≡ o → unit (own_of p s i).core (own_of p s i).job ≡ bare_outcome o
+pub unit_is : (p : Plain) (s : ℕ) (i : Job) (o : Outcome) → unit (core_at p.core s) i ≡ o → unit (own_of p s i).core (own_of p s i).job ≡ bare_outcome o
 unit_is p s i o u = unit_bare (core_at p.core s) i ∙ ap bare_outcome u
 
-quiet_is : (p : Plain) (s : ℕ) (i : Job) (b : Bool) → deliverable i ≡ b → deliverable (own_of p s i).job ≡ b
+pub quiet_is : (p : Plain) (s : ℕ) (i : Job) (b : Bool) → deliverable i ≡ b → deliverable (own_of p s i).job ≡ b
 quiet_is p s i b h = deliverable_bare i ∙ h
 
 pub calls_at : (p : Plain) (c : Cores) (s : ℕ) (i : Job) (x : Site) → job_at p.jobs s ≡ Some i → i.stopped ≡ false → deliverable i ≡ false → c ≡ p.core

@@ -10,3 +10,4 @@ pub mod Filing
 pub mod Events
 pub mod Ready
 pub mod Series
+pub mod Parts

@@ -1,10 +1,15 @@
 -- The effect of a step of a slot's job on the machine in running form.
 -- No promise rests on this.
 use Rattle.std.specs.Prelude.{◌≡◌, ◌⊎◌, ◌&&◌, ◌||◌, ℕ, Bool, true, false, not, Option, Some, None, List, is_some, slice_index_or}
+use Rattle.std.specs.List.{list_any}
 use Rattle.its_records.specs.declared.calls.Site.{Site}
 use Rattle.its_records.specs.declared.jobs.Job.{Job}
 use Rattle.its_core.specs.Cores.{core_at}
 use Rattle.its_jobs.specs.Table.{job_at, superior_at}
+use Rattle.its_frame.specs.declared.change.Change.{Change}
+use Rattle.its_frame.specs.declared.change.Change.TheVariants.{Make}
+use Rattle.its_frame.specs.declared.decision.Decision.{Decision}
+use Rattle.its_frame.specs.declared.decision.Decision.TheVariants.{Waits, Goes, Ends, Gone}
 use Rattle.its_plain.specs.Decode.{ask}
 use Rattle.its_plain.specs.CallStep.{Transition, among, is_made, by_ask}
 use Rattle.its_plain.specs.Machine.{Whole, Machine}
@@ -80,6 +85,17 @@ Acts false (Some t) old new = ⊥
 abbrev pub marked_by : List Bool → List Bool → Plain → ℕ → Bool
 marked_by disturbed stood p k =
     slice_index_or disturbed k false || (not (slice_index_or stood k false) && is_some (job_at p.jobs k))
+
+-- a change makes a job, and a decision does
+abbrev pub is_making : Change → Bool
+is_making (Make s u n) = true
+is_making _ = false
+
+abbrev pub makes_job : Decision → Bool
+makes_job (Waits r) = false
+makes_job (Goes cs h vs) = list_any is_making cs.items
+makes_job (Ends cs ss e) = list_any is_making cs.items
+makes_job (Gone cs) = list_any is_making cs.items
 
 -- a step is taken, or there is none and nothing has changed
 abbrev pub Makes : Bool → Option Transition → Plain → Plain → Type 0

@@ -30,6 +30,7 @@ mod events;
 mod files;
 mod lines;
 mod loading;
+mod parts;
 mod plain;
 mod removal;
 mod series;

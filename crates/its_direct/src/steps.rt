@@ -1,30 +1,32 @@
 //! The step of a slot's job, whole: a delivery, a unit, or a call, which is decoded, decided and carried out at once.
 ghost use Rattle.std.specs.Prelude.{◌≡◌, ◌<◌, ◌≤◌, ◌+◌, ◌++◌, [], ℕ, false, Ok, Some, IfSome, IsTrue, is_some, length, slice_index_or};
+ghost use Rattle.std.specs.List.{list_any};
 ghost use Rattle.its_word.specs.Byte.{has_size};
 ghost use Rattle.its_word.specs.Limits.{slots};
 ghost use Rattle.its_core.specs.Cores.{core_at};
-ghost use Rattle.its_jobs.specs.Table.{job_at};
+ghost use Rattle.its_jobs.specs.Table.{job_at, superior_at};
 ghost use Rattle.its_plain.specs.Arguments.{debts, input, with_new_values, store_of};
 ghost use Rattle.its_plain.specs.CallStep.{acted, quiet_step, by_ask, decision, deposited, with_fault, after_moves, transition, with_held};
 ghost use Rattle.its_plain.specs.Change.{effects, in_job};
-ghost use Rattle.its_plain.specs.Decide.{reach};
+ghost use Rattle.its_plain.specs.Decide.{listed, reach};
 ghost use Rattle.its_plain.specs.Footprint.{among};
 ghost use Rattle.its_plain.specs.Machine.{core_of};
 ghost use Rattle.its_plain.specs.Turns.{is_running};
 ghost use Rattle.its_machine.specs.Can.{HasJob};
-ghost use Rattle.its_decide.specs.Seen.{machine_seen, raw_with};
+ghost use Rattle.its_decide.specs.Reach.{slots_of};
+ghost use Rattle.its_decide.specs.Seen.{machine_seen};
 ghost use Rattle.its_direct.specs.Effects.{Becomes};
 ghost use Rattle.its_direct.specs.Events.{Kept};
 ghost use Rattle.its_direct.specs.Plain.{machine_of, is_touched, Tidy};
 ghost use Rattle.its_direct.specs.Ready.{Carries, GoesOn, HeldFits, CanCarryOut, core_behind};
-ghost use Rattle.its_direct.specs.Steps.{Acts, CallsAt, Lent, LosesOnly, Makes, Steps, marked_by, own_of};
+ghost use Rattle.its_direct.specs.Steps.{Acts, CallsAt, Lent, LosesOnly, Makes, Steps, marked_by, is_making, makes_job, own_of};
 
 use super::plain::{Plain, Spot};
 use super::users::Begun;
 use arrayvec::ArrayVec;
 use its_bytes::deposit;
 use its_core::Core;
-use its_decide::{Seen, decide, disturbs};
+use its_decide::{Disturbed, Seen, decide, disturbed_by, disturbs};
 use its_frame::{Change, Decision, Held};
 use its_records::{Ask, Job, Site};
 use its_word::{Fault, SLOTS, Store, Word};
@@ -121,17 +123,52 @@ impl Plain {
         ensures tidy { Tidy self.new }
     {
         let decision = self.decided(slot, job, ask);
-        let disturbed = self.disturbed(slot, job, ask);
+        match self.disturbed(slot, job, ask) {
+            Disturbed::Target(target) => self.act_on(slot, target, ask, decision),
+            disturbed => self.act_widely(slot, disturbed, ask, decision),
+        }
+    }
+
+    /// Carries out what a call of a slot's job has decided that disturbs at most one other job.
+    fn act_on(&mut self, slot: u8, target: Option<u8>, ask: &Ask, decision: Decision) -> bool
+        requires slot { slot < slots }
+        requires target { IfSome target (λ t. t < slots) }
+        requires ready { CanCarryOut (machine_of self.old) slot ask.now decision }
+        requires tidy { Tidy self.old }
+        ensures row { Makes result (acted (machine_of self.old) slot ask.now (listed target) decision) self.old self.new }
+        ensures tidy { Tidy self.new }
+    {
+        if makes_job(&decision) {
+            return self.act_widely(slot, Disturbed::Target(target), ask, decision);
+        }
+        let made = self.carry_out(slot, ask, decision);
+        if made {
+            self.touch_target(target);
+        }
+        made
+    }
+
+    /// Carries out what a call of a slot's job has decided, and looks at each slot: whether its job is disturbed, or made.
+    #[inline(never)]
+    fn act_widely(&mut self, slot: u8, disturbed: Disturbed, ask: &Ask, decision: Decision) -> bool
+        requires slot { slot < slots }
+        requires few { (k : ℕ) → slots ≤ k → among k (slots_of disturbed (machine_of self.old) slot (superior_at self.old.jobs slot)) ≡ false }
+        requires ready { CanCarryOut (machine_of self.old) slot ask.now decision }
+        requires tidy { Tidy self.old }
+        ensures row { Makes result (acted (machine_of self.old) slot ask.now (slots_of disturbed (machine_of self.old) slot (superior_at self.old.jobs slot)) decision) self.old self.new }
+        ensures tidy { Tidy self.new }
+    {
+        let marks = self.marks_of(slot, disturbed);
         let stood = self.standing();
         let made = self.carry_out(slot, ask, decision);
         if made {
-            self.mark(&disturbed, &stood);
+            self.mark(&marks, &stood);
         }
         made
     }
 
     /// The parts of the machine, lent.
-    fn seen(&self) -> Seen<'_>
+    pub(crate) fn seen(&self) -> Seen<'_>
         ensures { Lent self.now result }
     {
         Seen {
@@ -159,13 +196,20 @@ impl Plain {
     }
 
     /// Whom the commit of a call of a slot's job disturbs, which has these registers.
-    fn disturbed(&self, slot: u8, job: &Job, ask: &Ask) -> Marks
+    fn disturbed(&self, slot: u8, job: &Job, ask: &Ask) -> Disturbed
         requires slot { slot < slots }
-        requires job { job_at self.now.jobs slot ≡ Some job.now }
-        requires kept { Kept self.now }
-        ensures { (k : ℕ) → slice_index_or result k false ≡ among k (reach (machine_of self.now) slot (own_of self.now slot job.now) ask.now) }
+        ensures { slots_of result (machine_of self.now) slot (superior_at self.now.jobs slot) ≡ reach (machine_of self.now) slot (own_of self.now slot job.now) ask.now }
     {
-        disturbed(&self.seen(), slot, job, ask)
+        disturbed_by(&self.seen(), slot, job, ask)
+    }
+
+    /// For each slot whether its job is one of those that a call of a slot's job disturbs.
+    fn marks_of(&self, slot: u8, disturbed: Disturbed) -> Marks
+        requires slot { slot < slots }
+        requires few { (k : ℕ) → slots ≤ k → among k (slots_of disturbed (machine_of self.now) slot (superior_at self.now.jobs slot)) ≡ false }
+        ensures { (k : ℕ) → slice_index_or result k false ≡ among k (slots_of disturbed (machine_of self.now) slot (superior_at self.now.jobs slot)) }
+    {
+        marks_of(&self.seen(), slot, disturbed)
     }
 
     /// Which slots have a job.
@@ -188,6 +232,18 @@ impl Plain {
         let stands = self.standing();
         for k in 0..SLOTS {
             self.touched[k] = disturbed[k] || !stood[k] && stands[k];
+        }
+    }
+
+    /// Marks as touched one slot, or none.
+    fn touch_target(&mut self, target: Option<u8>)
+        requires { IfSome target (λ t. t < slots) }
+        ensures same { self.new ≡ record self.old { touched = self.new.touched } }
+        ensures touched { (k : ℕ) → is_touched self.new k ≡ among k (listed target) }
+    {
+        self.touch_none();
+        if let Some(t) = target {
+            self.touch(t);
         }
     }
 
@@ -219,7 +275,7 @@ impl Plain {
 
     /// Carries out a part of a call of slot's job: its changes, then the byte that it holds, and then the new values of its last
     /// arguments.
-    fn go_on(
+    pub(crate) fn go_on(
         &mut self,
         slot: u8,
         changes: &[Change],
@@ -256,17 +312,43 @@ impl Plain {
     }
 }
 
-/// Whom the commit of a call of a slot's job disturbs, which has these registers, in a machine whose parts are lent.
-fn disturbed(seen: &Seen<'_>, slot: u8, job: &Job, ask: &Ask) -> Marks
+/// For each slot whether its job is one of those that a call of a slot's job disturbs, in a machine whose parts are lent.
+fn marks_of(seen: &Seen<'_>, slot: u8, disturbed: Disturbed) -> Marks
     requires slot { slot < slots }
-    requires few { (k : ℕ) → slots ≤ k → among k (reach (machine_seen seen.now) slot (raw_with seen.now slot job.now) ask.now) ≡ false }
-    ensures { (k : ℕ) → slice_index_or result k false ≡ among k (reach (machine_seen seen.now) slot (raw_with seen.now slot job.now) ask.now) }
+    requires few { (k : ℕ) → slots ≤ k → among k (slots_of disturbed (machine_seen seen.now) slot (superior_at seen.now.jobs.now slot)) ≡ false }
+    ensures { (k : ℕ) → slice_index_or result k false ≡ among k (slots_of disturbed (machine_seen seen.now) slot (superior_at seen.now.jobs.now slot)) }
 {
     let mut marks = [false; SLOTS];
     for k in 0..SLOTS {
-        marks[k] = disturbs(seen, slot, job, ask, k as u8);
+        marks[k] = disturbs(seen, slot, disturbed, k as u8);
     }
     marks
+}
+
+/// Whether a decision makes a job.
+fn makes_job(decision: &Decision) -> bool
+    ensures { result ≡ makes_job decision.now }
+{
+    match decision {
+        Decision::Waits(_) => false,
+        Decision::Goes { changes, .. } => make_job(changes),
+        Decision::Ends { changes, .. } => make_job(changes),
+        Decision::Gone { changes } => make_job(changes),
+    }
+}
+
+/// Whether one of these changes makes a job.
+fn make_job(changes: &[Change]) -> bool
+    ensures { result ≡ list_any is_making changes.now }
+{
+    changes.iter().any(|c| is_making(c))
+}
+
+/// Whether a change makes a job.
+pub(crate) fn is_making(change: &Change) -> bool
+    ensures { result ≡ is_making change.now }
+{
+    matches!(change, Change::Make { .. })
 }
 
 /// The store of a byte that is held, by a pointer, into its word of a slot's core.

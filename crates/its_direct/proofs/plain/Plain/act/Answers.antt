@@ -1,25 +1,34 @@
-use Rattle.std.proofs.Common.{sym, subst, Bool, []}
+use Rattle.std.proofs.Common.{sym, ap, subst, ◌∙◌}
+use Rattle.its_jobs.specs.Table.{superior_at}
 use Rattle.its_frame.specs.declared.decision.Decision.{Decision}
-use Rattle.its_plain.specs.CallStep.{acted, decision}
-use Rattle.its_plain.specs.Decide.{reach}
+use Rattle.its_plain.specs.Decide.{listed}
+use Rattle.its_decide.specs.Reach.{slots_of}
+use Rattle.its_decide.specs.declared.reach.Disturbed.{Disturbed}
 use Rattle.its_direct.specs.Plain.{machine_of}
-use Rattle.its_direct.specs.Steps.{Acts, Makes, own_of}
-use Rattle.its_direct.proofs.CallStepLaws.{act_steps, act_waits}
+use Rattle.its_direct.specs.Ready.{CanCarryOut}
+use Rattle.its_direct.proofs.CallStepLaws.{act_is, target_within, within_reach}
 use Rattle.its_direct.proofs.plain.Plain.act.Goals as goal
 
-pub returns-then-made-clause-row : goal.returns-then-made-clause-row
-returns-then-made-clause-row c =
-    let m = machine_of c.args.self.now in
-    let own = own_of c.args.self.now c.args.slot c.args.job.now in
-    subst (λ (b : Bool). Makes b (acted m c.args.slot c.args.ask.now (reach m c.args.slot own c.args.ask.now) (decision m c.args.slot own c.args.ask.now)) c.args.self.now c.mark.new.self) (sym c.if-made.true)
-    (act_steps c.args.self.now c.carry_out-made.new.self c.mark.new.self c.args.slot c.args.ask.now (reach m c.args.slot own c.args.ask.now) (decision m c.args.slot own c.args.ask.now) _ _ _
-    c.disturbed-disturbed.ensures c.standing-stood.ensures c.mark.ensures.same c.mark.ensures.touched
-    (subst (λ (d : Decision). Acts c.carry_out-made.result (acted m c.args.slot c.args.ask.now [] d) c.args.self.now c.carry_out-made.new.self) c.decided-decision.ensures c.carry_out-made.ensures.row) c.if-made.true)
+pub act_on-requires-clause-target : goal.act_on-requires-clause-target
+act_on-requires-clause-target c =
+    target_within c.in-Target.target
+    (within_reach c.args.self.now c.args.slot c.args.job.now c.args.ask.now (listed c.in-Target.target) c.requires.kept c.requires.job
+    (ap (λ (w : Disturbed). slots_of w (machine_of c.args.self.now) c.args.slot (superior_at c.args.self.now.jobs c.args.slot)) (sym c.in-Target.is) ∙ c.disturbed.ensures))
 
-pub returns-else-made-clause-row : goal.returns-else-made-clause-row
-returns-else-made-clause-row c =
-    let m = machine_of c.args.self.now in
-    let own = own_of c.args.self.now c.args.slot c.args.job.now in
-    subst (λ (b : Bool). Makes b (acted m c.args.slot c.args.ask.now (reach m c.args.slot own c.args.ask.now) (decision m c.args.slot own c.args.ask.now)) c.args.self.now c.carry_out-made.new.self) (sym c.if-made.false)
-    (act_waits c.args.self.now c.carry_out-made.new.self c.args.slot c.args.ask.now (reach m c.args.slot own c.args.ask.now) (decision m c.args.slot own c.args.ask.now) _
-    (subst (λ (d : Decision). Acts c.carry_out-made.result (acted m c.args.slot c.args.ask.now [] d) c.args.self.now c.carry_out-made.new.self) c.decided-decision.ensures c.carry_out-made.ensures.row) c.if-made.false)
+pub act_widely-requires : goal.act_widely-requires
+act_widely-requires c = record {
+  slot = c.requires.slot;
+  few = within_reach c.args.self.now c.args.slot c.args.job.now c.args.ask.now _ c.requires.kept c.requires.job c.disturbed.ensures;
+  ready = subst (λ (d : Decision). CanCarryOut (machine_of c.args.self.now) c.args.slot c.args.ask.now d) (sym c.decided-decision.ensures) c.requires.ready;
+  tidy = c.requires.kept.tidy;
+}
+
+pub returns-in-Target-clause-row : goal.returns-in-Target-clause-row
+returns-in-Target-clause-row c =
+    act_is c.args.self.now c.act_on.new.self c.args.slot c.args.job.now c.args.ask.now (listed c.in-Target.target) c.decided-decision.result c.act_on.result
+    (ap (λ (w : Disturbed). slots_of w (machine_of c.args.self.now) c.args.slot (superior_at c.args.self.now.jobs c.args.slot)) (sym c.in-Target.is) ∙ c.disturbed.ensures)
+    c.decided-decision.ensures c.act_on.ensures.row
+
+pub returns-in_default-clause-row : goal.returns-in_default-clause-row
+returns-in_default-clause-row c =
+    act_is c.args.self.now c.act_widely.new.self c.args.slot c.args.job.now c.args.ask.now _ c.decided-decision.result c.act_widely.result c.disturbed.ensures c.decided-decision.ensures c.act_widely.ensures.row

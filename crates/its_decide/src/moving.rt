@@ -1,0 +1,142 @@
+//! What SIOT moves next, as a small value: a decision is made of it only if one is wanted.
+ghost use Rattle.std.specs.Prelude.{◌≡◌, ◌<◌, ◌-◌, [], None, Some, IfSome};
+ghost use Rattle.its_word.specs.Limits.{slots};
+ghost use Rattle.its_frame.specs.declared.name.CallName.TheVariants.{Siot};
+ghost use Rattle.its_jobs.specs.Table.{job_at};
+ghost use Rattle.its_plain.specs.CallDevice.{siot_call};
+ghost use Rattle.its_plain.specs.CallStep.{decision};
+ghost use Rattle.its_plain.specs.Decide.{call_named, reach};
+ghost use Rattle.its_decide.specs.Called.{looks};
+ghost use Rattle.its_decide.specs.Fits.{SeenFits};
+ghost use Rattle.its_decide.specs.Moving.{found, halted, moving, outcome};
+ghost use Rattle.its_decide.specs.Seen.{machine_seen, raw_with};
+
+use super::caller::{Caller, Seen};
+use super::choice::target;
+use super::ends::goes_with;
+use arrayvec::ArrayVec;
+use its_frame::{CallName, Change, Decision, Held, Wait};
+use its_records::{Ask, Channel, Job};
+use its_word::{Fault, Word};
+
+/// A byte or word that SIOT moves: what changes, what is held until it is stored, and pointer and count of the rest.
+#[derive(Clone, Copy, Debug, PartialEq, Eq)]
+pub struct Moved {
+    pub next: Word,
+    pub left: Word,
+    pub held: Option<Held>,
+    pub change: Change,
+}
+
+/// Why SIOT moves nothing: an error with a number, a fault, its end, or a wait.
+#[derive(Clone, Copy, Debug, PartialEq, Eq)]
+pub(crate) enum Halt {
+    Error(u8),
+    Bit(Fault),
+    Over,
+    Later(Wait),
+}
+
+/// A byte or word is moved by one change, and the count becomes one less.
+pub(crate) fn one_moved(change: Change, held: Option<Held>, next: Word, count: Word) -> Moved
+    ensures { result ≡ record { next = next; left = count - 1; held = held; change = change } }
+{
+    Moved {
+        next,
+        left: Word::new(count.value().saturating_sub(1)),
+        held,
+        change,
+    }
+}
+
+/// The same as a decision.
+fn moving(m: &Moved) -> Decision
+    ensures { result ≡ moving m.now }
+{
+    let mut changes = ArrayVec::new();
+    changes.push(m.change);
+    goes_with(changes, m.held, m.next, m.left)
+}
+
+/// What is moved, if something is.
+fn found(r: Result<Moved, Halt>) -> Option<Moved>
+    ensures { result ≡ found r }
+{
+    match r {
+        Ok(m) => Some(m),
+        Err(_) => None,
+    }
+}
+
+impl Caller<'_> {
+    /// The decision of a SIOT that moves nothing.
+    #[tactic(auto, unfolding(its_plain::specs::View::view))]
+    pub(crate) fn halts(&self, halt: Halt) -> Decision
+        ensures { result ≡ halted (looks self.now) self.now.ask.now halt }
+    {
+        match halt {
+            Halt::Error(number) => self.fails(number),
+            Halt::Bit(fault) => self.faults(fault),
+            Halt::Over => self.finishes(ArrayVec::new()),
+            Halt::Later(wait) => Decision::Waits(wait),
+        }
+    }
+
+    /// The decision of SIOT, by what it moves or why it moves nothing.
+    pub(crate) fn outcome(&self, r: Result<Moved, Halt>) -> Decision
+        ensures { result ≡ outcome (looks self.now) self.now.ask.now r }
+    {
+        match r {
+            Ok(m) => moving(&m),
+            Err(halt) => self.halts(halt),
+        }
+    }
+
+    /// What SIOT moves next, if its channel is on a console, a file, a draft or a link.
+    #[tactic(auto, using(its_machine::proofs::NumberLaws::under), unfolding(its_plain::specs::CallDevice::siot_call, its_plain::specs::View::view))]
+    fn next_move(&self) -> Option<Moved>
+        requires fits { SeenFits self.now.seen.now }
+        ensures { IfSome result (λ m. moving m ≡ siot_call (looks self.now) self.now.ask.now) }
+    {
+        match self.channel(self.input(0)) {
+            Channel::TtyIn => found(self.siot_in()),
+            Channel::TtyOut => found(self.siot_out()),
+            Channel::Reading { file, at } => found(self.siot_reads(file, at)),
+            Channel::Writing { draft } => found(self.siot_writes(draft)),
+            Channel::Link { link, write: true } => found(self.siot_sends(link)),
+            Channel::Link { link, write: false } => found(self.siot_receives(link)),
+            Channel::Closed => None,
+            Channel::Usr { .. } => None,
+        }
+    }
+}
+
+/// What the call of a slot's job, which has these registers, moves next, if it is SIOT and reaches no other job. Then its decision is
+/// this, and disturbs nobody. None says nothing.
+#[tactic(auto, unfolding(its_plain::specs::CallStep::decision, its_plain::specs::Decide::decided, its_plain::specs::Decide::reach))]
+pub fn next_move(seen: &Seen<'_>, slot: u8, job: &Job, ask: &Ask) -> Option<Moved>
+    requires slot { slot < slots }
+    requires job { job_at seen.now.jobs.now slot ≡ Some job.now }
+    requires fits { SeenFits seen.now }
+    ensures moves { IfSome result (λ m. moving m ≡ decision (machine_seen seen.now) slot (raw_with seen.now slot job.now) ask.now) }
+    ensures alone { IfSome result (λ m. reach (machine_seen seen.now) slot (raw_with seen.now slot job.now) ask.now ≡ []) }
+{
+    if ask.fail != 0 {
+        return None;
+    }
+    let Some(CallName::Siot) = CallName::named(ask.name) else {
+        return None;
+    };
+    let target = target(seen, slot, job, ask);
+    if target.is_some() {
+        return None;
+    }
+    let caller = Caller {
+        seen,
+        slot,
+        job,
+        ask,
+        target,
+    };
+    caller.next_move()
+}

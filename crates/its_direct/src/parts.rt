@@ -1,0 +1,179 @@
+//! Parts of one call of a job, one after another: the call is decoded once for all of them.
+ghost use Rattle.std.specs.Prelude.{◌≡◌, ◌<◌, ◌≤◌, ◌∷◌, [], IfSome, length};
+ghost use Rattle.its_word.specs.Limits.{slots};
+ghost use Rattle.its_plain.specs.Arguments.{with_new_values};
+ghost use Rattle.its_decide.specs.Moving.{moving};
+ghost use Rattle.pdp_exec.specs.Near.{near_site};
+ghost use Rattle.its_direct.specs.Events.{Kept};
+ghost use Rattle.its_direct.specs.Parts.{AtCall, Decides, InParts, PartIf, with_input};
+ghost use Rattle.its_direct.specs.Plain.{machine_of};
+
+use super::plain::{Plain, Spot};
+use super::steps::is_making;
+use arrayvec::ArrayVec;
+use its_decide::{Moved, next_move};
+use its_ints::deliverable;
+use its_records::{Ask, Site};
+use its_word::Word;
+use pdp_exec::{Near, call_at_hand};
+
+impl Plain {
+    /// Takes steps of a slot's job that are parts of the call at its PC, n at most, as long as each disturbs nobody and makes no job; how
+    /// many. If the call has no such part, or its word is not all that is read on the way to it, none is taken, and nothing changes. No
+    /// block of lines may be open.
+    #[tactic(auto, using(crate::proofs::PartLaws::no_parts))]
+    pub fn parts(&mut self, slot: u8, n: u32) -> u32
+        requires slot { slot < slots }
+        requires outside { self.old.place ≡ Spot.Plain }
+        requires kept { Kept self.old }
+        ensures few { result ≤ n }
+        ensures parts { InParts result (machine_of self.old) slot (machine_of self.new) }
+        ensures place { self.new.place ≡ self.old.place }
+        ensures kept { Kept self.new }
+    {
+        if n == 0 {
+            return 0;
+        }
+        match self.call_here(slot) {
+            Some(ask) => self.take_parts(slot, ask, n),
+            None => 0,
+        }
+    }
+
+    /// What the call at the PC of a slot's job asks for, if the job is at one.
+    #[tactic(auto, using(crate::proofs::PartLaws::at_call, crate::proofs::PartLaws::site_here, crate::proofs::SlotLaws::placed_at))]
+    fn call_here(&self, slot: u8) -> Option<Ask>
+        requires slot { slot < slots }
+        requires kept { Kept self.now }
+        ensures { IfSome result (λ a. AtCall (machine_of self.now) slot a) }
+    {
+        let Some(job) = self.jobs.job(slot) else {
+            return None;
+        };
+        if job.stopped {
+            return None;
+        }
+        if deliverable(job) {
+            return None;
+        }
+        match call_at_hand(&self.core, slot, job) {
+            Some(near) => match self.ask(slot, &near_site(job.pc, near)) {
+                Ok(ask) => Some(ask),
+                Err(_) => None,
+            },
+            None => None,
+        }
+    }
+
+    /// The same, for a call that asks for this.
+    #[inline(never)]
+    #[tactic(auto, using(crate::proofs::PartLaws::no_parts, crate::proofs::PartLaws::parts_more, crate::proofs::PartLaws::parts_at, crate::proofs::PartLaws::parts_end, crate::proofs::PartLaws::parts_all))]
+    fn take_parts(&mut self, slot: u8, ask: Ask, n: u32) -> u32
+        requires slot { slot < slots }
+        requires outside { self.old.place ≡ Spot.Plain }
+        requires kept { Kept self.old }
+        requires at { AtCall (machine_of self.old) slot ask }
+        ensures few { result ≤ n }
+        ensures parts { InParts result (machine_of self.old) slot (machine_of self.new) }
+        ensures place { self.new.place ≡ self.old.place }
+        ensures kept { Kept self.new }
+    {
+        let mut ask = ask;
+        for made in 0..n {
+            if !self.next_part(slot, &mut ask) {
+                return made;
+            }
+        }
+        n
+    }
+
+    /// Takes the next part of a call of a slot's job that asks for this, if it moves a byte or word, disturbs nobody and makes no job. Then
+    /// the call goes on, and asks for what it asks with its new values. Else nothing changes.
+    fn next_part(&mut self, slot: u8, ask: &mut Ask) -> bool
+        requires slot { slot < slots }
+        requires outside { self.old.place ≡ Spot.Plain }
+        requires kept { Kept self.old }
+        requires at { AtCall (machine_of self.old) slot ask.old }
+        ensures row { PartIf result self.old self.new slot ask.new }
+        ensures place { self.new.place ≡ self.old.place }
+        ensures kept { Kept self.new }
+    {
+        match self.next_move(slot, ask) {
+            Some(moved) => self.move_alone(slot, ask, &moved),
+            None => false,
+        }
+    }
+
+    /// What a call of a slot's job moves next that asks for this, if it reaches no other job.
+    #[tactic(auto, using(crate::proofs::PartLaws::decides))]
+    fn next_move(&self, slot: u8, ask: &Ask) -> Option<Moved>
+        requires slot { slot < slots }
+        requires kept { Kept self.now }
+        requires at { AtCall (machine_of self.now) slot ask.now }
+        ensures { IfSome result (λ m. Decides (machine_of self.now) slot ask.now (moving m)) }
+    {
+        match self.jobs.job(slot) {
+            Some(job) => next_move(&self.seen(), slot, job, ask),
+            None => None,
+        }
+    }
+
+    /// Moves a byte or word as a call has decided, if that makes no job and the call has three inputs.
+    fn move_alone(&mut self, slot: u8, ask: &mut Ask, moved: &Moved) -> bool
+        requires slot { slot < slots }
+        requires outside { self.old.place ≡ Spot.Plain }
+        requires kept { Kept self.old }
+        requires at { AtCall (machine_of self.old) slot ask.old }
+        requires decides { Decides (machine_of self.old) slot ask.old (moving moved.now) }
+        ensures row { PartIf result self.old self.new slot ask.new }
+        ensures place { self.new.place ≡ self.old.place }
+        ensures kept { Kept self.new }
+    {
+        if is_making(&moved.change) {
+            return false;
+        }
+        if ask.inputs.len() != 3 {
+            return false;
+        }
+        let changes = [moved.change];
+        let values = [moved.next, moved.left];
+        self.go_on(slot, &changes, ask, moved.held, &values);
+        self.touch_none();
+        renew(ask, moved.next, moved.left);
+        true
+    }
+}
+
+/// The site of a call at a PC, with nothing else read on the way.
+fn near_site(pc: u32, near: Near) -> Site
+    ensures { result ≡ near_site pc near }
+{
+    let mut decode = ArrayVec::new();
+    decode.push(pc);
+    Site {
+        pc,
+        e: near.e,
+        channel: near.channel,
+        used: 0,
+        decode,
+    }
+}
+
+/// Gives the last two of three inputs of a call new values.
+#[tactic(auto, using(crate::proofs::PartLaws::renewed))]
+fn renew(ask: &mut Ask, next: Word, left: Word)
+    requires { length ask.old.inputs.items ≡ 3 }
+    ensures { ask.new ≡ with_new_values ask.old (next ∷ left ∷ []) }
+{
+    change_input(ask, 1, next);
+    change_input(ask, 2, left);
+}
+
+/// Gives an input of a call another value.
+fn change_input(ask: &mut Ask, k: usize, value: Word)
+    requires { k < length ask.old.inputs.items }
+    ensures changed { ask.new ≡ with_input ask.old k value }
+    ensures many { length ask.new.inputs.items ≡ length ask.old.inputs.items }
+{
+    ask.inputs[k].value = value;
+}
