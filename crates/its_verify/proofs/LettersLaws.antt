@@ -66,6 +66,11 @@ run_end old now i m k all p past so b n ps =
     let none : m - k ≡ 0 = omega arith in
     so b n ps ∙ ap (λ (j : ℕ). paced (walk_of now b n) i (replicate j p ++ ps)) none
 
+-- none, and then some
+pub run_then : (old mid new : Judge) (i j k : ℕ) (p : Pace) → j ≡ 0 → RunLed true old mid i (replicate j p) → RunLed true mid new i (replicate k p) → RunLed true old new i (replicate k p)
+run_then old mid new i j k p none first then b n ps =
+    ap (λ (m : ℕ). paced (walk_of old b n) i (replicate m p ++ (replicate k p ++ ps))) (sym none) ∙ first b n (replicate k p ++ ps) ∙ then b n ps
+
 -- one that changes nothing, again and again
 all_again : (j : Judge) (i k : ℕ) (p : Pace) → Led j j i p → RunLed true j j i (replicate k p)
 all_again j i zero p led b n ps = refl

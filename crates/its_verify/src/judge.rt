@@ -146,8 +146,8 @@ impl Judge {
         true
     }
 
-    /// Takes at once, of the letters of a run after its first, which is licensed, as many `*` as are units of a slot's job in a row,
-    /// and all that change nothing; how many.
+    /// Takes at once, of the letters of a run after its first, which is licensed, as many `*` as are units of a slot's job in a row, or
+    /// parts of one call, and all that change nothing; how many.
     #[tactic(auto, using(crate::proofs::LettersLaws::waits_again, crate::proofs::LettersLaws::off_again))]
     fn taken(&mut self, slot: u8, run: Run) -> u32
         requires going { self.old.ended ≡ false }
@@ -162,11 +162,52 @@ impl Judge {
         ensures place { self.new.plain.place ≡ self.old.plain.place }
     {
         match run.pace {
-            Pace::Step => self.units(slot, run.more),
+            Pace::Step => self.steps(slot, run.more),
             Pace::Work => 0,
             Pace::Wait => run.more,
             Pace::Off => run.more,
         }
+    }
+
+    /// Takes as many `*` as are units of a slot's job in a row, or if there is none as are parts of its call, n at most; how many.
+    #[tactic(auto, using(crate::proofs::LettersLaws::run_then))]
+    fn steps(&mut self, slot: u8, n: u32) -> u32
+        requires going { self.old.ended ≡ false }
+        requires slot { slot < slots }
+        requires outside { self.old.plain.place ≡ Spot.Plain }
+        requires sure { Sure self.old }
+        ensures few { result ≤ n }
+        ensures led { RunLed true self.old self.new slot (replicate result Pace.Step) }
+        ensures going { self.new.ended ≡ false }
+        ensures sure { Sure self.new }
+        ensures place { self.new.plain.place ≡ self.old.plain.place }
+    {
+        let made = self.units(slot, n);
+        if made == 0 {
+            return self.parts(slot, n);
+        }
+        made
+    }
+
+    /// Takes as many `*` as are parts of the call of a slot's job that disturb nobody, n at most; how many.
+    #[tactic(auto, using(crate::proofs::SeriesLaws::parts_none, crate::proofs::SeriesLaws::parts_some, crate::proofs::JudgeStateLaws::sure_is, crate::proofs::JudgeStateLaws::sure_still))]
+    fn parts(&mut self, slot: u8, n: u32) -> u32
+        requires going { self.old.ended ≡ false }
+        requires slot { slot < slots }
+        requires outside { self.old.plain.place ≡ Spot.Plain }
+        requires sure { Sure self.old }
+        ensures few { result ≤ n }
+        ensures led { RunLed true self.old self.new slot (replicate result Pace.Step) }
+        ensures going { self.new.ended ≡ false }
+        ensures sure { Sure self.new }
+        ensures place { self.new.plain.place ≡ self.old.plain.place }
+    {
+        let made = self.plain.parts(slot, n);
+        if made == 0 {
+            return 0;
+        }
+        self.dots[usize::from(slot)] = 0;
+        made
     }
 
     /// Takes as many `*` as are units of a slot's job in a row, n at most; how many.
