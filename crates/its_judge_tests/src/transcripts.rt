@@ -133,3 +133,42 @@ fn a_session_is_kept(rt: HostRuntime) -> Result<(), Fail> {
     assert_eq!(rt; texts.number, 2);
     Ok(())
 }
+
+/// A job that opens its console, moves three bytes to it by SIOT, and stops.
+static MOVES: &str =
+    "VERSION 2\nLOAD U B 0\n100/ 43000000120 45700000000 43000000130 45700000000 45700000000\n120/ 400000000000 576045560000 5000000001 1000000001 400000000150\n130/ 400000000000 635157640000 1000000001 151 400000000153\n150/ 646471000000 440700000152 406050000000 3\nGO 100\nTICK 0 20\nDRAIN 0 10\nEND\nJ 0\nT 0 ";
+
+/// What its ticks may show, and what they may not: as many `*` as OPEN, the bytes, the end of SIOT and a unit are, and no more.
+static LICENSED: &str = "4. 1* 5. 4* 2.#1* 1. 4* 12.#6* 12.#3. 4* 11.";
+
+static UNLICENSED: &str = "4. 1* 5. 3* 1w 2.#7* 11.#10* 10.";
+
+/// What is found of that session, if its ticks show this.
+fn moved(alloc: Global, ticks: &str) -> Result<Result<Outcome, Broken>, Fail> {
+    let mut input = Vec::new(alloc);
+    input.extend_from_slice(MOVES.as_bytes())?;
+    input.extend_from_slice(ticks.as_bytes())?;
+    input.extend_from_slice(b"\nD 0 101 102 100\n")?;
+    let mut src = MemSource::open(alloc, &input, 512, &[])?;
+    Ok(verify(alloc, &mut src))
+}
+
+/// Parts of one call in a row are licensed as they are one by one.
+#[test]
+fn parts_in_a_row(rt: HostRuntime) -> Result<(), Fail> {
+    for ticks in LICENSED.split('#') {
+        assert_eq!(rt;
+            moved(rt.alloc(), ticks)?,
+            Ok(Outcome::Yes(3)),
+            "at {ticks:?}"
+        );
+    }
+    for ticks in UNLICENSED.split('#') {
+        assert_eq!(rt;
+            moved(rt.alloc(), ticks)?,
+            Ok(Outcome::No(2)),
+            "at {ticks:?}"
+        );
+    }
+    Ok(())
+}
