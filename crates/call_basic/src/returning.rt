@@ -8,6 +8,7 @@ use super::ends::{ends, fails, faults, store_at};
 use its_frame::{Decision, error};
 use its_ints::{dismiss as dismissed, popped};
 use its_records::{Ask, Job};
+use its_word::Slot;
 use its_world::World;
 
 /// DISMIS p: PC, flags and deferrals come from the words that a delivery pushed, and 5 is taken from each half of the
@@ -19,7 +20,7 @@ pub fn dismiss(w: &World, slot: u8, job: &Job, ask: &Ask) -> Decision
     ensures { result ≡ dismiss (seen_by w.now slot job.now ask.now) ask.now }
 {
     match place_of_input(ask, 0) {
-        Some(p) => match dismissed(&w.core, job, slot, p) {
+        Some(p) => match dismissed(&w.core, job, Slot::new(slot), p) {
             Ok(exit) => ends(store_at(Some(p), popped(input(ask, 0))), exit),
             Err(fault) => faults(job, fault),
         },

@@ -1,5 +1,4 @@
 ghost use Rattle.std.specs.Prelude.{◌≡◌, ◌<◌, ◌≤◌, ◌^◌, ◌∷◌, [], ℕ, true, Some, None, is_some, IfSome, length, slice_index_or, drop};
-ghost use Rattle.its_word.specs.Limits.{slots};
 ghost use Rattle.its_core.specs.Cores.{core_at};
 ghost use Rattle.its_plain.specs.Arguments.{with_new_values};
 ghost use Rattle.its_plain.specs.Footprint.{SiteFits};
@@ -17,7 +16,7 @@ use its_core::Core;
 use its_decode::{fetch_site, parse_site};
 use its_frame::Held;
 use its_records::{Ask, Block, Owed, Site};
-use its_word::{Fault, Word};
+use its_word::{Fault, Slot, Word};
 use std::marker::Model;
 
 /// How far a job is inside a call: in user mode; it has entered the monitor at a site; its block is read; its arguments are found; it
@@ -214,8 +213,7 @@ impl Call {
     }
 
     /// The block of the call is read. At a fault the job is in user mode again.
-    pub fn parse(&mut self, core: &Core, slot: u8) -> Result<(), Fault>
-        requires slot { slot < slots }
+    pub fn parse(&mut self, core: &Core, slot: Slot) -> Result<(), Fault>
         requires entered { is_some (entered_in self.old) ≡ true }
         requires fits { IfSome (entered_in self.old) SiteFits }
         ensures frame { IfSome (entered_in self.old) (λ s. self.new ≡ after_parse s (parse_of (core_at core.now slot) s)) }
@@ -234,8 +232,7 @@ impl Call {
     }
 
     /// The arguments of the call are found, and their values are taken. At a fault the job is in user mode again.
-    pub fn fetch(&mut self, core: &Core, slot: u8) -> Result<(), Fault>
-        requires slot { slot < slots }
+    pub fn fetch(&mut self, core: &Core, slot: Slot) -> Result<(), Fault>
         requires parsed { is_some (parsed_in self.old) ≡ true }
         requires fits { IfSome (parsed_in self.old) (λ f. SiteFits f.site) }
         requires words { IfSome (parsed_in self.old) (λ f. f.site.channel ≡ None → 2 ≤ length f.block.items) }

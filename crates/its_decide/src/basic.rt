@@ -9,7 +9,7 @@ use super::ends::{ends, goes_on, store_at};
 use arrayvec::ArrayVec;
 use its_frame::{Change, Decision, Wait, error};
 use its_ints::{dismiss as dismissed, popped};
-use its_word::{Fault, Word};
+use its_word::{Fault, Slot, Word};
 
 /// The longest sleep, and the longest period of an alarm, in thirtieths.
 const LONGEST: u64 = 0o200000000000;
@@ -76,7 +76,7 @@ impl Caller<'_> {
         ensures { result ≡ dismiss (looks self.now) self.now.ask.now }
     {
         match self.place(0) {
-            Some(p) => match dismissed(self.seen.core, self.job, self.slot, p) {
+            Some(p) => match dismissed(self.seen.core, self.job, Slot::new(self.slot), p) {
                 Ok(exit) => ends(None, store_at(Some(p), popped(self.input(0))), exit),
                 Err(fault) => self.faults(fault),
             },

@@ -2,14 +2,14 @@
 ghost use Rattle.std.specs.Prelude.{◌≡◌, ◌+◌, ◌-◌, ◌*◌, ◌^◌, ◌<◌, ◌≤◌, ◌++◌, [], length, unwrap_or, Ok, Err, IfErr, IfOk, OnOk};
 ghost use Rattle.its_core.specs.Cores.{core_at};
 ghost use Rattle.its_word.specs.Core.{word_at};
-ghost use Rattle.its_word.specs.Limits.{budget, slots};
+ghost use Rattle.its_word.specs.Limits.{budget};
 ghost use Rattle.its_plain.specs.Decode.{argument, argument_at, arguments, held, kind_of, storable};
 ghost use Rattle.its_decode.specs.Gathering.{Added, Fetched, Gathered, HasRoom, Holds, argument_for};
 
 use super::block::argument_type;
 use its_core::Core;
 use its_records::{Ask, Kind, Operand};
-use its_word::{Address, Fault, Word};
+use its_word::{Address, Fault, Slot, Word};
 
 /// How much of the budget of indirect words is used, and how many error addresses and controls are found.
 #[derive(Drop)]
@@ -37,14 +37,13 @@ fn kind_of(w: Word) -> Kind
 
 /// The word at a place; Mpv if it is absent.
 #[tactic(auto, unfolding(its_plain::specs::Decode::held))]
-fn word_held(core: &Core, slot: u8, e: u32) -> Result<Word, Fault>
-    requires slot { slot < slots }
+fn word_held(core: &Core, slot: Slot, e: u32) -> Result<Word, Fault>
     requires address { e < 2 ^ 18 }
     ensures place { OnOk result ((held (core_at core.now slot) e).answer ≡ Ok e) }
     ensures value { IfOk result (λ w. w ≡ unwrap_or (word_at (core_at core.now slot) e) 0) }
     ensures fault { IfErr result (λ f. (held (core_at core.now slot) e).answer ≡ Err f) }
 {
-    match core.get(slot, e) {
+    match core.get(slot.number(), e) {
         Ok(w) => Ok(w),
         Err(_) => Err(Fault::Mpv),
     }
@@ -52,13 +51,12 @@ fn word_held(core: &Core, slot: u8, e: u32) -> Result<Word, Fault>
 
 /// Whether a word can be stored at a place: Mpv if it is absent, Wro if it is read only.
 #[tactic(auto, unfolding(its_plain::specs::Decode::storable))]
-fn check_storable(core: &Core, slot: u8, e: u32) -> Result<(), Fault>
-    requires slot { slot < slots }
+fn check_storable(core: &Core, slot: Slot, e: u32) -> Result<(), Fault>
     requires address { e < 2 ^ 18 }
     ensures place { OnOk result ((storable (core_at core.now slot) e).answer ≡ Ok e) }
     ensures fault { IfErr result (λ f. (storable (core_at core.now slot) e).answer ≡ Err f) }
 {
-    match core.refusal(slot, e) {
+    match core.refusal(slot.number(), e) {
         None => Ok(()),
         Some(f) => Err(f),
     }
@@ -69,13 +67,12 @@ fn check_storable(core: &Core, slot: u8, e: u32) -> Result<(), Fault>
 #[tactic(auto, unfolding(its_plain::specs::Decode::argument_at, its_plain::specs::Traced::also))]
 fn add_argument(
     core: &Core,
-    slot: u8,
+    slot: Slot,
     kind: Kind,
     e: u32,
     ask: &mut Ask,
     progress: &mut Progress,
 ) -> Result<(), Fault>
-    requires slot { slot < slots }
     requires address { e < 2 ^ 18 }
     requires room { HasRoom ask.old progress.old }
     ensures answer { OnOk result ((argument_at kind (core_at core.now slot) e).answer ≡ Ok (argument_for kind e)) }
@@ -133,12 +130,11 @@ fn add_argument(
 #[tactic(auto, using(its_plain::proofs::TracedLaws::joined, its_plain::proofs::TracedLaws::ended, its_plain::proofs::ReadLaws::unread), unfolding(its_plain::specs::Decode::argument, its_plain::specs::Traced::also, its_plain::specs::Traced::located))]
 fn fetch_argument(
     core: &Core,
-    slot: u8,
+    slot: Slot,
     w: Word,
     ask: &mut Ask,
     progress: &mut Progress,
 ) -> Result<(), Fault>
-    requires slot { slot < slots }
     requires used { progress.old.used ≤ budget }
     requires places { length ask.old.decode.items + (129 - 2 * progress.old.used) ≤ 160 }
     requires room { HasRoom ask.old progress.old }
@@ -148,7 +144,12 @@ fn fetch_argument(
     ensures more { (progress.old.used ≤ progress.new.used) × (progress.new.used ≤ budget) }
     ensures few { length ask.new.decode.items + 2 * progress.old.used ≤ length ask.old.decode.items + 2 * progress.new.used + 1 }
 {
-    let Address { e, flags_word } = core.address(slot, w, &mut progress.used, &mut ask.decode)?;
+    let Address { e, flags_word } = core.address(
+        slot.number(),
+        w,
+        &mut progress.used,
+        &mut ask.decode,
+    )?;
     // for the proof alone: if nothing names this type, rattle's plan of the borrows does not find `Option`
     let _last: Option<Word> = flags_word;
     add_argument(core, slot, kind_of(w), e, ask, progress)?;
@@ -159,12 +160,11 @@ fn fetch_argument(
 /// `used` is how much of the budget of 64 indirect words is used already.
 pub fn fetch_arguments(
     core: &Core,
-    slot: u8,
+    slot: Slot,
     words: &[Word],
     used: u32,
     ask: &mut Ask,
 ) -> Result<Progress, Fault>
-    requires slot { slot < slots }
     requires words { length words.now ≤ 8 }
     requires used { used ≤ budget }
     requires places { length ask.old.decode.items ≤ 2 * used + 12 }

@@ -2,7 +2,6 @@
 ghost use Rattle.std.specs.Prelude.{◌≡◌, ◌==◌, ◌<◌, ◌≤◌, ◌+◌, ◌*◌, ◌%◌, ◌^◌, ◌++◌, [], length, map, not, None, Ok, Err, IfErr, OnOk};
 ghost use Rattle.std.specs.List.{list_any, range_with_len};
 ghost use Rattle.its_core.specs.Cores.{core_at};
-ghost use Rattle.its_word.specs.Limits.{slots};
 ghost use Rattle.its_plain.specs.Decode.{ask as asked, error_by, exceeds, has_bit_0, iot_ask, row_named};
 ghost use Rattle.its_stepped.specs.TwoParts.{fetch_of, fetched, parse_of};
 ghost use Rattle.its_plain.specs.Footprint.{SiteFits};
@@ -13,7 +12,7 @@ use arrayvec::ArrayVec;
 use its_core::Core;
 use its_frame::{CallName, CallRow, error};
 use its_records::{Ask, Block, Operand, Site};
-use its_word::{ADDRESSES, Fault, Word};
+use its_word::{ADDRESSES, Fault, Slot, Word};
 
 /// The row of a call that a block can name: any but `.IOT`, which has none.
 #[tactic(auto, unfolding(its_plain::specs::Decode::row_named))]
@@ -102,8 +101,13 @@ fn note_block(e: u32, words: u32, decode: &mut ArrayVec<u32, 160>)
 
 /// What a call by a block asks for, when its block is read. The decode words are those of the site, those of the block,
 /// and those of the arguments' addresses. The fault is that of the first argument that has one.
-fn fetch_ask(core: &Core, slot: u8, site: &Site, block: &Block, ask: &mut Ask) -> Result<(), Fault>
-    requires slot { slot < slots }
+fn fetch_ask(
+    core: &Core,
+    slot: Slot,
+    site: &Site,
+    block: &Block,
+    ask: &mut Ask,
+) -> Result<(), Fault>
     requires fits { SiteFits site.now }
     requires words { 2 ≤ length block.now.items }
     ensures fetched { OnOk result (fetched (core_at core.now slot) site.now block.now ≡ Ok ask.new) }
@@ -138,8 +142,7 @@ fn ask_iot(site: &Site, channel: u8, ask: &mut Ask)
 /// The first part of a call's decoding: its block is read into `block`. `.IOT` has none. A fault of the first part is
 /// that of the decoding.
 #[tactic(auto, unfolding(its_stepped::specs::TwoParts::parse_of), using(crate::proofs::AskLaws::unparsed))]
-pub fn parse_site(core: &Core, slot: u8, site: &Site, block: &mut Block) -> Result<(), Fault>
-    requires slot { slot < slots }
+pub fn parse_site(core: &Core, slot: Slot, site: &Site, block: &mut Block) -> Result<(), Fault>
     requires address { site.now.e < 2 ^ 18 }
     ensures block { OnOk result (parse_of (core_at core.now slot) site.now ≡ Ok block.new) }
     ensures fault { IfErr result (λ f. parse_of (core_at core.now slot) site.now ≡ Err f) }
@@ -162,12 +165,11 @@ pub fn parse_site(core: &Core, slot: u8, site: &Site, block: &mut Block) -> Resu
 #[tactic(auto, unfolding(its_stepped::specs::TwoParts::fetch_of), using(crate::proofs::AskLaws::both_parts))]
 pub fn fetch_site(
     core: &Core,
-    slot: u8,
+    slot: Slot,
     site: &Site,
     block: &Block,
     ask: &mut Ask,
 ) -> Result<(), Fault>
-    requires slot { slot < slots }
     requires fits { SiteFits site.now }
     requires words { site.now.channel ≡ None → 2 ≤ length block.now.items }
     ensures fetched { OnOk result (fetch_of (core_at core.now slot) site.now block.now ≡ Ok ask.new) }

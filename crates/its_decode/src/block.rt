@@ -2,13 +2,12 @@
 ghost use Rattle.std.specs.Prelude.{◌≡◌, ◌+◌, ◌%◌, ◌^◌, ◌<◌, ◌≤◌, ◌&&◌, length, nat_lt, Ok, Err, IfErr, OnOk};
 ghost use Rattle.std.specs.List.{list_all};
 ghost use Rattle.its_core.specs.Cores.{core_at};
-ghost use Rattle.its_word.specs.Limits.{slots};
 ghost use Rattle.its_plain.specs.UnitPlan.{read_of};
 ghost use Rattle.its_plain.specs.Decode.{argument_words, block_at, checked, has_bit_0, is_legal, name_of, parsed, type_of, words_of};
 
 use its_core::Core;
 use its_records::Block;
-use its_word::{ADDRESSES, Fault, Word};
+use its_word::{ADDRESSES, Fault, Slot, Word};
 
 /// How many argument words of a block are read.
 const ARGUMENTS: u32 = 8;
@@ -45,18 +44,17 @@ pub fn words_of(block: &[Word]) -> &[Word]
 
 /// The word at an address modulo 2^18; Mpv if it is absent.
 #[tactic(auto, unfolding(its_plain::specs::UnitPlan::read_of))]
-fn read(core: &Core, slot: u8, a: u32) -> Result<Word, Fault>
-    requires { slot < slots }
+fn read(core: &Core, slot: Slot, a: u32) -> Result<Word, Fault>
     ensures { result ≡ read_of (core_at core.now slot) (a % 2 ^ 18) }
 {
-    core.get(slot, a % ADDRESSES).map_err(|_| Fault::Mpv)
+    core.get(slot.number(), a % ADDRESSES)
+        .map_err(|_| Fault::Mpv)
 }
 
 /// Appends the argument words of a block, which begin at an address, up to the first with bit 0 on, at most 8. Mpv if
 /// one of them is absent.
 #[tactic(auto, using(crate::proofs::BlockLaws::words_more, crate::proofs::BlockLaws::words_last, crate::proofs::BlockLaws::words_absent, crate::proofs::BlockLaws::words_over))]
-fn read_words(core: &Core, slot: u8, a: u32, block: &mut Block) -> Result<(), Fault>
-    requires slot { slot < slots }
+fn read_words(core: &Core, slot: Slot, a: u32, block: &mut Block) -> Result<(), Fault>
     requires address { a < 2 ^ 19 }
     requires room { length block.old.items ≤ 2 }
     ensures words { OnOk result ((argument_words 8 (core_at core.now slot) a block.old.items).answer ≡ Ok block.new) }
@@ -75,8 +73,7 @@ fn read_words(core: &Core, slot: u8, a: u32, block: &mut Block) -> Result<(), Fa
 
 /// Reads the block at an address, whether it is legal or not. Mpv if one of its words is absent.
 #[tactic(auto, unfolding(its_plain::specs::Decode::block_at, its_plain::specs::Traced::also, its_plain::specs::Traced::word))]
-fn read_block(core: &Core, slot: u8, e: u32, block: &mut Block) -> Result<(), Fault>
-    requires slot { slot < slots }
+fn read_block(core: &Core, slot: Slot, e: u32, block: &mut Block) -> Result<(), Fault>
     requires address { e < 2 ^ 18 }
     ensures block { OnOk result ((block_at (core_at core.now slot) e).answer ≡ Ok block.new) }
     ensures fault { IfErr result (λ f. (block_at (core_at core.now slot) e).answer ≡ Err f) }
@@ -108,8 +105,7 @@ fn is_legal(block: &[Word]) -> bool
 /// Reads the block of a call at an address: its first word, its name, and argument words up to the first with bit 0 on,
 /// at most 8. Mpv if one of its words is absent; else Ilo if bit 0 of the first word is off, or an argument has no type.
 #[tactic(auto, unfolding(its_plain::specs::Decode::parsed, its_plain::specs::Traced::also))]
-pub fn parse_block(core: &Core, slot: u8, e: u32, block: &mut Block) -> Result<(), Fault>
-    requires slot { slot < slots }
+pub fn parse_block(core: &Core, slot: Slot, e: u32, block: &mut Block) -> Result<(), Fault>
     requires address { e < 2 ^ 18 }
     ensures parsed { OnOk result ((parsed (core_at core.now slot) e).answer ≡ Ok block.new) }
     ensures fault { IfErr result (λ f. (parsed (core_at core.now slot) e).answer ≡ Err f) }

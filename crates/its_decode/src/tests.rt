@@ -6,7 +6,7 @@ use super::*;
 use arrayvec::ArrayVec;
 use its_core::Core;
 use its_records::{Ask, Block, Operand, Site};
-use its_word::{Fault, Word, read_octal};
+use its_word::{Fault, Slot, Word, read_octal};
 use std::process::Abort;
 use std::test::Fail;
 
@@ -78,12 +78,12 @@ fn decoded(core: &Core, site: &Site) -> Result<Ask, Fault>
     requires { SiteFits site.now }
 {
     let (mut block, mut ask) = left_over();
-    parse_site(core, 0, site, &mut block)?;
+    parse_site(core, Slot::new(0), site, &mut block)?;
     // for the proof alone: no clause of `parse_site` says that a block has two words
     if site.channel.is_none() && block.len() < 2 {
         return Err(Fault::Ilo);
     }
-    fetch_site(core, 0, site, &block, &mut ask)?;
+    fetch_site(core, Slot::new(0), site, &block, &mut ask)?;
     Ok(ask)
 }
 

@@ -1,6 +1,5 @@
 //! The events of a session, each by its line.
 ghost use Rattle.std.specs.Prelude.{◌≡◌, ◌<◌, ◌≤◌, ◌+◌, ◌^◌, IfSome, IfOk, OnErr, length};
-ghost use Rattle.its_word.specs.Limits.{slots};
 ghost use Rattle.its_records.specs.declared.session.Event.TheVariants as told;
 ghost use Rattle.its_records.specs.declared.session.Place.TheVariants as places;
 ghost use Rattle.its_session.specs.Events.{place_after};
@@ -13,14 +12,14 @@ ghost use Rattle.its_direct.specs.Events.{answered, spot_place, IsTold, JobsStay
 use super::plain::{Plain, Spot};
 use arrayvec::ArrayVec;
 use its_records::{Event, Refusal};
-use its_word::Word;
+use its_word::{Slot, Word};
 
 /// What an event shows that cannot be read from the machine after it.
 #[derive(Debug, Drop)]
 pub enum Answer {
     Nothing,
     /// The slot of the job that LOAD made.
-    Slot(u8),
+    Slot(Slot),
     /// How many bytes TYPE dropped.
     Dropped(u32),
     /// The bytes that DRAIN took.
@@ -70,14 +69,14 @@ impl Plain {
             Event::TypeIn { c, bytes } => self.tell_type(*c, bytes),
             Event::Drain { c, n } => self.tell_drain(*c, *n),
             Event::Clock { n } => answered(self.advance(*n)),
-            Event::Int { s, v, w } => answered(self.interrupt(*s, *v, *w)),
-            Event::Exam { s, a, n } => answered(self.exam(*s, *a, *n)),
-            Event::List { s, a, n } => answered(self.exam(*s, *a, *n)),
-            Event::State { s } => answered(self.state(*s)),
-            Event::Deposit { s, a, w } => answered(self.deposit(*s, *a, *w)),
-            Event::Stop { s } => answered(self.stop(*s)),
-            Event::Cont { s } => answered(self.cont(*s)),
-            Event::Peek { s } => answered(self.peek(*s)),
+            Event::Int { s, v, w } => answered(self.interrupt(s.number(), *v, *w)),
+            Event::Exam { s, a, n } => answered(self.exam(s.number(), *a, *n)),
+            Event::List { s, a, n } => answered(self.exam(s.number(), *a, *n)),
+            Event::State { s } => answered(self.state(s.number())),
+            Event::Deposit { s, a, w } => answered(self.deposit(s.number(), *a, *w)),
+            Event::Stop { s } => answered(self.stop(s.number())),
+            Event::Cont { s } => answered(self.cont(s.number())),
+            Event::Peek { s } => answered(self.peek(s.number())),
             Event::Dir { d } => self.tell_dir(*d),
             Event::Show { d, x, y } => self.tell_show(*d, *x, *y),
             Event::Tick { .. } => unreachable!(),
@@ -110,7 +109,7 @@ impl Plain {
         ensures tidy { Tidy self.new }
     {
         let slot = self.block_slot();
-        answered(self.load_words(slot, a, words.as_slice()))
+        answered(self.load_words(slot.number(), a, words.as_slice()))
     }
 
     /// RO.
@@ -123,7 +122,7 @@ impl Plain {
         ensures tidy { Tidy self.new }
     {
         let slot = self.block_slot();
-        answered(self.read_only(slot, page))
+        answered(self.read_only(slot.number(), page))
     }
 
     /// SYM.
@@ -136,7 +135,7 @@ impl Plain {
         ensures tidy { Tidy self.new }
     {
         let slot = self.block_slot();
-        answered(self.symbol(slot, name, a))
+        answered(self.symbol(slot.number(), name, a))
     }
 
     /// Words of a FILE block.
@@ -160,7 +159,7 @@ impl Plain {
         ensures tidy { Tidy self.new }
     {
         match self.load(u, j, console) {
-            Ok(slot) => Ok(Answer::Slot(slot)),
+            Ok(slot) => Ok(Answer::Slot(Slot::new(slot))),
             Err(e) => Err(e),
         }
     }
@@ -200,7 +199,7 @@ impl Plain {
         ensures tidy { Tidy self.new }
     {
         let slot = self.block_slot();
-        match self.go(slot, a) {
+        match self.go(slot.number(), a) {
             Ok(()) => {
                 self.set_place(Spot::Plain);
                 Ok(Answer::Nothing)
@@ -262,14 +261,13 @@ impl Plain {
     }
 
     /// The slot of the job whose LOAD block the next line is in.
-    fn block_slot(&self) -> u8
+    fn block_slot(&self) -> Slot
         requires place { spot_place self.now.place ≡ places.Load }
         requires placed { SpotFits (machine_of self.now) self.now.place }
         ensures place { self.now.place ≡ spots.Load result }
-        ensures slot { result < slots }
     {
         match self.place {
-            Spot::Load { slot } => slot,
+            Spot::Load { slot } => Slot::new(slot),
             Spot::Plain => unreachable!(),
             Spot::File { .. } => unreachable!(),
         }

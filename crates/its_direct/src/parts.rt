@@ -14,7 +14,7 @@ use arrayvec::ArrayVec;
 use its_decide::{Moved, next_move};
 use its_ints::deliverable;
 use its_records::{Ask, Site};
-use its_word::Word;
+use its_word::{Slot, Word};
 use pdp_exec::{Near, call_at_hand};
 
 impl Plain {
@@ -56,7 +56,7 @@ impl Plain {
         if deliverable(job) {
             return None;
         }
-        match call_at_hand(&self.core, slot, job) {
+        match call_at_hand(&self.core, Slot::new(slot), job) {
             Some(near) => match self.ask(slot, &near_site(job.pc, near)) {
                 Ok(ask) => Some(ask),
                 Err(_) => None,

@@ -10,6 +10,7 @@ ghost use Rattle.its_direct.specs.Series.{Series, unit_due};
 
 use super::plain::{Plain, Spot};
 use its_records::Job;
+use its_word::Slot;
 use pdp_exec::run_units;
 
 impl Plain {
@@ -58,7 +59,7 @@ impl Plain {
         ensures tidy { Tidy self.new }
     {
         let mut after = job;
-        let made = run_units(&mut self.core, slot, &mut after, n);
+        let made = run_units(&mut self.core, Slot::new(slot), &mut after, n);
         if made == 0 {
             return 0;
         }

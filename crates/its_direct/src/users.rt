@@ -12,7 +12,7 @@ ghost use Rattle.its_direct.specs.Steps.{StepBegins, SteppedBy};
 use super::plain::Plain;
 use its_ints::{deliver, deliverable};
 use its_records::{Job, Site};
-use its_word::{INF, Word};
+use its_word::{INF, Slot, Word};
 use pdp_exec::site;
 
 /// What the step of a slot's job begins with.
@@ -63,7 +63,7 @@ impl Plain {
         if self.units(slot, job, 1) == 1 {
             Begun::Stepped
         } else {
-            Begun::Calls(site(&self.core, slot, &job))
+            Begun::Calls(site(&self.core, Slot::new(slot), &job))
         }
     }
 
@@ -80,7 +80,7 @@ impl Plain {
     {
         self.jobs.tree();
         let mut after = job;
-        let stops = deliver(&mut self.core, slot, &mut after);
+        let stops = deliver(&mut self.core, Slot::new(slot), &mut after);
         self.put_job(slot, after);
         self.touch_none();
         if stops {

@@ -1,5 +1,4 @@
 ghost use Rattle.std.specs.Prelude.{◌≡◌, ◌<◌, ◌≤◌, ◌^◌, true};
-ghost use Rattle.its_word.specs.Limits.{slots};
 ghost use Rattle.its_word.specs.Only.{Only};
 ghost use Rattle.its_core.specs.Cores.{core_at};
 ghost use Rattle.its_plain.specs.CallBasic.{popped};
@@ -9,7 +8,7 @@ ghost use Rattle.its_plain.specs.Interrupt.{unguarded, deliverable, pushed, at_h
 use super::table::{Found, TableEntry, enabled_1, enabled_2, look_up};
 use its_core::Core;
 use its_records::{Exit, Job};
-use its_word::{ADDRESSES, FATAL, Fault, Store, TBL, Word, flags_in, pc_word};
+use its_word::{ADDRESSES, FATAL, Fault, Slot, Store, TBL, Word, flags_in, pc_word};
 
 /// How much is taken from each half of the stack pointer word, modulo 1000000 (octal).
 const FIVE_LESS: u32 = 0o1000000 - 5;
@@ -86,8 +85,7 @@ fn enter(job: &mut Job, entry: &TableEntry)
 /// Delivers an interrupt to a job, and says whether a fatal bit stopped the job; INF is then to be set in its
 /// superior, if it has one. A delivery that is not possible sets TBL and changes nothing else.
 #[tactic(auto, unfolding(its_plain::specs::Interrupt::delivered))]
-pub fn deliver(core: &mut Core, slot: u8, job: &mut Job) -> bool
-    requires slot { slot < slots }
+pub fn deliver(core: &mut Core, slot: Slot, job: &mut Job) -> bool
     requires deliverable { deliverable job.old ≡ true }
     ensures core { Only (core_at core.old) (core_at core.new) slot (delivered (core_at core.old slot) job.old).core }
     ensures reserved { core.new.reserved ≡ core.old.reserved }
@@ -101,7 +99,7 @@ pub fn deliver(core: &mut Core, slot: u8, job: &mut Job) -> bool
     }
     if let Some(found) = look_up(core, slot, job) {
         let stores = pushes(job, &found);
-        if core.store_all(slot, &stores).is_ok() {
+        if core.store_all(slot.number(), &stores).is_ok() {
             enter(job, &found.entry);
             return false;
         }
@@ -113,15 +111,18 @@ pub fn deliver(core: &mut Core, slot: u8, job: &mut Job) -> bool
 /// The registers that DISMIS leaves a job with, from the five words that a delivery pushed below the stack pointer
 /// word at p. Mpv if one of the words is absent, else Wro if p is read only.
 #[tactic(auto, unfolding(its_plain::specs::Interrupt::after_dismissal))]
-pub fn dismiss(core: &Core, job: &Job, slot: u8, p: u32) -> Result<Exit, Fault>
-    requires { slot < slots }
+pub fn dismiss(core: &Core, job: &Job, slot: Slot, p: u32) -> Result<Exit, Fault>
     ensures { result ≡ after_dismissal (core_at core.now slot) job.now p }
 {
-    let pointer = core.word(slot, p).ok_or(Fault::Mpv)?;
-    let saved = core.word(slot, pointer.right()).ok_or(Fault::Mpv)?;
-    let defer2 = core.word(slot, below(pointer, 1)).ok_or(Fault::Mpv)?;
-    let defer1 = core.word(slot, below(pointer, 2)).ok_or(Fault::Mpv)?;
-    if !core.is_storable(slot, p) {
+    let pointer = core.word(slot.number(), p).ok_or(Fault::Mpv)?;
+    let saved = core.word(slot.number(), pointer.right()).ok_or(Fault::Mpv)?;
+    let defer2 = core
+        .word(slot.number(), below(pointer, 1))
+        .ok_or(Fault::Mpv)?;
+    let defer1 = core
+        .word(slot.number(), below(pointer, 2))
+        .ok_or(Fault::Mpv)?;
+    if !core.is_storable(slot.number(), p) {
         return Err(Fault::Wro);
     }
     Ok(Exit {

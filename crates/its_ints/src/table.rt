@@ -1,13 +1,12 @@
 //! The interrupt table of a job, whose length and place the word at 42 (octal) says.
 ghost use Rattle.std.specs.Prelude.{◌≡◌, ◌≤◌, ◌<◌, ◌+◌, ◌^◌, IfSome, MatchOption};
-ghost use Rattle.its_word.specs.Limits.{slots};
 ghost use Rattle.its_core.specs.Cores.{core_at};
 ghost use Rattle.its_word.specs.Stores.{first_fault};
 ghost use Rattle.its_plain.specs.Interrupt.{enabled_1, enabled_2, entry_at, meets, first_entry, entries_of, pushed, undelivered, by_stores, through_table};
 
 use its_core::Core;
 use its_records::Job;
-use its_word::{ADDRESSES, TBL, Word};
+use its_word::{ADDRESSES, Slot, TBL, Word};
 use std::marker::Model;
 
 /// An entry of the interrupt table: the pending bits that it takes, the deferrals of its handler, and
@@ -94,17 +93,16 @@ fn is_met(job: &Job, entry: &TableEntry) -> bool
 
 /// The entry of five words from an address on; None if a word is absent.
 #[tactic(auto, unfolding(its_plain::specs::Interrupt::entry_at, its_plain::specs::Machine::words_at))]
-fn entry_at(core: &Core, slot: u8, a: u32) -> Option<TableEntry>
-    requires slot { slot < slots }
+fn entry_at(core: &Core, slot: Slot, a: u32) -> Option<TableEntry>
     requires address { a < 2 ^ 20 }
     ensures { result ≡ entry_at (core_at core.now slot) a }
 {
     Some(TableEntry {
-        mask1: core.word(slot, a % ADDRESSES)?,
-        mask2: core.word(slot, (a + 1) % ADDRESSES)?,
-        defer1: core.word(slot, (a + 2) % ADDRESSES)?,
-        defer2: core.word(slot, (a + 3) % ADDRESSES)?,
-        handler: core.word(slot, (a + 4) % ADDRESSES)?,
+        mask1: core.word(slot.number(), a % ADDRESSES)?,
+        mask2: core.word(slot.number(), (a + 1) % ADDRESSES)?,
+        defer1: core.word(slot.number(), (a + 2) % ADDRESSES)?,
+        defer2: core.word(slot.number(), (a + 3) % ADDRESSES)?,
+        handler: core.word(slot.number(), (a + 4) % ADDRESSES)?,
     })
 }
 
@@ -126,8 +124,7 @@ fn entries(word: Word) -> Option<u32>
 /// The first of so many entries from an address on that takes one of the enabled bits; None if none does, or if a
 /// word up to it is absent.
 #[tactic(auto, using(crate::proofs::TableLaws::first_entry_turn, crate::proofs::TableLaws::first_entry_spent))]
-fn first_entry(core: &Core, slot: u8, job: &Job, count: u32, a: u32) -> Option<TableEntry>
-    requires slot { slot < slots }
+fn first_entry(core: &Core, slot: Slot, job: &Job, count: u32, a: u32) -> Option<TableEntry>
     requires count { count ≤ 48 }
     requires address { a ≤ 2 ^ 18 }
     ensures { result ≡ first_entry (core_at core.now slot) job.now count a }
@@ -152,19 +149,18 @@ pub(crate) struct Found {
 
 /// Looks the table up; None if the delivery is not possible, whatever can be stored.
 #[tactic(auto, unfolding(its_plain::specs::Interrupt::through_table))]
-pub(crate) fn look_up(core: &Core, slot: u8, job: &Job) -> Option<Found>
-    requires { slot < slots }
+pub(crate) fn look_up(core: &Core, slot: Slot, job: &Job) -> Option<Found>
     ensures outcome { MatchOption result
         (through_table (core_at core.now slot) job.now ≡ undelivered (core_at core.now slot) job.now)
         (λ f. through_table (core_at core.now slot) job.now
         ≡ (let ss = pushed job.now f.entry f.place f.pointer in by_stores (core_at core.now slot) job.now f.entry ss (first_fault (core_at core.now slot) ss))) }
     ensures place { IfSome result (λ f. f.place < 2 ^ 18) }
 {
-    let table = core.word(slot, 0o42)?;
+    let table = core.word(slot.number(), 0o42)?;
     let count = entries(table)?;
-    let place = core.word(slot, table.right())?.right();
+    let place = core.word(slot.number(), table.right())?.right();
     let entry = first_entry(core, slot, job, count, table.right() + 1)?;
-    let pointer = core.word(slot, place)?;
+    let pointer = core.word(slot.number(), place)?;
     Some(Found {
         entry,
         place,

@@ -4,7 +4,7 @@ ghost use Rattle.its_core.specs.Cores.{reserved_at};
 use super::{deliver, deliverable, dismiss};
 use its_core::Core;
 use its_records::{Channel, Exit, Job};
-use its_word::{BYTE_HALF, Fault, OVERFLOW, Word};
+use its_word::{BYTE_HALF, Fault, OVERFLOW, Slot, Word};
 use std::alloc::Global;
 use std::process::Abort;
 use std::test::Fail;
@@ -96,7 +96,7 @@ fn delivers(
 ) -> Result<(), Fail> {
     let mut core = core_with(rt, alloc, words)?;
     assert!(rt; deliverable(&job));
-    assert!(rt; !deliver(&mut core, 0, &mut job));
+    assert!(rt; !deliver(&mut core, Slot::new(0), &mut job));
     assert!(rt; !job.stopped);
     assert_eq!(rt; (job.pend1.value(), job.defer1.value(), job.pc), left);
     has(rt, &core, after);
@@ -182,7 +182,7 @@ fn stops(rt: HostRuntime) -> Result<(), Fail> {
     for (pend, mask, defer) in [(0o4, 0, 0), (0o1004, 0o1004, 0o4), (0o40, 0o40, 0)] {
         let mut job = job(pend, mask, defer);
         assert!(rt; deliverable(&job));
-        assert!(rt; deliver(&mut core, 0, &mut job));
+        assert!(rt; deliver(&mut core, Slot::new(0), &mut job));
         assert!(rt; job.stopped);
         assert_eq!(rt; (job.pend1.value(), job.pc), (pend, 0o202));
     }
@@ -201,7 +201,7 @@ fn dismissed(rt: &impl Abort, core: &mut Core, job: &mut Job, pointer: u64) -> R
         defer1,
         defer2,
         ..
-    } = dismiss(core, job, 0, 0o17)?;
+    } = dismiss(core, job, Slot::new(0), 0o17)?;
     job.pc = pc;
     job.flags = flags;
     job.defer1 = defer1;
@@ -228,10 +228,10 @@ fn returns(rt: HostRuntime) -> Result<(), Fail> {
     job.mask2 = Word::new(0o10);
     job.flags = OVERFLOW;
     assert!(rt; deliverable(&job));
-    assert!(rt; !deliver(&mut core, 0, &mut job));
+    assert!(rt; !deliver(&mut core, Slot::new(0), &mut job));
     assert_eq!(rt; (job.pc, job.flags), (0o300, 0));
     assert!(rt; deliverable(&job));
-    assert!(rt; !deliver(&mut core, 0, &mut job));
+    assert!(rt; !deliver(&mut core, Slot::new(0), &mut job));
     assert_eq!(rt; (job.pc, job.flags), (0o400, 0));
     assert!(rt; !deliverable(&job));
     has(
@@ -254,8 +254,8 @@ fn returns(rt: HostRuntime) -> Result<(), Fail> {
         (0o202, OVERFLOW, 0)
     );
 
-    assert_eq!(rt; dismiss(&core, &job, 0, 0o2000), Err(Fault::Mpv));
-    assert_eq!(rt; dismiss(&core, &job, 0, 0o4000), Err(Fault::Mpv));
-    assert_eq!(rt; dismiss(&core, &job, 0, 0o5000), Err(Fault::Wro));
+    assert_eq!(rt; dismiss(&core, &job, Slot::new(0), 0o2000), Err(Fault::Mpv));
+    assert_eq!(rt; dismiss(&core, &job, Slot::new(0), 0o4000), Err(Fault::Mpv));
+    assert_eq!(rt; dismiss(&core, &job, Slot::new(0), 0o5000), Err(Fault::Wro));
     Ok(())
 }

@@ -7,7 +7,7 @@ ghost use Rattle.std.specs.Prelude.{◌<◌};
 use its_direct::{Begun, Plain, Spot};
 use its_machine::{MOST_SYMBOLS, SymbolTable};
 use its_records::{Event, Refusal};
-use its_word::{ILO, Word};
+use its_word::{ILO, Slot, Word};
 use std::process::Abort;
 use std::test::Fail;
 
@@ -172,7 +172,7 @@ fn events(rt: HostRuntime) -> Result<(), Fail> {
     assert_eq!(&rt; p.event(&Event::Clock { n: 5 }).is_ok(), true);
     assert_eq!(&rt; p.clock, 5);
     let mut q = Plain::open(rt.alloc())?;
-    assert_eq!(&rt; q.event(&Event::State { s: 0 }).is_ok(), false);
+    assert_eq!(&rt; q.event(&Event::State { s: Slot::FIRST }).is_ok(), false);
     Ok(())
 }
 

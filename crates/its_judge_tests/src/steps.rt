@@ -7,7 +7,7 @@ ghost use Rattle.its_direct.specs.Events.{IsTold, Kept, MayStand, spot_place};
 
 use its_direct::Plain;
 use its_records::Event;
-use its_word::Word;
+use its_word::{Slot, Word};
 use std::process::Abort;
 use std::test::Fail;
 
@@ -58,7 +58,7 @@ fn steps(rt: HostRuntime) -> Result<(), Fail> {
             &rt,
             &mut p,
             &Event::Deposit {
-                s: 0,
+                s: Slot::FIRST,
                 a,
                 w: Word::new(w),
             },

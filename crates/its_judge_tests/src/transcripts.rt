@@ -4,7 +4,7 @@ use its_io::MemSource;
 use its_reader::Texts;
 use its_records::Pace;
 use its_verify::{Broken, Outcome, Part, Room, is_end_line, is_peek, keep, read_ticks, verify};
-use its_word::read_octal;
+use its_word::{Slot, read_octal};
 use std::alloc::Global;
 use std::process::Abort;
 use std::test::Fail;
@@ -12,7 +12,7 @@ use std::test::Fail;
 /// What a line says of so many ticks of slot 5: these runs, each as a letter and how many of it, or nothing.
 fn says(rt: &impl Abort, line: &[u8], count: u32, runs: Option<&[(Pace, u32)]>) {
     let mut room = Room::new();
-    let is_read = read_ticks(line, 5, count.min(512), &mut room);
+    let is_read = read_ticks(line, Slot::new(5), count.min(512), &mut room);
     match (is_read.then_some(&room.runs), runs) {
         (Some(read), Some(runs)) => {
             assert_eq!(rt; read.len(), runs.len(), "at {line:?}");

@@ -21,7 +21,7 @@ use super::monitor::Monitor;
 use its_machine::{time_after, with_alr};
 use its_pclsr::unwind;
 use its_records::Refusal;
-use its_word::SLOTS;
+use its_word::{SLOTS, Slot};
 use its_world::World;
 
 /// The clock stays below this many thirtieths.
@@ -72,18 +72,18 @@ fn unwind_due(w: &mut World, clock: u64)
     ensures tidy { Tidy w.new }
 {
     for slot in 0..SLOTS as u8 {
+        let slot = Slot::new(slot);
         if is_due(w, slot, clock) {
-            unwind(w, slot);
+            unwind(w, slot.number());
         }
     }
 }
 
 /// Whether the alarm of a slot's job is due at a clock.
-fn is_due(w: &World, slot: u8, clock: u64) -> bool
-    requires { slot < slots }
+fn is_due(w: &World, slot: Slot, clock: u64) -> bool
     ensures { result ≡ is_due clock (alarm_at w.now.alarms.items slot) }
 {
-    match w.alarm(slot) {
+    match w.alarm(slot.number()) {
         Some((_, next)) => next <= clock,
         None => false,
     }
@@ -114,14 +114,13 @@ fn ring(w: &mut World, clock: u64)
     ensures tidy { Tidy w.new }
 {
     for slot in 0..SLOTS as u8 {
-        ring_slot(w, slot, clock);
+        ring_slot(w, Slot::new(slot), clock);
     }
 }
 
 /// The alarm of a slot's job goes, if it is due at a clock.
 #[tactic(auto, using(crate::proofs::RungLaws::still_none, crate::proofs::RungLaws::still_some))]
-fn ring_slot(w: &mut World, slot: u8, clock: u64)
-    requires slot { slot < slots }
+fn ring_slot(w: &mut World, slot: Slot, clock: u64)
     requires below { clock < clock_end }
     requires periods { (k : ℕ) → IfSome (alarm_at w.old.alarms.items k) Periodic }
     requires tidy { Tidy w.old }
@@ -130,7 +129,7 @@ fn ring_slot(w: &mut World, slot: u8, clock: u64)
     ensures pages { w.new.core.frames ≡ w.old.core.frames }
     ensures tidy { Tidy w.new }
 {
-    if let Some((period, next)) = w.alarm(slot) {
+    if let Some((period, next)) = w.alarm(slot.number()) {
         if next <= clock {
             go_off(w, slot, period, next, clock);
         }
@@ -139,8 +138,7 @@ fn ring_slot(w: &mut World, slot: u8, clock: u64)
 
 /// The alarm of a slot's job goes: ALR is set in the job, and the alarm gets its next time.
 #[tactic(auto, using(crate::proofs::RungLaws::went, crate::proofs::RungLaws::put_periods, crate::proofs::RungLaws::gone_tidy))]
-fn go_off(w: &mut World, slot: u8, period: u64, next: u64, clock: u64)
-    requires slot { slot < slots }
+fn go_off(w: &mut World, slot: Slot, period: u64, next: u64, clock: u64)
     requires alarm { Some (period, next) ≡ alarm_at w.old.alarms.items slot }
     requires below { clock < clock_end }
     requires due { next ≤ clock }
@@ -153,13 +151,15 @@ fn go_off(w: &mut World, slot: u8, period: u64, next: u64, clock: u64)
     ensures tidy { Tidy w.new }
 {
     set_alr(w, slot);
-    w.put_alarm(slot, Some((period, time_after(period, next, clock))));
+    w.put_alarm(
+        slot.number(),
+        Some((period, time_after(period, next, clock))),
+    );
 }
 
 /// ALR is set in a slot's job, which is there as it has an alarm.
 #[tactic(auto, using(crate::proofs::RungLaws::alr_set, crate::proofs::RungLaws::alarm_has, crate::proofs::RungLaws::alr_tidy, its_commit::proofs::TidyLaws::becomes_pages))]
-fn set_alr(w: &mut World, slot: u8)
-    requires slot { slot < slots }
+fn set_alr(w: &mut World, slot: Slot)
     requires alarm { is_some (alarm_at w.old.alarms.items slot) ≡ true }
     requires tidy { Tidy w.old }
     ensures row { state_of w.new ≡ in_raw (state_of w.old) slot (with_registers (λ j. with_pending j ALR_BIT)) }
@@ -168,8 +168,8 @@ fn set_alr(w: &mut World, slot: u8)
     ensures pages { w.new.core.frames ≡ w.old.core.frames }
     ensures tidy { Tidy w.new }
 {
-    match w.registers(slot) {
-        Some(job) => w.put_registers(slot, with_alr(job)),
+    match w.registers(slot.number()) {
+        Some(job) => w.put_registers(slot.number(), with_alr(job)),
         None => unreachable!(),
     }
 }

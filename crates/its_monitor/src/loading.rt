@@ -1,5 +1,4 @@
 ghost use Rattle.std.specs.Prelude.{◌≡◌, ◌<◌, false, Some, None, Ok, IfSome, IfOk, OnOk, OnErr, IfErr};
-ghost use Rattle.its_word.specs.Limits.{slots};
 ghost use Rattle.its_records.specs.Tree.{least_free};
 ghost use Rattle.its_jobs.specs.Table.{job_at};
 ghost use Rattle.its_plain.specs.OperatorJobs.{after_load, with_holder};
@@ -12,7 +11,7 @@ ghost use Rattle.its_world.specs.Made.{JobMade};
 use super::monitor::Monitor;
 use its_jobs::NoSlot;
 use its_records::Refusal;
-use its_word::Word;
+use its_word::{Slot, Word};
 use its_world::World;
 
 /// How many consoles there are.
@@ -23,11 +22,10 @@ impl Monitor {
     /// becomes the holder of its console, if that has none. NoConsole if the console is above 7; else Full if there
     /// are as many jobs as there can be, 64, or 96 in version 2.
     #[tactic(auto, using(crate::proofs::StartLaws::load_done, crate::proofs::StartLaws::load_plain, crate::proofs::StartLaws::load_kept, crate::proofs::StartLaws::load_full))]
-    pub fn load_job(&mut self, u: Word, j: Word, console: Option<u8>) -> Result<u8, Refusal>
+    pub fn load_job(&mut self, u: Word, j: Word, console: Option<u8>) -> Result<Slot, Refusal>
         requires kept { Kept self.old.world }
         ensures done { IfOk result (λ s. Loads (state_of self.old.world) (state_of self.new.world) (after_load (state_of self.old.world).raw u j console) s) }
         ensures plain { IfOk result (λ s. after_load (plain_of self.old.world) u j console ≡ Ok (plain_of self.new.world, s)) }
-        ensures slot { IfOk result (λ s. s < slots) }
         ensures there { OnOk result (no_console console ≡ false) }
         ensures refused { IfErr result (λ e. LoadRefused (state_of self.old.world) u j console e) }
         ensures same { OnErr result (self.new ≡ self.old) }
@@ -59,21 +57,21 @@ fn no_console(console: Option<u8>) -> bool
 }
 
 /// Makes a job in the least free slot.
-fn make(w: &mut World, u: Word, j: Word, console: Option<u8>) -> Result<u8, NoSlot>
-    ensures slot { IfOk result (λ s. (least_free w.old.jobs.limit (job_at w.old.jobs) ≡ Some s) × (s < slots)) }
+fn make(w: &mut World, u: Word, j: Word, console: Option<u8>) -> Result<Slot, NoSlot>
+    ensures slot { IfOk result (λ s. least_free w.old.jobs.limit (job_at w.old.jobs) ≡ Some s) }
     ensures made { IfOk result (λ s. JobMade w.old w.new s u j None console) }
     ensures full { OnErr result (least_free w.old.jobs.limit (job_at w.old.jobs) ≡ None) }
     ensures same { OnErr result (w.new ≡ w.old) }
 {
     match w.jobs.create(u, j, None, console) {
-        Ok(slot) => Ok(slot),
+        Ok(slot) => Ok(Slot::new(slot)),
         Err(NoSlot) => Err(NoSlot),
     }
 }
 
 /// Makes the job of a slot the holder of its console, if that has none.
 #[tactic(auto, using(crate::proofs::StartLaws::console_some, crate::proofs::StartLaws::console_none))]
-fn hold_console(w: &mut World, slot: u8, console: Option<u8>)
+fn hold_console(w: &mut World, slot: Slot, console: Option<u8>)
     requires console { IfSome console (λ c. c < 8) }
     ensures { Alters w.old w.new (with_holder (state_of w.old).raw slot console) }
 {
@@ -85,13 +83,13 @@ fn hold_console(w: &mut World, slot: u8, console: Option<u8>)
 
 /// The same of this console.
 #[tactic(auto, using(crate::proofs::StartLaws::console_held, crate::proofs::StartLaws::console_given))]
-fn hold_free(w: &mut World, slot: u8, c: u8)
+fn hold_free(w: &mut World, slot: Slot, c: u8)
     requires console { c < 8 }
     ensures { Alters w.old w.new (with_holder (state_of w.old).raw slot (Some c)) }
 {
     let holder = w.holders[usize::from(c)];
     match holder {
         Some(_) => {}
-        None => w.hold(c, Some(slot)),
+        None => w.hold(c, Some(slot.number())),
     }
 }

@@ -1,5 +1,4 @@
 ghost use Rattle.std.specs.Prelude.{◌≡◌, ◌<◌, ◌≤◌, ◌⊎◌, ◌↔◌, ℕ, IsTrue, true, false, replicate, IfOk};
-ghost use Rattle.its_word.specs.Limits.{slots};
 ghost use Rattle.its_plain.specs.Machine.{no_machine};
 ghost use Rattle.its_plain.specs.OneByte.{EachByte};
 ghost use Rattle.its_plain.specs.Turns.{runs};
@@ -15,7 +14,7 @@ ghost use Rattle.its_tick.specs.Pages.{pages_ticked};
 ghost use Rattle.its_tick.specs.Ticks.{InRing, is_waiting, unit_due};
 
 use its_records::Pace;
-use its_word::NoMemory;
+use its_word::{NoMemory, Slot};
 use its_world::World;
 use std::alloc::Global;
 
@@ -39,8 +38,7 @@ impl Monitor {
     /// A tick of a slot, and its letter. If the call of the slot was found not ready it is `w` exactly if the slot is on a wait list.
     /// It may also be called if the slot is there wrongly: then it is `w`, and nothing changes.
     #[tactic(auto, using(crate::proofs::OneByteLaws::tick_once))]
-    pub fn tick(&mut self, slot: u8) -> Pace
-        requires slot { slot < slots }
+    pub fn tick(&mut self, slot: Slot) -> Pace
         requires can { Kept self.old.world ⊎ InRing self.old.world slot }
         ensures state { Kept self.old.world → state_of self.new.world ≡ (tick (state_of self.old.world) slot).state }
         ensures pace { Kept self.old.world → result ≡ (tick (state_of self.old.world) slot).pace }
@@ -52,13 +50,12 @@ impl Monitor {
         ensures ring { InRing self.old.world slot → (result ≡ Pace.Wait) × (self.new.world ≡ self.old.world) }
         ensures waits { is_waiting (call_in self.old.world slot) ≡ true → ((result ≡ Pace.Wait) ↔ Blocked self.old.world slot) }
     {
-        its_tick::tick(&mut self.world, slot)
+        its_tick::tick(&mut self.world, slot.number())
     }
 
     /// As many units of a slot's job as can be made in user mode while nothing else is due, or as many bytes as can be moved by SIOT, n at
     /// most; how many. The state is that of so many ticks, each letter `*`.
-    pub fn steps(&mut self, slot: u8, n: u32) -> u32
-        requires slot { slot < slots }
+    pub fn steps(&mut self, slot: Slot, n: u32) -> u32
         requires kept { Kept self.old.world }
         ensures few { result ≤ n }
         ensures state { state_of self.new.world ≡ after_ticks (state_of self.old.world) slot result }
@@ -67,27 +64,25 @@ impl Monitor {
         ensures pages { self.new.world.core.frames ≡ self.old.world.core.frames }
         ensures kept { Kept self.new.world }
     {
-        its_tick::steps(&mut self.world, slot, n)
+        its_tick::steps(&mut self.world, slot.number(), n)
     }
 
     /// Whether the call of a slot was found not ready, and the slot is on a wait list. Then each of its ticks is `w`, and none changes anything.
     #[inline]
-    pub fn waits(&self, slot: u8) -> bool
-        requires slot { slot < slots }
+    pub fn waits(&self, slot: Slot) -> bool
         requires kept { Kept self.now.world }
         ensures paces { IsTrue result → (n : ℕ) → paces_of (state_of self.now.world) slot n ≡ replicate n Pace.Wait }
         ensures state { IsTrue result → (n : ℕ) → after_ticks (state_of self.now.world) slot n ≡ state_of self.now.world }
         ensures no { result ≡ false → InRing self.now.world slot → ⊥ }
     {
-        its_tick::waits_on(&self.world, slot)
+        its_tick::waits_on(&self.world, slot.number())
     }
 
     /// Whether a slot has a job that is not stopped. It disturbs nobody: nothing changes.
-    pub fn running(&self, slot: u8) -> bool
-        requires slot { slot < slots }
+    pub fn running(&self, slot: Slot) -> bool
         ensures raw { result ≡ runs (state_of self.now.world).raw slot }
         ensures plain { result ≡ runs (plain_of self.now.world) slot }
     {
-        its_tick::running(&self.world, slot)
+        its_tick::running(&self.world, slot.number())
     }
 }

@@ -1,5 +1,4 @@
-ghost use Rattle.std.specs.Prelude.{◌≡◌, ◌<◌, true, Some, None, IfOk, OnOk, IfErr, is_some};
-ghost use Rattle.its_word.specs.Limits.{slots};
+ghost use Rattle.std.specs.Prelude.{◌≡◌, true, Some, None, IfOk, OnOk, IfErr, is_some};
 ghost use Rattle.its_calls.specs.Calls.{frame_seen};
 ghost use Rattle.its_core.specs.Cores.{core_at};
 ghost use Rattle.its_plain.specs.Arguments.{place_of_input};
@@ -17,32 +16,30 @@ use super::monitor::Monitor;
 use its_calls::View;
 use its_frame::CallName;
 use its_records::{Ask, Peek, PeekState, Refusal, Site};
-use its_word::Word;
+use its_word::{Slot, Word};
 use its_world::World;
 
 impl Monitor {
     /// PEEK: how far a slot's job is inside a call. NoJob if the slot is empty. Nothing is unwound.
     #[tactic(auto, using(crate::proofs::PeekStateLaws::peek_absent, crate::proofs::PeekStateLaws::peek_some, crate::proofs::PeekStateLaws::peek_few, crate::proofs::PeekStateLaws::peek_call))]
-    pub fn peek(&self, slot: u8) -> Result<Peek, Refusal>
-        requires slot { slot < slots }
+    pub fn peek(&self, slot: Slot) -> Result<Peek, Refusal>
         requires kept { Kept self.now.world }
         ensures shown { IfOk result (λ p. p ≡ peeked (state_of self.now.world) slot) }
         ensures some { OnOk result (is_some ((state_of self.now.world).raw.jobs slot) ≡ true) }
         ensures refused { IfErr result (λ e. (e ≡ Refusal.NoJob) × ((state_of self.now.world).raw.jobs slot ≡ None) × ((plain_of self.now.world).jobs slot ≡ None)) }
     {
         let world = &self.world;
-        if world.registers(slot).is_none() {
+        if world.registers(slot.number()).is_none() {
             return Err(Refusal::NoJob);
         }
-        let call = &world.frames[usize::from(slot)];
+        let call = &world.frames[slot.index()];
         let left = call.left(owns_mark(world, slot));
         Ok(peek_of(world, slot, &call.view(), left))
     }
 }
 
 /// What is shown of a job with this frame, which so many unwinding steps bring to user mode.
-fn peek_of(w: &World, slot: u8, frame: &View<'_>, left: u8) -> Peek
-    requires slot { slot < slots }
+fn peek_of(w: &World, slot: Slot, frame: &View<'_>, left: u8) -> Peek
     ensures { Shows (core_at w.now.core slot) left (frame_seen frame.now) result }
 {
     let (a, b) = words_shown(w, slot, frame);
@@ -58,11 +55,11 @@ fn peek_of(w: &World, slot: u8, frame: &View<'_>, left: u8) -> Peek
 
 /// Whether the close that is half made is that of a slot's call.
 #[tactic(auto, using(its_commit::proofs::OwedLaws::owner_some, its_commit::proofs::OwedLaws::owner_none))]
-fn owns_mark(w: &World, slot: u8) -> bool
+fn owns_mark(w: &World, slot: Slot) -> bool
     ensures { result ≡ mine (state_of w.now).mark slot }
 {
     match w.files.owner() {
-        Some(owner) => owner == slot,
+        Some(owner) => owner == slot.number(),
         None => false,
     }
 }
@@ -126,8 +123,7 @@ fn byte_shown(frame: &View<'_>) -> Option<Word>
 }
 
 /// The words in core that are shown of a frame's call.
-fn words_shown(w: &World, slot: u8, frame: &View<'_>) -> (Option<Word>, Option<Word>)
-    requires slot { slot < slots }
+fn words_shown(w: &World, slot: Slot, frame: &View<'_>) -> (Option<Word>, Option<Word>)
     ensures a { result.0 ≡ word_shown (core_at w.now.core slot) first_shown (ask_in (frame_seen frame.now)) }
     ensures b { result.1 ≡ word_shown (core_at w.now.core slot) second_shown (ask_in (frame_seen frame.now)) }
 {
@@ -144,8 +140,7 @@ fn words_shown(w: &World, slot: u8, frame: &View<'_>) -> (Option<Word>, Option<W
 }
 
 /// The words of the inputs that are shown of a call: SIOT's pointer and count, SLEEP's time.
-fn words_of(w: &World, slot: u8, ask: &Ask) -> (Option<Word>, Option<Word>)
-    requires slot { slot < slots }
+fn words_of(w: &World, slot: Slot, ask: &Ask) -> (Option<Word>, Option<Word>)
     ensures a { result.0 ≡ word_of_input (core_at w.now.core slot) ask.now (first_shown (call_named ask.now.name)) }
     ensures b { result.1 ≡ word_of_input (core_at w.now.core slot) ask.now (second_shown (call_named ask.now.name)) }
 {
@@ -160,8 +155,7 @@ fn words_of(w: &World, slot: u8, ask: &Ask) -> (Option<Word>, Option<Word>)
 }
 
 /// The word in core at the place of an input that is shown, if one is.
-fn word_shown(w: &World, slot: u8, ask: &Ask, input: Option<usize>) -> Option<Word>
-    requires slot { slot < slots }
+fn word_shown(w: &World, slot: Slot, ask: &Ask, input: Option<usize>) -> Option<Word>
     ensures { result ≡ word_of_input (core_at w.now.core slot) ask.now input }
 {
     match input {
@@ -172,13 +166,12 @@ fn word_shown(w: &World, slot: u8, ask: &Ask, input: Option<usize>) -> Option<Wo
 
 /// The word in core at the place of an input; None also if the place is past the last address.
 #[tactic(auto, using(crate::proofs::PeekLaws::word_there, crate::proofs::PeekLaws::no_place))]
-fn word_of_input(w: &World, slot: u8, ask: &Ask, k: usize) -> Option<Word>
-    requires slot { slot < slots }
+fn word_of_input(w: &World, slot: Slot, ask: &Ask, k: usize) -> Option<Word>
     ensures { result ≡ word_of_input (core_at w.now.core slot) ask.now (Some k) }
 {
     match place_of_input(ask, k) {
         None => None,
-        Some(at) => w.core.word(slot, at),
+        Some(at) => w.core.word(slot.number(), at),
     }
 }
 

@@ -1,5 +1,4 @@
 ghost use Rattle.std.specs.Prelude.{◌≡◌, ◌<◌, ◌^◌, true, false, Some, None, Ok, IfOk, OnOk, OnErr, IfErr};
-ghost use Rattle.its_word.specs.Limits.{slots};
 ghost use Rattle.its_jobs.specs.Table.{job_at};
 ghost use Rattle.its_plain.specs.OperatorJobs.{on_registers, after_go, after_stop, after_cont, after_int, state_shown, shown};
 ghost use Rattle.its_stepped.specs.State.{plain};
@@ -13,14 +12,13 @@ use super::symbols::near;
 use its_machine::shown;
 use its_pclsr::unwind;
 use its_records::{Job, JobShow, Refusal};
-use its_word::{FATAL, Word};
+use its_word::{FATAL, Slot, Word};
 use its_world::World;
 
 impl Monitor {
     /// GO: starts a slot's job at an address, with no flags. NoJob if the slot is empty.
     #[tactic(auto, using(crate::proofs::RegisterLaws::go_done, crate::proofs::RegisterLaws::go_plain, crate::proofs::RegisterLaws::go_kept, crate::proofs::RegisterLaws::registers_refused, crate::proofs::KeptLaws::registers_off))]
-    pub fn go(&mut self, slot: u8, a: u32) -> Result<(), Refusal>
-        requires slot { slot < slots }
+    pub fn go(&mut self, slot: Slot, a: u32) -> Result<(), Refusal>
         requires address { a < 2 ^ 18 }
         requires kept { Kept self.old.world }
         ensures done { OnOk result (Lands (unwound (state_of self.old.world) slot) (state_of self.new.world) (on_registers (unwound (state_of self.old.world) slot).raw slot (after_go a))) }
@@ -35,14 +33,13 @@ impl Monitor {
         job.pc = a;
         job.flags = 0;
         job.stopped = false;
-        world.put_registers(slot, job);
+        world.put_registers(slot.number(), job);
         Ok(())
     }
 
     /// STOP: sets the stopped mark of a slot's job. NoJob if the slot is empty.
     #[tactic(auto, using(crate::proofs::RegisterLaws::stop_done, crate::proofs::RegisterLaws::stop_plain, crate::proofs::RegisterLaws::stop_kept, crate::proofs::RegisterLaws::registers_refused, crate::proofs::KeptLaws::registers_off))]
-    pub fn stop(&mut self, slot: u8) -> Result<(), Refusal>
-        requires slot { slot < slots }
+    pub fn stop(&mut self, slot: Slot) -> Result<(), Refusal>
         requires kept { Kept self.old.world }
         ensures done { OnOk result (Lands (unwound (state_of self.old.world) slot) (state_of self.new.world) (on_registers (unwound (state_of self.old.world) slot).raw slot after_stop)) }
         ensures plain { OnOk result (on_registers (plain_of self.old.world) slot after_stop ≡ Ok (plain_of self.new.world)) }
@@ -54,14 +51,13 @@ impl Monitor {
         let world = &mut self.world;
         let mut job = calmed(world, slot)?;
         job.stopped = true;
-        world.put_registers(slot, job);
+        world.put_registers(slot.number(), job);
         Ok(())
     }
 
     /// CONT: lets a slot's job run, with no fatal bit pending. NoJob if the slot is empty.
     #[tactic(auto, using(crate::proofs::RegisterLaws::cont_done, crate::proofs::RegisterLaws::cont_plain, crate::proofs::RegisterLaws::cont_kept, crate::proofs::RegisterLaws::registers_refused, crate::proofs::KeptLaws::registers_off))]
-    pub fn cont(&mut self, slot: u8) -> Result<(), Refusal>
-        requires slot { slot < slots }
+    pub fn cont(&mut self, slot: Slot) -> Result<(), Refusal>
         requires kept { Kept self.old.world }
         ensures done { OnOk result (Lands (unwound (state_of self.old.world) slot) (state_of self.new.world) (on_registers (unwound (state_of self.old.world) slot).raw slot after_cont)) }
         ensures plain { OnOk result (on_registers (plain_of self.old.world) slot after_cont ≡ Ok (plain_of self.new.world)) }
@@ -72,14 +68,13 @@ impl Monitor {
     {
         let world = &mut self.world;
         let job = calmed(world, slot)?;
-        world.put_registers(slot, continued(job));
+        world.put_registers(slot.number(), continued(job));
         Ok(())
     }
 
     /// INT: sets bits of the pending words of a slot's job in addition to those that are set. NoJob if the slot is empty.
     #[tactic(auto, using(crate::proofs::RegisterLaws::interrupt_done, crate::proofs::RegisterLaws::interrupt_plain, crate::proofs::RegisterLaws::interrupt_kept, crate::proofs::RegisterLaws::registers_refused, crate::proofs::KeptLaws::registers_off))]
-    pub fn interrupt(&mut self, slot: u8, v: Word, w: Word) -> Result<(), Refusal>
-        requires slot { slot < slots }
+    pub fn interrupt(&mut self, slot: Slot, v: Word, w: Word) -> Result<(), Refusal>
         requires kept { Kept self.old.world }
         ensures done { OnOk result (Lands (unwound (state_of self.old.world) slot) (state_of self.new.world) (on_registers (unwound (state_of self.old.world) slot).raw slot (after_int v w))) }
         ensures plain { OnOk result (on_registers (plain_of self.old.world) slot (after_int v w) ≡ Ok (plain_of self.new.world)) }
@@ -90,14 +85,13 @@ impl Monitor {
     {
         let world = &mut self.world;
         let job = calmed(world, slot)?;
-        world.put_registers(slot, interrupted(job, v, w));
+        world.put_registers(slot.number(), interrupted(job, v, w));
         Ok(())
     }
 
     /// STATE: what is shown of a slot's job. NoJob if the slot is empty.
     #[tactic(auto, using(crate::proofs::RegisterLaws::state_found, crate::proofs::RegisterLaws::state_plain, crate::proofs::RegisterLaws::state_refused, crate::proofs::KeptLaws::calm_same, crate::proofs::KeptLaws::calm_off))]
-    pub fn state(&mut self, slot: u8) -> Result<JobShow, Refusal>
-        requires slot { slot < slots }
+    pub fn state(&mut self, slot: Slot) -> Result<JobShow, Refusal>
         requires kept { Kept self.old.world }
         ensures shown { IfOk result (λ x. state_shown (unwound (state_of self.old.world) slot).raw slot ≡ Ok x) }
         ensures plain { IfOk result (λ x. state_shown (plain_of self.old.world) slot ≡ Ok x) }
@@ -110,7 +104,7 @@ impl Monitor {
     {
         let world = &mut self.world;
         let job = calmed(world, slot)?;
-        let superior = world.jobs.superior(slot);
+        let superior = world.jobs.superior(slot.number());
         let symbol = near(world, slot, job.pc);
         Ok(shown(&job, superior, symbol))
     }
@@ -118,19 +112,18 @@ impl Monitor {
 
 /// The registers of a slot's job, which is unwound first. NoJob if the slot is empty.
 #[tactic(auto, using(crate::proofs::KeptLaws::unwound_kept, crate::proofs::KeptLaws::unwound_missing))]
-fn calmed(w: &mut World, slot: u8) -> Result<Job, Refusal>
-    requires slot { slot < slots }
+fn calmed(w: &mut World, slot: Slot) -> Result<Job, Refusal>
     requires kept { Kept w.old }
     ensures calm { IfOk result (λ j. Calm w.old w.new slot j) }
     ensures job { IfOk result (λ j. job_at w.new.jobs slot ≡ Some j) }
     ensures refused { IfErr result (λ e. (e ≡ Refusal.NoJob) × (job_at w.old.jobs slot ≡ None)) }
     ensures same { OnErr result (w.new ≡ w.old) }
 {
-    if w.registers(slot).is_none() {
+    if w.registers(slot.number()).is_none() {
         return Err(Refusal::NoJob);
     }
-    unwind(w, slot);
-    match w.registers(slot) {
+    unwind(w, slot.number());
+    match w.registers(slot.number()) {
         Some(job) => Ok(job),
         None => unreachable!(),
     }

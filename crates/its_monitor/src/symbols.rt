@@ -1,5 +1,5 @@
-ghost use Rattle.std.specs.Prelude.{◌≡◌, ◌<◌, ◌≤◌, Ok, IfOk, OnOk, OnErr, IfErr, nat_lt, length};
-ghost use Rattle.its_word.specs.Limits.{slots, most_symbols};
+ghost use Rattle.std.specs.Prelude.{◌≡◌, ◌≤◌, Ok, IfOk, OnOk, OnErr, IfErr, nat_lt, length};
+ghost use Rattle.its_word.specs.Limits.{most_symbols};
 ghost use Rattle.its_plain.specs.OperatorSymbols.{symbol_shown, with_symbol_kept};
 ghost use Rattle.its_plain.specs.OperatorVersion.{with_version};
 ghost use Rattle.its_stepped.specs.State.{plain};
@@ -10,7 +10,7 @@ use super::monitor::Monitor;
 use super::words::present;
 use its_machine::{MOST_SYMBOLS, nearest};
 use its_records::Refusal;
-use its_word::Word;
+use its_word::{Slot, Word};
 use its_world::World;
 
 impl Monitor {
@@ -34,8 +34,7 @@ impl Monitor {
     /// SYM: a slot's job keeps a symbol, the last. NoJob if the slot is empty, Full if the job has 512. The job is not
     /// disturbed.
     #[tactic(auto, using(crate::proofs::SymbolLaws::symbol_done, crate::proofs::SymbolLaws::symbol_plain, crate::proofs::SymbolLaws::symbol_keeps, crate::proofs::SymbolLaws::symbol_full, crate::proofs::SymbolLaws::symbol_none))]
-    pub fn symbol(&mut self, slot: u8, name: Word, a: u32) -> Result<(), Refusal>
-        requires slot { slot < slots }
+    pub fn symbol(&mut self, slot: Slot, name: Word, a: u32) -> Result<(), Refusal>
         requires kept { Kept self.old.world }
         ensures done { OnOk result (Lands (state_of self.old.world) (state_of self.new.world) (with_symbol_kept (state_of self.old.world).raw slot name a)) }
         ensures plain { OnOk result (with_symbol_kept (plain_of self.old.world) slot name a ≡ Ok (plain_of self.new.world)) }
@@ -47,7 +46,7 @@ impl Monitor {
         let world = &mut self.world;
         present(world, slot)?;
         if has_room(world, slot) {
-            world.keep_symbol(slot, name, a);
+            world.keep_symbol(slot.number(), name, a);
             Ok(())
         } else {
             Err(Refusal::Full)
@@ -56,17 +55,15 @@ impl Monitor {
 }
 
 /// Whether there is room for a symbol more of a slot.
-fn has_room(w: &World, slot: u8) -> bool
-    requires { slot < slots }
+fn has_room(w: &World, slot: Slot) -> bool
     ensures { result ≡ nat_lt (length (symbols_at w.now.symbols.items slot)) most_symbols }
 {
-    w.symbols[usize::from(slot)].len() < MOST_SYMBOLS
+    w.symbols[slot.index()].len() < MOST_SYMBOLS
 }
 
 /// The symbol of a slot's job that is nearest to a PC, and how far the PC is past it.
-pub fn near(w: &World, slot: u8, pc: u32) -> Option<(Word, u32)>
-    requires { slot < slots }
+pub fn near(w: &World, slot: Slot, pc: u32) -> Option<(Word, u32)>
     ensures { result ≡ symbol_shown pc (symbols_at w.now.symbols.items slot) }
 {
-    nearest(w.symbols[usize::from(slot)].as_slice(), pc)
+    nearest(w.symbols[slot.index()].as_slice(), pc)
 }

@@ -1,10 +1,8 @@
-ghost use Rattle.std.specs.Prelude.{◌<◌};
-ghost use Rattle.its_word.specs.Limits.{slots};
 ghost use Rattle.its_monitor.specs.Kept.{Kept};
 
 use super::Monitor;
 use its_records::{FileShow, JobShow, Peek, PeekState, Refusal};
-use its_word::{SLOTS, Word};
+use its_word::{SLOTS, Slot, Word};
 use std::process::Abort;
 use std::test::Fail;
 
@@ -39,7 +37,7 @@ enum Line {
 #[derive(Clone, Copy, Debug, PartialEq, Eq)]
 enum Answer {
     Done,
-    Slot(u8),
+    Slot(Slot),
     Word(u64),
     State(JobShow),
     Peek(Peek),
@@ -56,8 +54,7 @@ enum Answer {
 const DIRECTORY: u64 = 0o42;
 
 /// Performs the call of a line.
-fn run_line(rt: &impl Abort, m: &mut Monitor, slot: u8, line: Line) -> Result<Answer, Refusal>
-    requires slot { slot < slots }
+fn run_line(rt: &impl Abort, m: &mut Monitor, slot: Slot, line: Line) -> Result<Answer, Refusal>
     requires kept { Kept m.old.world }
     ensures { Kept m.new.world }
 {
@@ -235,10 +232,10 @@ fn session(rt: HostRuntime) -> Result<(), Fail> {
         (0, Line::Version(1), Ok(Answer::Version(1))),
         (0, Line::Version(2), Ok(Answer::Version(2))),
         (0, Line::Go(0o2000), Err(Refusal::NoJob)),
-        (0, Line::Load(Some(3)), Ok(Answer::Slot(0))),
+        (0, Line::Load(Some(3)), Ok(Answer::Slot(Slot::new(0)))),
         (0, Line::Version(1), Ok(Answer::Version(2))),
-        (0, Line::Load(None), Ok(Answer::Slot(1))),
-        (0, Line::Load(Some(3)), Ok(Answer::Slot(2))),
+        (0, Line::Load(None), Ok(Answer::Slot(Slot::new(1)))),
+        (0, Line::Load(Some(3)), Ok(Answer::Slot(Slot::new(2)))),
         (0, Line::Load(Some(8)), Err(Refusal::NoConsole)),
         (0, Line::Type(8, 0o101), Err(Refusal::NoConsole)),
         (0, Line::Drain(8), Err(Refusal::NoConsole)),
@@ -303,7 +300,7 @@ fn session(rt: HostRuntime) -> Result<(), Fail> {
         (1, Line::State, Ok(near(Some((3, 0))))),
     ] {
         assert!(rt; usize::from(slot) < SLOTS);
-        let got = run_line(&rt, &mut m, slot, line);
+        let got = run_line(&rt, &mut m, Slot::new(slot), line);
         assert_eq!(rt; got, want, "{slot}: {line:?}");
     }
     let holder = m.world.holders[3];

@@ -1,5 +1,5 @@
 ghost use Rattle.std.specs.Prelude.{◌≡◌, ◌≤◌, ◌<◌, ◌/◌, ◌^◌, true, Some, None, Ok, Err, IfOk, OnOk, OnErr, IfErr, is_some, nat_lt};
-ghost use Rattle.its_word.specs.Limits.{slots, most_pages};
+ghost use Rattle.its_word.specs.Limits.{most_pages};
 ghost use Rattle.its_word.specs.Core.{store, can_store, word_at, page_of, with_page, zero_page, pages_mapped};
 ghost use Rattle.its_core.specs.Cores.{core_at, clear_at};
 ghost use Rattle.its_core.specs.Frames.{frames_map, frames_reserve};
@@ -16,14 +16,13 @@ ghost use Rattle.its_monitor.specs.Kept.{Kept, Lands, Refused, Calmed, undeposit
 use super::monitor::Monitor;
 use its_pclsr::unwind;
 use its_records::Refusal;
-use its_word::{Fault, MAPPED_PAGES, NoAccess, Word};
+use its_word::{Fault, MAPPED_PAGES, NoAccess, Slot, Word};
 use its_world::World;
 
 impl Monitor {
     /// EXAM: the word at an address of a slot. NoJob if the slot is empty, NoPage if the page is absent.
     #[tactic(auto, using(crate::proofs::WordLaws::exam_none, crate::proofs::WordLaws::exam_refused, crate::proofs::WordLaws::exam_there, crate::proofs::WordLaws::exam_found, crate::proofs::WordLaws::exam_plain, crate::proofs::KeptLaws::calmed_same, crate::proofs::KeptLaws::calmed_off))]
-    pub fn exam(&mut self, slot: u8, a: u32) -> Result<Word, Refusal>
-        requires slot { slot < slots }
+    pub fn exam(&mut self, slot: Slot, a: u32) -> Result<Word, Refusal>
         requires address { a < 2 ^ 18 }
         requires kept { Kept self.old.world }
         ensures word { IfOk result (λ x. word_seen (unwound (state_of self.old.world) slot).raw slot a ≡ Ok x) }
@@ -37,12 +36,12 @@ impl Monitor {
     {
         let world = &mut self.world;
         present(world, slot)?;
-        match world.core.get(slot, a) {
+        match world.core.get(slot.number(), a) {
             Ok(_) => {}
             Err(e) => return Err(refusal(e)),
         }
         calm(world, slot);
-        match world.core.get(slot, a) {
+        match world.core.get(slot.number(), a) {
             Ok(word) => Ok(word),
             Err(_) => unreachable!(),
         }
@@ -51,8 +50,7 @@ impl Monitor {
     /// DEPOSIT: stores a word of a slot. NoJob if the slot is empty; NoPage if the page is absent, ReadOnly if it is read
     /// only.
     #[tactic(auto, using(crate::proofs::WordLaws::deposit_none, crate::proofs::WordLaws::deposit_refused, crate::proofs::WordLaws::deposit_can, crate::proofs::WordLaws::deposit_done, crate::proofs::WordLaws::deposit_plain, crate::proofs::WordLaws::deposit_kept, crate::proofs::KeptLaws::stored_off))]
-    pub fn deposit(&mut self, slot: u8, a: u32, w: Word) -> Result<(), Refusal>
-        requires slot { slot < slots }
+    pub fn deposit(&mut self, slot: Slot, a: u32, w: Word) -> Result<(), Refusal>
         requires address { a < 2 ^ 18 }
         requires kept { Kept self.old.world }
         ensures done { OnOk result (Lands (unwound (state_of self.old.world) slot) (state_of self.new.world) (after_deposit (unwound (state_of self.old.world) slot).raw slot a w)) }
@@ -69,15 +67,14 @@ impl Monitor {
             Some(e) => return Err(e),
         }
         calm(world, slot);
-        world.store(slot, a, w);
+        world.store(slot.number(), a, w);
         Ok(())
     }
 
     /// One word of an a/ line: an absent page is made, writable and of zeros. NoJob if the slot is empty; ReadOnly if the
     /// page is read only; Full if a page is needed and 1024 pages are mapped.
     #[tactic(auto, using(crate::proofs::LoadLaws::load_none, crate::proofs::LoadLaws::load_refused, crate::proofs::LoadLaws::load_clear, crate::proofs::LoadLaws::load_writable, crate::proofs::LoadLaws::load_room, crate::proofs::LoadLaws::load_unreserved, crate::proofs::LoadLaws::load_stored, crate::proofs::LoadLaws::load_made, crate::proofs::LoadLaws::load_plain, crate::proofs::LoadLaws::load_kept))]
-    pub fn load_word(&mut self, slot: u8, a: u32, w: Word) -> Result<(), Refusal>
-        requires slot { slot < slots }
+    pub fn load_word(&mut self, slot: Slot, a: u32, w: Word) -> Result<(), Refusal>
         requires address { a < 2 ^ 18 }
         requires kept { Kept self.old.world }
         ensures done { OnOk result (Lands (unwound (state_of self.old.world) slot) (state_of self.new.world) (with_word_loaded (unwound (state_of self.old.world) slot).raw slot a w)) }
@@ -94,7 +91,7 @@ impl Monitor {
             Some(e) => return Err(e),
         }
         calm(world, slot);
-        match world.put_word(slot, a, w) {
+        match world.put_word(slot.number(), a, w) {
             Ok(()) => Ok(()),
             Err(NoAccess::ReadOnly) => unreachable!(),
             Err(NoAccess::Absent) => {
@@ -107,12 +104,11 @@ impl Monitor {
 
 /// Why a word cannot be deposited at an address of a slot that has a job, if it cannot.
 #[tactic(auto, using(crate::proofs::WordLaws::bar_none, crate::proofs::WordLaws::bar_read_only, crate::proofs::WordLaws::bar_absent))]
-fn undepositable(w: &World, slot: u8, a: u32) -> Option<Refusal>
-    requires slot { slot < slots }
+fn undepositable(w: &World, slot: Slot, a: u32) -> Option<Refusal>
     requires address { a < 2 ^ 18 }
     ensures { result ≡ undepositable (can_store (core_at w.now.core slot) a) (is_some (word_at (core_at w.now.core slot) a)) }
 {
-    match w.core.refusal(slot, a) {
+    match w.core.refusal(slot.number(), a) {
         None => None,
         Some(Fault::Wro) => Some(Refusal::ReadOnly),
         Some(_) => Some(Refusal::NoPage),
@@ -120,12 +116,11 @@ fn undepositable(w: &World, slot: u8, a: u32) -> Option<Refusal>
 }
 
 /// Why a word cannot be loaded at an address of a slot that has a job, if it cannot.
-fn unloadable(w: &World, slot: u8, a: u32) -> Option<Refusal>
-    requires slot { slot < slots }
+fn unloadable(w: &World, slot: Slot, a: u32) -> Option<Refusal>
     requires address { a < 2 ^ 18 }
     ensures { result ≡ unloadable (can_store (core_at w.now.core slot) a) (is_some (word_at (core_at w.now.core slot) a)) (nat_lt (pages_mapped (core_at w.now.core)) most_pages) }
 {
-    match w.core.refusal(slot, a) {
+    match w.core.refusal(slot.number(), a) {
         None => None,
         Some(Fault::Wro) => Some(Refusal::ReadOnly),
         Some(_) => {
@@ -140,8 +135,7 @@ fn unloadable(w: &World, slot: u8, a: u32) -> Option<Refusal>
 
 /// Makes the page of an address, and stores a word there.
 #[tactic(auto, using(its_word::proofs::PageLaws::zero_stores))]
-fn load_page(w: &mut World, slot: u8, a: u32, word: Word)
-    requires slot { slot < slots }
+fn load_page(w: &mut World, slot: Slot, a: u32, word: Word)
     requires address { a < 2 ^ 18 }
     requires page { 16 ≤ a }
     requires absent { page_of (core_at w.old.core slot) (a / 1024) ≡ None }
@@ -151,12 +145,11 @@ fn load_page(w: &mut World, slot: u8, a: u32, word: Word)
     ensures frames { w.new.core.frames ≡ frames_map slot slot (a / 1024) (frames_reserve slot w.old.core.frames) }
 {
     make_page(w, slot, (a / 1024) as u8);
-    w.store(slot, a, word);
+    w.store(slot.number(), a, word);
 }
 
 /// Makes a page of zeros of a slot.
-fn make_page(w: &mut World, slot: u8, page: u8)
-    requires slot { slot < slots }
+fn make_page(w: &mut World, slot: Slot, page: u8)
     requires absent { page_of (core_at w.old.core slot) page ≡ None }
     requires room { pages_mapped (core_at w.old.core) < most_pages }
     requires unreserved { clear_at w.old.core slot ≡ None }
@@ -164,27 +157,25 @@ fn make_page(w: &mut World, slot: u8, page: u8)
     ensures frames { w.new.core.frames ≡ frames_map slot slot page (frames_reserve slot w.old.core.frames) }
     ensures there { page_of (core_at w.new.core slot) page ≡ Some zero_page }
 {
-    w.core.map_zeros(slot, page);
+    w.core.map_zeros(slot.number(), page);
 }
 
 /// Unwinds the job of a slot.
 #[tactic(auto, using(crate::proofs::KeptLaws::unwound_calm))]
-pub fn calm(w: &mut World, slot: u8)
-    requires slot { slot < slots }
+pub fn calm(w: &mut World, slot: Slot)
     requires some { is_some (job_at w.old.jobs slot) ≡ true }
     requires kept { Kept w.old }
     ensures { Calmed w.old w.new slot }
 {
-    unwind(w, slot);
+    unwind(w, slot.number());
 }
 
 /// NoJob if a slot is empty.
-pub fn present(w: &World, slot: u8) -> Result<(), Refusal>
-    requires slot { slot < slots }
+pub fn present(w: &World, slot: Slot) -> Result<(), Refusal>
     ensures refused { IfErr result (λ e. (e ≡ Refusal.NoJob) × (job_at w.now.jobs slot ≡ None)) }
     ensures some { OnOk result (is_some (job_at w.now.jobs slot) ≡ true) }
 {
-    if w.registers(slot).is_none() {
+    if w.registers(slot.number()).is_none() {
         return Err(Refusal::NoJob);
     }
     Ok(())

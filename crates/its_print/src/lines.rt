@@ -1,5 +1,6 @@
 ghost use Rattle.std.specs.Prelude.{◌≡◌, ◌≤◌, ◌<◌, ◌+◌, [], length};
 ghost use Rattle.arrayvec.specs.ArrayVec.{array_vec_len};
+ghost use Rattle.its_word.specs.Limits.{slots};
 ghost use Rattle.its_word.specs.Text.{spaced};
 ghost use Rattle.its_print.specs.Printing.{Dir, Drained, Filed, Line, Listed, Loaded, Peeked, Refused, Row, Shown, State, Ticks, Typed, Words, job_fields, text_of_line};
 ghost use Rattle.its_print.specs.Replies.{FewParts, line_of};
@@ -15,7 +16,7 @@ use super::replies::Reply;
 use super::runs::Run;
 use arrayvec::ArrayVec;
 use its_records::{FileShow, JobShow, Peek, Reason};
-use its_word::Word;
+use its_word::{Slot, Word};
 
 /// Writes a line, which has at most 1543 bytes, into an empty array.
 #[tactic(auto, using(crate::proofs::LongestLine::ticks_short))]
@@ -44,25 +45,26 @@ pub fn print_reply(reply: &Reply, out: &mut ArrayVec<u8, 2048>)
 
 /// `J s`: LOAD made a job in slot `s`.
 #[tactic(auto, unfolding(crate::specs::Printing::text_of_line, its_word::specs::Text::spaced))]
-fn print_loaded(s: u8, out: &mut ArrayVec<u8, 2048>)
+fn print_loaded(s: Slot, out: &mut ArrayVec<u8, 2048>)
     requires { out.old.items ≡ [] }
     ensures text { out.new.items ≡ text_of_line (Loaded s) }
     ensures short { length out.new.items ≤ 1543 }
 {
     out.push(b'J');
-    put_number(out, u64::from(s));
+    put_number(out, u64::from(s.number()));
     out.push(b'\n');
 }
 
 /// `T s` and the runs of equal letters of what at most 512 ticks of slot `s` did.
 #[tactic(auto, using(its_word::proofs::SpacedLaws::after_field), unfolding(crate::specs::Printing::text_of_line))]
-fn print_ticks(s: u8, runs: &[Run], out: &mut ArrayVec<u8, 2048>)
+fn print_ticks(s: Slot, runs: &[Run], out: &mut ArrayVec<u8, 2048>)
     requires empty { out.old.items ≡ [] }
     requires few { length (paces_in runs.now) ≤ 512 }
-    ensures { out.new.items ≡ text_of_line (Ticks s (paces_in runs.now)) }
+    ensures text { out.new.items ≡ text_of_line (Ticks s (paces_in runs.now)) }
+    ensures slot { s < slots }
 {
     out.push(b'T');
-    put_number(out, u64::from(s));
+    put_number(out, u64::from(s.number()));
     put_runs(out, runs);
     out.push(b'\n');
 }
@@ -96,14 +98,14 @@ fn print_drained(c: u8, bytes: &[u8], out: &mut ArrayVec<u8, 2048>)
 
 /// `E s a` and the words (1 to 8) of slot `s` from address `a` on.
 #[tactic(auto, using(crate::proofs::LineLaws::after_two_fields), unfolding(crate::specs::Printing::text_of_line))]
-fn print_words(s: u8, a: u32, words: &[Word], out: &mut ArrayVec<u8, 2048>)
+fn print_words(s: Slot, a: u32, words: &[Word], out: &mut ArrayVec<u8, 2048>)
     requires empty { out.old.items ≡ [] }
     requires few { length words.now ≤ 8 }
     ensures text { out.new.items ≡ text_of_line (Words s a words.now) }
     ensures short { length out.new.items ≤ 1543 }
 {
     out.push(b'E');
-    put_number(out, u64::from(s));
+    put_number(out, u64::from(s.number()));
     put_address(out, a);
     put_words(out, words);
     out.push(b'\n');
@@ -111,26 +113,26 @@ fn print_words(s: u8, a: u32, words: &[Word], out: &mut ArrayVec<u8, 2048>)
 
 /// `L s a text`: the word of slot `s` at address `a`, typed out.
 #[tactic(auto, unfolding(crate::specs::Printing::text_of_line, its_word::specs::Text::spaced))]
-fn print_listed(s: u8, a: u32, word: Word, out: &mut ArrayVec<u8, 2048>)
+fn print_listed(s: Slot, a: u32, word: Word, out: &mut ArrayVec<u8, 2048>)
     requires { out.old.items ≡ [] }
     ensures text { out.new.items ≡ text_of_line (Listed s a word) }
     ensures short { length out.new.items ≤ 1543 }
 {
     out.push(b'L');
-    put_number(out, u64::from(s));
+    put_number(out, u64::from(s.number()));
     put_address(out, a);
     put_typed(out, word);
     out.push(b'\n');
 }
 
 /// `S s u j sup con run pc p1 p2 m1 m2 d1 d2`: what STATE shows of slot `s`. In version 2 the symbol follows it.
-fn print_state(s: u8, show: &JobShow, version: u8, out: &mut ArrayVec<u8, 2048>)
+fn print_state(s: Slot, show: &JobShow, version: u8, out: &mut ArrayVec<u8, 2048>)
     requires { out.old.items ≡ [] }
     ensures text { out.new.items ≡ text_of_line (State version s show.now) }
     ensures short { length out.new.items ≤ 1543 }
 {
     out.push(b'S');
-    put_number(out, u64::from(s));
+    put_number(out, u64::from(s.number()));
     put_job(out, show);
     put_symbol(out, version, show.symbol);
     out.push(b'\n');
@@ -159,13 +161,13 @@ fn put_job(out: &mut ArrayVec<u8, 2048>, show: &JobShow)
 
 /// `P s state name left a b h`: what PEEK shows of slot `s`.
 #[tactic(auto, unfolding(crate::specs::Printing::text_of_line, its_word::specs::Text::spaced))]
-fn print_peek(s: u8, peek: &Peek, out: &mut ArrayVec<u8, 2048>)
+fn print_peek(s: Slot, peek: &Peek, out: &mut ArrayVec<u8, 2048>)
     requires { out.old.items ≡ [] }
     ensures text { out.new.items ≡ text_of_line (Peeked s peek.now) }
     ensures short { length out.new.items ≤ 1543 }
 {
     out.push(b'P');
-    put_number(out, u64::from(s));
+    put_number(out, u64::from(s.number()));
     put(out, state_word(peek.state));
     put_word_or_dash(out, peek.name);
     put_number(out, u64::from(peek.left));

@@ -1,17 +1,17 @@
 use super::runs::Run;
 use its_records::{FileShow, JobShow, Peek, Reason};
-use its_word::Word;
+use its_word::{Slot, Word};
 
 /// A line of a transcript. What takes more than a few words is lent.
 #[derive(Drop)]
 pub enum Reply<'a> {
     /// LOAD made a job in a slot.
     Loaded {
-        s: u8,
+        s: Slot,
     },
     /// What the ticks of a slot did, 512 at most, as runs of equal letters.
     Ticks {
-        s: u8,
+        s: Slot,
         runs: &'a [Run],
     },
     /// TYPE on a console, when some bytes found no room.
@@ -26,25 +26,25 @@ pub enum Reply<'a> {
     },
     /// The words of a slot from an address on, 8 at most.
     Words {
-        s: u8,
+        s: Slot,
         a: u32,
         words: &'a [Word],
     },
     /// The word of a slot at an address, typed out.
     Listed {
-        s: u8,
+        s: Slot,
         a: u32,
         word: Word,
     },
     /// What STATE shows of a slot in a session of a version.
     State {
         version: u8,
-        s: u8,
+        s: Slot,
         show: &'a JobShow,
     },
     /// What PEEK shows of a slot.
     Peeked {
-        s: u8,
+        s: Slot,
         peek: &'a Peek,
     },
     /// A directory has `n` files.

@@ -2,7 +2,7 @@ ghost use Rattle.std.specs.Prelude.{◌≡◌};
 ghost use Rattle.its_records.specs.Refusals.{reason_of};
 
 use arrayvec::ArrayVec;
-use its_word::Word;
+use its_word::{Slot, Word};
 
 /// A line of a session, read. Addresses `a` are below 2^18, slots `s` are below 64 in version 1 of the
 /// session text and below 96 in version 2, consoles `c` are below 8; docs/SESSION.md has the numbers of
@@ -45,7 +45,7 @@ pub enum Event {
     },
     EndFile,
     Tick {
-        s: u8,
+        s: Slot,
         n: u32,
     },
     /// In version 2: up to n turns of q ticks, in a circle, to the jobs that run.
@@ -65,37 +65,37 @@ pub enum Event {
         n: u64,
     },
     Int {
-        s: u8,
+        s: Slot,
         v: Word,
         w: Word,
     },
     Exam {
-        s: u8,
+        s: Slot,
         a: u32,
         n: u32,
     },
     /// In version 2: n words of a slot from address a on, typed out.
     List {
-        s: u8,
+        s: Slot,
         a: u32,
         n: u32,
     },
     State {
-        s: u8,
+        s: Slot,
     },
     Deposit {
-        s: u8,
+        s: Slot,
         a: u32,
         w: Word,
     },
     Stop {
-        s: u8,
+        s: Slot,
     },
     Cont {
-        s: u8,
+        s: Slot,
     },
     Peek {
-        s: u8,
+        s: Slot,
     },
     Dir {
         d: Word,

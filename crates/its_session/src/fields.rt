@@ -5,7 +5,7 @@ ghost use Rattle.its_session.specs.Reading.{bytes_in, console_at, name_in, numbe
 
 use arrayvec::ArrayVec;
 use its_records::Bad;
-use its_word::{Word, read_octal, read_sixbit};
+use its_word::{Slot, Word, read_octal, read_sixbit};
 
 /// A number.
 pub fn number(word: &[u8]) -> Result<Word, Bad>
@@ -23,18 +23,23 @@ pub fn name(word: &[u8]) -> Result<Word, Bad>
 
 /// The last slot of a session of this version: 77 in version 1, 137 in version 2.
 #[tactic(auto, unfolding(crate::specs::Grammar::last_slot))]
-fn last_slot(version: u8) -> u8
+fn last_slot(version: u8) -> Slot
     ensures { result ≡ last_slot version }
 {
-    if version == 2 { 0o137 } else { 0o77 }
+    if version == 2 {
+        Slot::LAST
+    } else {
+        Slot::new(0o77)
+    }
 }
 
 /// A slot of a session of this version.
-pub fn slot(version: u8, n: Word) -> Result<u8, Bad>
+pub fn slot(version: u8, n: Word) -> Result<Slot, Bad>
     ensures { result ≡ ranged_to (last_slot version) n }
 {
-    if n.value() <= u64::from(last_slot(version)) {
-        Ok(n.value() as u8)
+    let last = last_slot(version).number();
+    if n.value() <= u64::from(last) {
+        Ok(Slot::new(n.value() as u8))
     } else {
         Err(Bad::Range)
     }

@@ -6,7 +6,7 @@ ghost use Rattle.its_session.specs.Generated.{placed, letter, started, echoed, e
 
 use arrayvec::ArrayVec;
 use its_records::Event;
-use its_word::Word;
+use its_word::{Slot, Word};
 
 /// How many jobs there are, one at each console.
 const JOBS: u8 = 8;
@@ -165,13 +165,21 @@ fn looks(r: u64, c: u8) -> bool
 /// Line k of round r at console c.
 #[tactic(auto, unfolding(crate::specs::Generated::echoed))]
 fn echoed(r: u64, c: u8, k: u64) -> Option<Event>
-    requires { r < 2 ^ 32 }
+    requires round { r < 2 ^ 32 }
+    requires console { c < 8 }
     ensures { result ≡ slice_get (echoed r c) k }
 {
     match (k, looks(r, c)) {
         (0, _) => Some(type_letter(r, c)),
-        (1, _) => Some(Event::Tick { s: c, n: 0o24 }),
-        (2, true) => Some(Event::Exam { s: c, a: 3, n: 1 }),
+        (1, _) => Some(Event::Tick {
+            s: Slot::new(c),
+            n: 0o24,
+        }),
+        (2, true) => Some(Event::Exam {
+            s: Slot::new(c),
+            a: 3,
+            n: 1,
+        }),
         (2, false) | (3, true) => Some(Event::Drain { c, n: 0o10 }),
         _ => None,
     }
@@ -205,10 +213,14 @@ fn end(k: u64) -> Option<Event>
 /// The k-th line of those that empty a console.
 #[tactic(auto, unfolding(crate::specs::Generated::emptied))]
 fn emptied(c: u8, k: u64) -> Option<Event>
+    requires { c < 8 }
     ensures { result ≡ slice_get (emptied c) k }
 {
     match k {
-        0 => Some(Event::Tick { s: c, n: 0o40 }),
+        0 => Some(Event::Tick {
+            s: Slot::new(c),
+            n: 0o40,
+        }),
         1 => Some(Event::Drain { c, n: 0o100 }),
         _ => None,
     }

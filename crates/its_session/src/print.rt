@@ -10,7 +10,7 @@ ghost use Rattle.its_session.specs.Writing.{AreWords, HasWords, console_text, na
 use super::put::{put_address, put_bytes, put_console, put_name, put_number, put_word, put_words};
 use arrayvec::ArrayVec;
 use its_records::Event;
-use its_word::{Word, octal6};
+use its_word::{Slot, Word, octal6};
 
 /// Writes the line of an event of version 2, without LF: addresses with six digits, machine words with twelve. `read_line` reads it in version 2 as that event at
 /// the event's place, and `Nothing` at any place. The event's numbers and names are in the ranges of its line.
@@ -42,7 +42,7 @@ fn write(e: &Event, out: &mut ArrayVec<u8, 256>)
         Event::File { d, x, y } => names(out, b"FILE", *d, *x, *y),
         Event::Append { words } => append(out, words.as_slice()),
         Event::EndFile => first(out, b"EOF"),
-        Event::Tick { s, n } => two_numbers(out, b"TICK", u64::from(*s), u64::from(*n)),
+        Event::Tick { s, n } => two_numbers(out, b"TICK", u64::from(s.number()), u64::from(*n)),
         Event::Run { n, q } => two_numbers(out, b"RUN", u64::from(*n), u64::from(*q)),
         Event::TypeIn { c, bytes } => type_in(out, *c, bytes.as_slice()),
         Event::Drain { c, n } => two_numbers(out, b"DRAIN", u64::from(*c), u64::from(*n)),
@@ -50,11 +50,11 @@ fn write(e: &Event, out: &mut ArrayVec<u8, 256>)
         Event::Int { s, v, w } => interrupt(out, *s, *v, *w),
         Event::Exam { s, a, n } => span(out, b"EXAM", *s, *a, *n),
         Event::List { s, a, n } => span(out, b"LIST", *s, *a, *n),
-        Event::State { s } => number(out, b"STATE", u64::from(*s)),
+        Event::State { s } => number(out, b"STATE", u64::from(s.number())),
         Event::Deposit { s, a, w } => deposit(out, *s, *a, *w),
-        Event::Stop { s } => number(out, b"STOP", u64::from(*s)),
-        Event::Cont { s } => number(out, b"CONT", u64::from(*s)),
-        Event::Peek { s } => number(out, b"PEEK", u64::from(*s)),
+        Event::Stop { s } => number(out, b"STOP", u64::from(s.number())),
+        Event::Cont { s } => number(out, b"CONT", u64::from(s.number())),
+        Event::Peek { s } => number(out, b"PEEK", u64::from(s.number())),
         Event::Dir { d } => name(out, b"DIR", *d),
         Event::Show { d, x, y } => names(out, b"SHOW", *d, *x, *y),
         Event::End => first(out, b"END"),
@@ -107,39 +107,39 @@ fn go(out: &mut ArrayVec<u8, 256>, a: u32)
 
 /// `INT s v w`
 #[tactic(auto, unfolding(its_word::specs::Text::spaced))]
-fn interrupt(out: &mut ArrayVec<u8, 256>, s: u8, v: Word, w: Word)
+fn interrupt(out: &mut ArrayVec<u8, 256>, s: Slot, v: Word, w: Word)
     requires { out.old.items ≡ [] }
     ensures text { out.new.items ≡ spaced (codes "INT") (digits_of s ∷ octal12_of v ∷ octal12_of w ∷ []) }
     ensures words { (v < 2 ^ 36) × (w < 2 ^ 36) }
 {
     first(out, b"INT");
-    put_number(out, u64::from(s));
+    put_number(out, u64::from(s.number()));
     put_word(out, v);
     put_word(out, w);
 }
 
 /// A first word, a slot, an address and a count.
 #[tactic(auto, unfolding(its_word::specs::Text::spaced))]
-fn span(out: &mut ArrayVec<u8, 256>, word: &[u8], s: u8, a: u32, n: u32)
+fn span(out: &mut ArrayVec<u8, 256>, word: &[u8], s: Slot, a: u32, n: u32)
     requires empty { out.old.items ≡ [] }
     requires short { length word.now ≤ 16 }
     ensures { out.new.items ≡ spaced word.now (digits_of s ∷ octal6_of a ∷ digits_of n ∷ []) }
 {
     first(out, word);
-    put_number(out, u64::from(s));
+    put_number(out, u64::from(s.number()));
     put_address(out, a);
     put_number(out, u64::from(n));
 }
 
 /// `DEPOSIT s a w`
 #[tactic(auto, unfolding(its_word::specs::Text::spaced))]
-fn deposit(out: &mut ArrayVec<u8, 256>, s: u8, a: u32, w: Word)
+fn deposit(out: &mut ArrayVec<u8, 256>, s: Slot, a: u32, w: Word)
     requires { out.old.items ≡ [] }
     ensures text { out.new.items ≡ spaced (codes "DEPOSIT") (digits_of s ∷ octal6_of a ∷ octal12_of w ∷ []) }
     ensures word { w < 2 ^ 36 }
 {
     first(out, b"DEPOSIT");
-    put_number(out, u64::from(s));
+    put_number(out, u64::from(s.number()));
     put_address(out, a);
     put_word(out, w);
 }

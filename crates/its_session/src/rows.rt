@@ -5,6 +5,7 @@ ghost use Rattle.its_session.specs.Reading.{console_in};
 
 use super::fields::{at_most, bytes, console, count, name, number, numbers, page, slot};
 use its_records::{Bad, Event};
+use its_word::Slot;
 
 /// `LOAD u j c`
 #[tactic(auto, using(crate::proofs::RowLaws::three_words), unfolding(crate::specs::Grammar::load_line))]
@@ -157,7 +158,7 @@ pub fn int(version: u8, words: &[&[u8]]) -> Result<Event, Bad>
 
 /// The slot, the first address and the count of the words of `EXAM s a n` and `LIST s a n`.
 #[tactic(auto, using(crate::proofs::RowLaws::three_words), unfolding(crate::specs::Grammar::span_line))]
-pub fn span(version: u8, words: &[&[u8]]) -> Result<(u8, u32, u32), Bad>
+pub fn span(version: u8, words: &[&[u8]]) -> Result<(Slot, u32, u32), Bad>
     ensures { result ≡ span_line version (map (λ w. w.now) words.now) }
 {
     let [s, a, n] = words else {
@@ -184,7 +185,7 @@ pub fn deposit(version: u8, words: &[&[u8]]) -> Result<Event, Bad>
 
 /// The slot of `STATE s`, `STOP s`, `CONT s` and `PEEK s`.
 #[tactic(auto, unfolding(crate::specs::Grammar::slot_line))]
-pub fn only_slot(version: u8, words: &[&[u8]]) -> Result<u8, Bad>
+pub fn only_slot(version: u8, words: &[&[u8]]) -> Result<Slot, Bad>
     ensures { result ≡ slot_line version (map (λ w. w.now) words.now) }
 {
     let [s] = words else {

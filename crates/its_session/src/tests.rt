@@ -1,7 +1,7 @@
 use super::*;
 use arrayvec::ArrayVec;
 use its_records::{Bad, Event, Place};
-use its_word::Word;
+use its_word::{Slot, Word};
 use std::process::Abort;
 
 macro_rules! reads {
@@ -66,9 +66,9 @@ fn reads_blocks(rt: HostRuntime) {
 
 #[test]
 fn reads_operator_lines(rt: HostRuntime) {
-    reads!(rt; Place::Plain, b"TICK 0 1", Event::Tick { s: 0, n: 1 });
-    reads!(rt; Place::Plain, b"TICK 77 1000", Event::Tick { s: 0o77, n: 0o1000 });
-    reads!(rt; Place::Plain, b"  TICK 000   00000000010 ", Event::Tick { s: 0, n: 0o10 });
+    reads!(rt; Place::Plain, b"TICK 0 1", Event::Tick { s: Slot::new(0), n: 1 });
+    reads!(rt; Place::Plain, b"TICK 77 1000", Event::Tick { s: Slot::new(0o77), n: 0o1000 });
+    reads!(rt; Place::Plain, b"  TICK 000   00000000010 ", Event::Tick { s: Slot::new(0), n: 0o10 });
     reads!(rt; Place::Plain, b"TYPE 0 0", Event::TypeIn { c: 0, bytes: bytes(&[0]) });
     reads!(rt; Place::Plain, b"TYPE 7 101 177", Event::TypeIn { c: 7, bytes: bytes(&[0o101, 0o177]) });
     reads!(rt; Place::Plain, b"TYPE 0 1 1 1 1 1 1 1 1 1 1 1 1 1 1 1 1 1 1 1 1 1 1 1 1 1 1 1 1 1 1 1 1", Event::TypeIn { c: 0, bytes: bytes(&[1; 32]) });
@@ -76,17 +76,17 @@ fn reads_operator_lines(rt: HostRuntime) {
     reads!(rt; Place::Plain, b"DRAIN 7 100", Event::Drain { c: 7, n: 0o100 });
     reads!(rt; Place::Plain, b"CLOCK 0", Event::Clock { n: 0 });
     reads!(rt; Place::Plain, b"CLOCK 777777777777", Event::Clock { n: 0o777777777777 });
-    reads!(rt; Place::Plain, b"INT 0 1000 0", Event::Int { s: 0, v: Word::new(0o1000), w: Word::ZERO });
-    reads!(rt; Place::Plain, b"INT 77 777777777777 1", Event::Int { s: 0o77, v: Word::ONES, w: Word::new(1) });
-    reads!(rt; Place::Plain, b"EXAM 0 200 1", Event::Exam { s: 0, a: 0o200, n: 1 });
-    reads!(rt; Place::Plain, b"EXAM 77 777770 10", Event::Exam { s: 0o77, a: 0o777770, n: 8 });
-    reads!(rt; Place::Plain, b"EXAM 0 777777 1", Event::Exam { s: 0, a: 0o777777, n: 1 });
-    reads!(rt; Place::Plain, b"STATE 77", Event::State { s: 0o77 });
-    reads!(rt; Place::Plain, b"DEPOSIT 0 202 254000000203", Event::Deposit { s: 0, a: 0o202, w: Word::new(0o254000000203) });
-    reads!(rt; Place::Plain, b"DEPOSIT 77 777777 777777777777", Event::Deposit { s: 0o77, a: 0o777777, w: Word::ONES });
-    reads!(rt; Place::Plain, b"STOP 0", Event::Stop { s: 0 });
-    reads!(rt; Place::Plain, b"CONT 77", Event::Cont { s: 0o77 });
-    reads!(rt; Place::Plain, b"PEEK 1", Event::Peek { s: 1 });
+    reads!(rt; Place::Plain, b"INT 0 1000 0", Event::Int { s: Slot::new(0), v: Word::new(0o1000), w: Word::ZERO });
+    reads!(rt; Place::Plain, b"INT 77 777777777777 1", Event::Int { s: Slot::new(0o77), v: Word::ONES, w: Word::new(1) });
+    reads!(rt; Place::Plain, b"EXAM 0 200 1", Event::Exam { s: Slot::new(0), a: 0o200, n: 1 });
+    reads!(rt; Place::Plain, b"EXAM 77 777770 10", Event::Exam { s: Slot::new(0o77), a: 0o777770, n: 8 });
+    reads!(rt; Place::Plain, b"EXAM 0 777777 1", Event::Exam { s: Slot::new(0), a: 0o777777, n: 1 });
+    reads!(rt; Place::Plain, b"STATE 77", Event::State { s: Slot::new(0o77) });
+    reads!(rt; Place::Plain, b"DEPOSIT 0 202 254000000203", Event::Deposit { s: Slot::new(0), a: 0o202, w: Word::new(0o254000000203) });
+    reads!(rt; Place::Plain, b"DEPOSIT 77 777777 777777777777", Event::Deposit { s: Slot::new(0o77), a: 0o777777, w: Word::ONES });
+    reads!(rt; Place::Plain, b"STOP 0", Event::Stop { s: Slot::new(0) });
+    reads!(rt; Place::Plain, b"CONT 77", Event::Cont { s: Slot::new(0o77) });
+    reads!(rt; Place::Plain, b"PEEK 1", Event::Peek { s: Slot::new(1) });
     reads!(rt; Place::Plain, b"END", Event::End);
 }
 
@@ -95,22 +95,22 @@ fn reads_version_two(rt: HostRuntime) {
     let name = Word::new(0o465757000000);
     reads!(rt; Place::First, b"VERSION 1", Event::Version { v: 1 });
     reads!(rt; Place::First, b" VERSION  002", Event::Version { v: 2 });
-    reads!(rt; Place::First, b"TICK 77 1", Event::Tick { s: 0o77, n: 1 });
+    reads!(rt; Place::First, b"TICK 77 1", Event::Tick { s: Slot::new(0o77), n: 1 });
     reads_in_two!(rt; Place::Load, b"RO 0", Event::ReadOnly { page: 0 });
     reads_in_two!(rt; Place::Load, b"RO 377", Event::ReadOnly { page: 0o377 });
     reads_in_two!(rt; Place::Load, b"SYM FOO 777777", Event::Symbol { name, a: 0o777777 });
-    reads_in_two!(rt; Place::Plain, b"TICK 137 1", Event::Tick { s: 0o137, n: 1 });
+    reads_in_two!(rt; Place::Plain, b"TICK 137 1", Event::Tick { s: Slot::new(0o137), n: 1 });
     reads_in_two!(rt; Place::Plain, b"RUN 1 1", Event::Run { n: 1, q: 1 });
     reads_in_two!(rt; Place::Plain, b"RUN 1000 100", Event::Run { n: 0o1000, q: 0o100 });
-    reads_in_two!(rt; Place::Plain, b"INT 137 1 0", Event::Int { s: 0o137, v: Word::new(1), w: Word::ZERO });
-    reads_in_two!(rt; Place::Plain, b"EXAM 100 0 1", Event::Exam { s: 0o100, a: 0, n: 1 });
-    reads_in_two!(rt; Place::Plain, b"LIST 0 100 2", Event::List { s: 0, a: 0o100, n: 2 });
-    reads_in_two!(rt; Place::Plain, b"LIST 137 777770 10", Event::List { s: 0o137, a: 0o777770, n: 8 });
-    reads_in_two!(rt; Place::Plain, b"DEPOSIT 137 0 1", Event::Deposit { s: 0o137, a: 0, w: Word::new(1) });
-    reads_in_two!(rt; Place::Plain, b"STATE 137", Event::State { s: 0o137 });
-    reads_in_two!(rt; Place::Plain, b"STOP 137", Event::Stop { s: 0o137 });
-    reads_in_two!(rt; Place::Plain, b"CONT 137", Event::Cont { s: 0o137 });
-    reads_in_two!(rt; Place::Plain, b"PEEK 137", Event::Peek { s: 0o137 });
+    reads_in_two!(rt; Place::Plain, b"INT 137 1 0", Event::Int { s: Slot::new(0o137), v: Word::new(1), w: Word::ZERO });
+    reads_in_two!(rt; Place::Plain, b"EXAM 100 0 1", Event::Exam { s: Slot::new(0o100), a: 0, n: 1 });
+    reads_in_two!(rt; Place::Plain, b"LIST 0 100 2", Event::List { s: Slot::new(0), a: 0o100, n: 2 });
+    reads_in_two!(rt; Place::Plain, b"LIST 137 777770 10", Event::List { s: Slot::new(0o137), a: 0o777770, n: 8 });
+    reads_in_two!(rt; Place::Plain, b"DEPOSIT 137 0 1", Event::Deposit { s: Slot::new(0o137), a: 0, w: Word::new(1) });
+    reads_in_two!(rt; Place::Plain, b"STATE 137", Event::State { s: Slot::new(0o137) });
+    reads_in_two!(rt; Place::Plain, b"STOP 137", Event::Stop { s: Slot::new(0o137) });
+    reads_in_two!(rt; Place::Plain, b"CONT 137", Event::Cont { s: Slot::new(0o137) });
+    reads_in_two!(rt; Place::Plain, b"PEEK 137", Event::Peek { s: Slot::new(0o137) });
     refuses(
         &rt,
         Place::First,

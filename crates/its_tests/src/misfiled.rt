@@ -2,7 +2,6 @@
 
 ghost use Rattle.std.specs.Prelude.{◌≡◌, ◌<◌, true, IsTrue, IfOk, length};
 ghost use Rattle.its_links.specs.Lists.{list_at, count};
-ghost use Rattle.its_word.specs.Limits.{slots};
 ghost use Rattle.its_monitor.specs.Kept.{Kept};
 ghost use Rattle.its_world.specs.World.{call_in};
 ghost use Rattle.its_tick.specs.Ticks.{InRing, is_waiting};
@@ -11,7 +10,7 @@ use its_calls::View;
 use its_links::Links;
 use its_monitor::Monitor;
 use its_records::{Pace, Refusal};
-use its_word::Word;
+use its_word::{Slot, Word};
 use its_world::World;
 use std::process::Abort;
 use std::test::Fail;
@@ -32,10 +31,9 @@ const IMAGE: [(u32, u64); 8] = [
 const INPUT: u32 = 2;
 
 /// Makes the job at console 0, and starts it.
-fn started(rt: &impl Abort, m: &mut Monitor) -> Result<u8, Refusal>
+fn started(rt: &impl Abort, m: &mut Monitor) -> Result<Slot, Refusal>
     requires kept { Kept m.old.world }
     ensures kept { Kept m.new.world }
-    ensures slot { IfOk result (λ s. s < slots) }
 {
     let slot = m.load_job(Word::new(7), Word::new(7), Some(0))?;
     for (a, word) in IMAGE {
@@ -47,8 +45,7 @@ fn started(rt: &impl Abort, m: &mut Monitor) -> Result<u8, Refusal>
 }
 
 /// The letter of the last of n ticks.
-fn last_of(m: &mut Monitor, slot: u8, n: u32) -> Pace
-    requires slot { slot < slots }
+fn last_of(m: &mut Monitor, slot: Slot, n: u32) -> Pace
     requires kept { Kept m.old.world }
     ensures { Kept m.new.world }
 {
@@ -61,14 +58,14 @@ fn last_of(m: &mut Monitor, slot: u8, n: u32) -> Pace
 
 /// Puts a slot on the list of those that wait for input of console 0, wherever it was.
 #[tactic(auto, using(crate::proofs::MisfiledLaws::at_end))]
-fn put_in(rings: &mut Links, slot: u8)
+fn put_in(rings: &mut Links, slot: Slot)
     requires node { slot < rings.old.nodes }
     requires head { 2 < length rings.old.lists }
     ensures stands { 0 < count slot (list_at rings.new.lists 2) }
     ensures nodes { rings.new.nodes ≡ rings.old.nodes }
     ensures heads { length rings.new.lists ≡ length rings.old.lists }
 {
-    let node = u32::from(slot);
+    let node = u32::from(slot.number());
     if rings.linked(node) {
         rings.unlink(node);
     }
@@ -76,17 +73,15 @@ fn put_in(rings: &mut Links, slot: u8)
 }
 
 /// Whether the call of a slot was found not ready.
-fn waits(w: &World, slot: u8) -> bool
-    requires { slot < slots }
+fn waits(w: &World, slot: Slot) -> bool
     ensures { IsTrue result → is_waiting (call_in w.now slot) ≡ true }
 {
-    matches!(w.frame(slot), View::Waiting { .. })
+    matches!(w.frame(slot.number()), View::Waiting { .. })
 }
 
 /// Puts a slot back into the list of those that wait for input of console 0; whether its call was found not ready.
 #[tactic(auto, using(crate::proofs::MisfiledLaws::in_ring))]
-fn put_back(w: &mut World, slot: u8) -> bool
-    requires { slot < slots }
+fn put_back(w: &mut World, slot: Slot) -> bool
     ensures { IsTrue result → InRing w.new slot }
 {
     put_in(&mut w.rings, slot);

@@ -24,6 +24,7 @@ use its_core::Core;
 use its_frame::Change;
 use its_ints::{deliver, deliverable};
 use its_records::{Job, Pace, Site};
+use its_word::Slot;
 use its_world::World;
 use pdp_exec::{Near, call_at_hand, run_units, site};
 
@@ -57,7 +58,7 @@ fn run_delivery(w: &mut World, slot: u8, job: &mut Job) -> bool
     ensures stops { result ≡ (delivered (core_at w.old.core slot) job.old).stops }
     ensures tidy { Tidy w.new }
 {
-    deliver(&mut w.core, slot, job)
+    deliver(&mut w.core, Slot::new(slot), job)
 }
 
 /// Writes the registers of a slot's job except its channels.
@@ -161,7 +162,7 @@ fn near_call(w: &World, slot: u8) -> Option<Near>
     ensures { IfSome result (λ n. IfSome (job_at w.now.jobs slot) (λ j. unit_of (core_at w.now.core slot) j ≡ Called (near_site j.pc n))) }
 {
     match w.jobs.job(slot) {
-        Some(job) => call_at_hand(&w.core, slot, job),
+        Some(job) => call_at_hand(&w.core, Slot::new(slot), job),
         None => unreachable!(),
     }
 }
@@ -216,7 +217,7 @@ pub fn units_in_place(w: &mut World, slot: u8, n: u32) -> u32
     ensures same { result ≡ 0 → w.new ≡ w.old }
 {
     match w.jobs.job_mut(slot) {
-        Some(job) => run_units(&mut w.core, slot, job, n),
+        Some(job) => run_units(&mut w.core, Slot::new(slot), job, n),
         None => unreachable!(),
     }
 }
@@ -247,7 +248,7 @@ fn site_of(w: &World, slot: u8) -> Site
     ensures { IfSome (job_at w.now.jobs slot) (λ j. unit_of (core_at w.now.core slot) j ≡ Called result) }
 {
     match w.jobs.job(slot) {
-        Some(job) => site(&w.core, slot, job),
+        Some(job) => site(&w.core, Slot::new(slot), job),
         None => unreachable!(),
     }
 }

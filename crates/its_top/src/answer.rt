@@ -1,6 +1,5 @@
 //! The answer to an event.
-ghost use Rattle.std.specs.Prelude.{◌≡◌, ◌<◌};
-ghost use Rattle.its_word.specs.Limits.{slots};
+ghost use Rattle.std.specs.Prelude.{◌≡◌};
 ghost use Rattle.its_session.specs.Fits.{EventFits};
 ghost use Rattle.its_world.specs.World.{state_of};
 ghost use Rattle.its_monitor.specs.Kept.{Kept};
@@ -26,12 +25,10 @@ pub fn answer<K: Sink>(
     out: &mut K,
 ) -> Flow
     requires sound { Kept m.old.world }
-    requires slot { p.old.slot < slots }
     requires fits { EventFits 2 event.now }
     requires start { FindsStart event.now (state_of m.old.world) }
     ensures answered { Answered result p.old.number (state_of m.old.world) (block_of p.old.slot p.old.file) event.now (state_of m.new.world) (block_of p.new.slot p.new.file) (K.written out.old) (K.written out.new) }
     ensures sound { Kept m.new.world }
-    ensures slot { p.new.slot < slots }
     ensures kept { p.new.number ≡ p.old.number }
     ensures cause { FlowCause result (K.faults out.old) (K.faults out.new) }
 {

@@ -1,5 +1,5 @@
 //! The command `check`: the lines of a session are looked at by the grammar alone. No monitor is made.
-ghost use Rattle.std.specs.Prelude.{◌≡◌, ◌≢◌, ◌≤◌, ◌<◌, ◌-◌, ◌*◌, ◌⊎◌, None, Some, true};
+ghost use Rattle.std.specs.Prelude.{◌≡◌, ◌≢◌, ◌≤◌, ◌-◌, ◌*◌, ◌⊎◌, None, Some, true};
 ghost use Rattle.its_io.specs.Bytes.{HasCause, next_fault};
 ghost use Rattle.its_top.specs.Telling.{goes_on_after};
 ghost use Rattle.its_top.specs.Checking.{CheckedBy, Finding, WroteText, Reported, Check};

@@ -1,5 +1,5 @@
 //! RUN: turns in a circle of slots, after its line.
-ghost use Rattle.std.specs.Prelude.{◌≡◌, ◌<◌, ◌≤◌, ◌-◌, IfSome};
+ghost use Rattle.std.specs.Prelude.{◌≡◌, ◌≤◌, ◌-◌, IfSome};
 ghost use Rattle.its_word.specs.Limits.{slots};
 ghost use Rattle.its_session.specs.Fits.{EventFits};
 ghost use Rattle.its_robin.specs.Robin.{first_running};
@@ -17,10 +17,10 @@ use super::ticking::tick_line;
 use its_io::Sink;
 use its_monitor::Monitor;
 use its_records::Event;
-use its_word::SLOTS;
+use its_word::{SLOTS, Slot};
 
 /// The highest slot: before the first turn of a session it is the last one.
-pub const HIGHEST: u8 = SLOTS as u8 - 1;
+pub const HIGHEST: Slot = Slot::LAST;
 
 /// A line, and after it the turns that it asks for, which only RUN does. Slot `last` had the last turn before it, and has the slot of
 /// the last turn then.
@@ -28,20 +28,16 @@ pub const HIGHEST: u8 = SLOTS as u8 - 1;
 pub fn follow<K: Sink>(
     m: &mut Monitor,
     p: &mut Progress,
-    last: &mut u8,
+    last: &mut Slot,
     event: &Event,
     room: &mut Room,
     out: &mut K,
 ) -> Flow
     requires sound { Kept m.old.world }
-    requires slot { p.old.slot < slots }
-    requires last { last.old < slots }
     requires fits { EventFits 2 event.now }
     requires start { FindsStart event.now (state_of m.old.world) }
     ensures follows { Follows result p.old.number (state_of m.old.world) (block_of p.old.slot p.old.file) last.old event.now (state_of m.new.world) (block_of p.new.slot p.new.file) last.new (K.written out.old) (K.written out.new) }
     ensures sound { Kept m.new.world }
-    ensures slot { p.new.slot < slots }
-    ensures last { last.new < slots }
     ensures number { p.new.number ≡ p.old.number }
     ensures cause { FlowCause result (K.faults out.old) (K.faults out.new) }
 {
@@ -55,18 +51,16 @@ pub fn follow<K: Sink>(
 #[tactic(auto, using(crate::proofs::CircleLaws::circle_start, crate::proofs::CircleLaws::circle_turn, crate::proofs::CircleLaws::circle_fault, crate::proofs::CircleLaws::circle_none, crate::proofs::CircleLaws::circle_end))]
 fn circle<K: Sink>(
     m: &mut Monitor,
-    last: &mut u8,
+    last: &mut Slot,
     n: u32,
     q: u32,
     room: &mut Room,
     out: &mut K,
 ) -> Flow
     requires sound { Kept m.old.world }
-    requires last { last.old < slots }
     requires few { q ≤ 512 }
     ensures circled { Circled result (state_of m.old.world) last.old n q (state_of m.new.world) last.new (K.written out.old) (K.written out.new) }
     ensures sound { Kept m.new.world }
-    ensures last { last.new < slots }
     ensures cause { FlowCause result (K.faults out.old) (K.faults out.new) }
 {
     for _k in 0..n {
@@ -84,26 +78,25 @@ fn circle<K: Sink>(
 
 /// The slot whose turn it is, after a turn of slot `last`; None if no job runs. The slots after it are looked at first.
 #[tactic(auto, using(its_robin::proofs::RobinLaws::turn_behind, its_robin::proofs::RobinLaws::turn_around))]
-fn turn_after(m: &Monitor, last: u8) -> Option<u8>
-    requires last { last < slots }
+fn turn_after(m: &Monitor, last: Slot) -> Option<Slot>
     ensures turn { result ≡ turn_after (state_of m.now.world).raw last }
-    ensures slot { IfSome result (λ s. s < slots) }
 {
-    match first_running(m, last + 1, SLOTS as u8) {
+    let next = last.number() + 1;
+    match first_running(m, next, SLOTS as u8) {
         Some(slot) => Some(slot),
-        None => first_running(m, 0, last + 1),
+        None => first_running(m, 0, next),
     }
 }
 
 /// The first slot whose job runs, of those from one on and before another.
 #[tactic(auto, using(its_robin::proofs::RobinLaws::first_next, its_robin::proofs::RobinLaws::first_found, its_robin::proofs::RobinLaws::first_end))]
-fn first_running(m: &Monitor, from: u8, to: u8) -> Option<u8>
+fn first_running(m: &Monitor, from: u8, to: u8) -> Option<Slot>
     requires order { from ≤ to }
     requires within { to ≤ slots }
     ensures first { result ≡ first_running (runs (state_of m.now.world).raw) (to - from) from }
-    ensures slot { IfSome result (λ s. s < slots) }
 {
     for slot in from..to {
+        let slot = Slot::new(slot);
         if m.running(slot) {
             return Some(slot);
         }

@@ -1,5 +1,5 @@
 //! The lines on files: FILE with its words, DIR and SHOW.
-ghost use Rattle.std.specs.Prelude.{◌≡◌, ◌≤◌, ◌<◌, ◌+◌, ◌-◌, ◌/◌, List, true, None, Ok, Err, IfErr, OnOk, length, map, min, take, drop};
+ghost use Rattle.std.specs.Prelude.{◌≡◌, ◌≤◌, ◌+◌, ◌-◌, ◌/◌, List, true, None, Ok, Err, IfErr, OnOk, length, map, min, take, drop};
 ghost use Rattle.its_records.specs.declared.calls.Pace.{Pace};
 ghost use Rattle.its_files.specs.Files.{entry_at, is_file, words_at};
 ghost use Rattle.its_plain.specs.Operator.{Block};

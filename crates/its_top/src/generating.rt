@@ -2,7 +2,6 @@
 ghost use Rattle.std.specs.Prelude.{◌≡◌, ◌≢◌, ◌≤◌, ◌<◌, ◌+◌, ◌-◌, ◌*◌, ◌^◌, ◌⊎◌, ℕ, List, OnOk, OnErr, [], ◌∷◌, length};
 ghost use Rattle.std.specs.Io.KnownBytes.{Appends};
 ghost use Rattle.its_io.specs.Bytes.{HasCause, Wrote, next_fault};
-ghost use Rattle.its_word.specs.Limits.{slots};
 ghost use Rattle.its_session.specs.Fits.{EventFits};
 ghost use Rattle.its_session.specs.Generated.{IsGenerated, generated_session};
 ghost use Rattle.its_plain.specs.Machine.{no_machine};
@@ -25,7 +24,7 @@ use its_monitor::Monitor;
 use its_print::Run;
 use its_records::{Event, Pace};
 use its_session::generated;
-use its_word::Word;
+use its_word::{Slot, Word};
 
 /// How many ticks were marked `*`, and how many bytes were drained.
 #[derive(Clone, Copy, Debug, PartialEq, Eq)]
@@ -118,7 +117,7 @@ fn play_all(m: &mut Monitor, n: u32) -> (u32, Tally)
 {
     let progress = Progress {
         number: 0,
-        slot: 0,
+        slot: Slot::FIRST,
         file: [Word::ZERO; 3],
     };
     let mut play = Play {
@@ -141,14 +140,12 @@ fn play_all(m: &mut Monitor, n: u32) -> (u32, Tally)
 #[tactic(auto, using(crate::proofs::TallyLaws::played_over, crate::proofs::TallyLaws::played, crate::proofs::TallyLaws::generated_fits, crate::proofs::TallyLaws::generated_starts))]
 fn play_on(m: &mut Monitor, play: &mut Play, event: &Event, runs: &mut Runs)
     requires sound { Kept m.old.world }
-    requires slot { play.old.progress.slot < slots }
     requires fits { EventFits 1 event.now }
     requires kind { IsGenerated event.now }
     requires steps { play.old.tally.steps < 2 ^ 63 }
     requires drained { play.old.tally.drained < 2 ^ 63 }
     ensures played { PlayedOn play.old play.new (state_of m.old.world) (state_of m.new.world) event.now }
     ensures sound { Kept m.new.world }
-    ensures slot { play.new.progress.slot < slots }
     ensures number { play.new.progress.number ≡ play.old.progress.number }
     ensures steps { play.new.tally.steps ≤ play.old.tally.steps + 512 }
     ensures drained { play.new.tally.drained ≤ play.old.tally.drained + 64 }

@@ -10,11 +10,11 @@ use super::room::Bytes;
 use super::writing::tell;
 use its_io::Sink;
 use its_print::Reply;
-use its_word::Word;
+use its_word::{Slot, Word};
 
 /// A line for each of some words, which are in a slot from an address on.
 #[tactic(auto, using(crate::proofs::FilingLaws::writes_start))]
-pub fn list_words<K: Sink>(s: u8, a: u32, words: &[Word], line: &mut Bytes, out: &mut K) -> Flow
+pub fn list_words<K: Sink>(s: Slot, a: u32, words: &[Word], line: &mut Bytes, out: &mut K) -> Flow
     requires start { a < 2 ^ 18 }
     requires few { length words.now ≤ 8 }
     ensures told { Tells result Flow.On (text (listed s a words.now)) (K.written out.old) (K.written out.new) }
@@ -32,7 +32,7 @@ pub fn list_words<K: Sink>(s: u8, a: u32, words: &[Word], line: &mut Bytes, out:
 }
 
 /// One of them.
-fn list_word<K: Sink>(s: u8, a: u32, word: Word, line: &mut Bytes, out: &mut K) -> Flow
+fn list_word<K: Sink>(s: Slot, a: u32, word: Word, line: &mut Bytes, out: &mut K) -> Flow
     ensures told { Tells result Flow.On (text_of_line (Listed s a word)) (K.written out.old) (K.written out.new) }
     ensures cause { FlowCause result (K.faults out.old) (K.faults out.new) }
 {

@@ -1,6 +1,5 @@
 //! LOAD, and the words of the `a/` lines after it.
 ghost use Rattle.std.specs.Prelude.{◌≡◌, ◌≤◌, ◌<◌, ◌+◌, ◌^◌, Err, IfSome, IfOk, IfErr, OnOk, length, OnErr};
-ghost use Rattle.its_word.specs.Limits.{slots};
 ghost use Rattle.its_plain.specs.OperatorJobs.{with_words_loaded, with_words_stored, after_load};
 ghost use Rattle.its_stepped.specs.Unwind.{unwound};
 ghost use Rattle.its_world.specs.World.{state_of};
@@ -9,15 +8,14 @@ ghost use Rattle.its_monitor.specs.Kept.{Kept, Lands, Loads, Refused};
 
 use its_monitor::Monitor;
 use its_records::Refusal;
-use its_word::Word;
+use its_word::{Slot, Word};
 
 /// LOAD of a job on a console, or on none.
 #[tactic(auto, using(its_monitor::proofs::ConsoleLaws::refused_there))]
-pub fn load_job(m: &mut Monitor, u: Word, j: Word, console: Option<u8>) -> Result<u8, Refusal>
+pub fn load_job(m: &mut Monitor, u: Word, j: Word, console: Option<u8>) -> Result<Slot, Refusal>
     requires sound { Kept m.old.world }
     requires console { IfSome console (λ c. c < 8) }
     ensures done { IfOk result (λ s. Loads (state_of m.old.world) (state_of m.new.world) (after_load (state_of m.old.world).raw u j console) s) }
-    ensures slot { IfOk result (λ s. s < slots) }
     ensures refused { IfErr result (λ e. Refused (state_of m.old.world) (state_of m.old.world) (λ x. after_load x u j console) e) }
     ensures same { OnErr result (m.new ≡ m.old) }
     ensures sound { Kept m.new.world }
@@ -27,9 +25,8 @@ pub fn load_job(m: &mut Monitor, u: Word, j: Word, console: Option<u8>) -> Resul
 
 /// Loads the words of an a/ line, in order; all are tested for read-only pages before the first is stored.
 #[tactic(auto, using(crate::proofs::LoadingLaws::barred, crate::proofs::LoadingLaws::stored, crate::proofs::LoadingLaws::not_stored))]
-pub fn load_words(m: &mut Monitor, slot: u8, a: u32, words: &[Word]) -> Result<(), Refusal>
+pub fn load_words(m: &mut Monitor, slot: Slot, a: u32, words: &[Word]) -> Result<(), Refusal>
     requires sound { Kept m.old.world }
-    requires slot { slot < slots }
     requires some { 1 ≤ length words.now }
     requires end { a + length words.now ≤ 2 ^ 18 }
     ensures done { OnOk result (Lands (unwound (state_of m.old.world) slot) (state_of m.new.world) (with_words_loaded (unwound (state_of m.old.world) slot).raw slot a words.now)) }
@@ -44,9 +41,8 @@ pub fn load_words(m: &mut Monitor, slot: u8, a: u32, words: &[Word]) -> Result<(
 
 /// Stores the words of an a/ line, in order, and makes the pages that they need.
 #[tactic(auto, using(crate::proofs::LoadingLaws::loading_start, crate::proofs::LoadingLaws::loading_fails, crate::proofs::LoadingLaws::loading_end))]
-fn store_words(m: &mut Monitor, slot: u8, a: u32, words: &[Word]) -> Result<(), Refusal>
+fn store_words(m: &mut Monitor, slot: Slot, a: u32, words: &[Word]) -> Result<(), Refusal>
     requires sound { Kept m.old.world }
-    requires slot { slot < slots }
     requires some { 1 ≤ length words.now }
     requires end { a + length words.now ≤ 2 ^ 18 }
     ensures done { OnOk result (Lands (unwound (state_of m.old.world) slot) (state_of m.new.world) (with_words_stored (unwound (state_of m.old.world) slot).raw slot a words.now)) }

@@ -1,6 +1,5 @@
 //! An event is performed: what it does to the monitor and to the block, and what it shows.
 ghost use Rattle.std.specs.Prelude.{◌≡◌, ◌≤◌, ◌<◌, ◌+◌, ◌^◌, Ok, Err, IfSome, IfOk, IfErr, OnOk, List, length};
-ghost use Rattle.its_word.specs.Limits.{slots};
 ghost use Rattle.its_records.specs.declared.calls.Pace.{Pace};
 ghost use Rattle.its_session.specs.Fits.{EventFits};
 ghost use Rattle.its_plain.specs.Operator.{Block};
@@ -23,7 +22,7 @@ use super::ticking::paces_of;
 use arrayvec::ArrayVec;
 use its_monitor::Monitor;
 use its_records::{Event, Refusal};
-use its_word::Word;
+use its_word::{Slot, Word};
 
 /// Performs an event, unless the event ends the session. The letters of its ticks are then in the room for them, and nothing else is.
 #[tactic(auto, using(crate::proofs::PerformLaws::nothing_performed, crate::proofs::PerformLaws::run_performed, crate::proofs::PerformLaws::end_performed, crate::proofs::PerformLaws::end_file_performed, crate::proofs::PerformLaws::append_performed, crate::proofs::PerformLaws::version_performed, crate::proofs::PerformLaws::go_performed, crate::proofs::PerformLaws::words_performed, crate::proofs::PerformLaws::read_only_performed, crate::proofs::PerformLaws::symbol_performed, crate::proofs::PerformLaws::ticks_performed, crate::proofs::PerformLaws::typed_performed, crate::proofs::PerformLaws::drained_performed, crate::proofs::PerformLaws::int_performed, crate::proofs::PerformLaws::deposit_performed, crate::proofs::PerformLaws::stop_performed, crate::proofs::PerformLaws::cont_performed, crate::proofs::PerformLaws::clock_performed, crate::proofs::PerformLaws::console_fits, crate::proofs::PaceLaws::no_letters), unfolding(its_session::specs::Grammar::last_slot))]
@@ -34,12 +33,10 @@ pub fn perform(
     runs: &mut Runs,
 ) -> Result<Shown, Over>
     requires sound { Kept m.old.world }
-    requires slot { p.old.slot < slots }
     requires fits { EventFits 2 event.now }
     requires start { FindsStart event.now (state_of m.old.world) }
     ensures performed { Performed result (state_of m.old.world) (block_of p.old.slot p.old.file) event.now (paces_in runs.new.items) m.new.world (block_of p.new.slot p.new.file) }
     ensures sound { Kept m.new.world }
-    ensures slot { p.new.slot < slots }
     ensures kept { p.new.number ≡ p.old.number }
     ensures letters { length (paces_in runs.new.items) ≤ 512 }
 {
@@ -108,7 +105,6 @@ fn load(
     requires console { IfSome console (λ c. c < 8) }
     ensures performed { (ps : List Pace) → Performed result (state_of m.old.world) (block_of p.old.slot p.old.file) (Event.Load u j console) ps m.new.world (block_of p.new.slot p.new.file) }
     ensures sound { Kept m.new.world }
-    ensures slot { p.old.slot < slots → p.new.slot < slots }
     ensures kept { p.new.number ≡ p.old.number }
 {
     match load_job(m, u, j, console) {
@@ -121,9 +117,8 @@ fn load(
 }
 
 /// STATE: shows a job.
-fn state(m: &mut Monitor, s: u8) -> Result<Shown, Over>
+fn state(m: &mut Monitor, s: Slot) -> Result<Shown, Over>
     requires sound { Kept m.old.world }
-    requires slot { s < slots }
     ensures performed { (ps : List Pace) (b : Block) → Performed result (state_of m.old.world) b (Event.State s) ps m.new.world b }
     ensures sound { Kept m.new.world }
 {
@@ -138,9 +133,8 @@ fn state(m: &mut Monitor, s: u8) -> Result<Shown, Over>
 }
 
 /// EXAM: shows words of a slot.
-fn examine(m: &mut Monitor, s: u8, a: u32, n: u32) -> Result<Shown, Over>
+fn examine(m: &mut Monitor, s: Slot, a: u32, n: u32) -> Result<Shown, Over>
     requires sound { Kept m.old.world }
-    requires slot { s < slots }
     requires few { n ≤ 8 }
     requires some { 1 ≤ n }
     requires end { a + n ≤ 2 ^ 18 }
@@ -154,9 +148,8 @@ fn examine(m: &mut Monitor, s: u8, a: u32, n: u32) -> Result<Shown, Over>
 }
 
 /// LIST: shows words of a slot, typed out.
-fn list(m: &mut Monitor, s: u8, a: u32, n: u32) -> Result<Shown, Over>
+fn list(m: &mut Monitor, s: Slot, a: u32, n: u32) -> Result<Shown, Over>
     requires sound { Kept m.old.world }
-    requires slot { s < slots }
     requires few { n ≤ 8 }
     requires some { 1 ≤ n }
     requires end { a + n ≤ 2 ^ 18 }
@@ -170,9 +163,8 @@ fn list(m: &mut Monitor, s: u8, a: u32, n: u32) -> Result<Shown, Over>
 }
 
 /// PEEK: shows how far a slot's job is inside a call.
-fn peek(m: &Monitor, s: u8) -> Result<Shown, Over>
+fn peek(m: &Monitor, s: Slot) -> Result<Shown, Over>
     requires sound { Kept m.now.world }
-    requires slot { s < slots }
     ensures performed { (ps : List Pace) (b : Block) → Performed result (state_of m.now.world) b (Event.Peek s) ps m.now.world b }
 {
     match m.peek(s) {
@@ -183,9 +175,8 @@ fn peek(m: &Monitor, s: u8) -> Result<Shown, Over>
 
 /// The n words of a slot from an address on, or the first refusal.
 #[tactic(auto, using(crate::proofs::ExamLaws::exam_start, crate::proofs::ExamLaws::exam_next, crate::proofs::ExamLaws::exam_fails, crate::proofs::ExamLaws::exam_end, crate::proofs::ExamLaws::calm_start, crate::proofs::ExamLaws::calm_next))]
-pub fn words_of(m: &mut Monitor, s: u8, a: u32, n: u32) -> Result<ArrayVec<Word, 8>, Refusal>
+pub fn words_of(m: &mut Monitor, s: Slot, a: u32, n: u32) -> Result<ArrayVec<Word, 8>, Refusal>
     requires sound { Kept m.old.world }
-    requires slot { s < slots }
     requires few { n ≤ 8 }
     requires some { 1 ≤ n }
     requires end { a + n ≤ 2 ^ 18 }

@@ -1,10 +1,10 @@
-use its_word::Word;
+use its_word::{Slot, Word};
 
 /// The state of a session at a line: the number of the line, from 1; the slot of the job that the last LOAD line
 /// made; and the directory and the two names of the file that the last FILE line made.
 #[derive(Clone, Copy, Debug, PartialEq, Eq)]
 pub struct Progress {
     pub number: u32,
-    pub slot: u8,
+    pub slot: Slot,
     pub file: [Word; 3],
 }

@@ -1,6 +1,5 @@
-ghost use Rattle.std.specs.Prelude.{◌≡◌, ◌≢◌, ◌≤◌, ◌<◌, ◌-◌, ◌*◌, ◌^◌, ◌⊎◌, IfSome};
+ghost use Rattle.std.specs.Prelude.{◌≡◌, ◌≢◌, ◌≤◌, ◌-◌, ◌*◌, ◌^◌, ◌⊎◌, IfSome};
 ghost use Rattle.its_io.specs.Bytes.{Rose, next_fault};
-ghost use Rattle.its_word.specs.Limits.{slots};
 ghost use Rattle.its_plain.specs.Machine.{no_machine};
 ghost use Rattle.its_stepped.specs.State.{no_state};
 ghost use Rattle.its_world.specs.World.{state_of};
@@ -20,7 +19,7 @@ use super::writing::refuse;
 use its_io::{Sink, Source};
 use its_monitor::Monitor;
 use its_reader::{Found, Items};
-use its_word::Word;
+use its_word::{Slot, Word};
 
 /// Runs a session: takes its items one by one, and writes what each line shows before it looks at the next. It takes no memory. The monitor is as
 /// `Monitor::open` gives it.
@@ -61,7 +60,7 @@ fn run_items<S: Source, K: Sink>(m: &mut Monitor, src: &mut S, out: &mut K) -> S
     let file = [Word::ZERO; 3];
     let mut p = Progress {
         number: 0,
-        slot: 0,
+        slot: Slot::FIRST,
         file,
     };
     let mut last = HIGHEST;
@@ -83,20 +82,16 @@ fn run_items<S: Source, K: Sink>(m: &mut Monitor, src: &mut S, out: &mut K) -> S
 fn take<K: Sink>(
     m: &mut Monitor,
     p: &mut Progress,
-    last: &mut u8,
+    last: &mut Slot,
     found: &Found,
     room: &mut Room,
     out: &mut K,
 ) -> Flow
     requires sound { Kept m.old.world }
-    requires slot { p.old.slot < slots }
-    requires last { last.old < slots }
     requires fits { found_fits 2 found.now }
     requires start { FoundStart found.now (state_of m.old.world) }
     ensures takes { Takes result p.old.number (state_of m.old.world) (block_of p.old.slot p.old.file) last.old found.now (state_of m.new.world) (block_of p.new.slot p.new.file) last.new (K.written out.old) (K.written out.new) }
     ensures sound { Kept m.new.world }
-    ensures slot { p.new.slot < slots }
-    ensures last { last.new < slots }
     ensures number { p.new.number ≡ p.old.number }
     ensures cause { FlowCause result (K.faults out.old) (K.faults out.new) }
 {

@@ -1,16 +1,16 @@
 use arrayvec::ArrayVec;
 use its_records::{JobShow, Peek, Refusal};
-use its_word::Word;
+use its_word::{Slot, Word};
 
 /// What an event shows after which the session goes on. The letters of its ticks are in the room for them.
 #[derive(Debug, PartialEq, Eq, Drop)]
 pub enum Shown {
     Nothing,
     Loaded {
-        s: u8,
+        s: Slot,
     },
     Ticks {
-        s: u8,
+        s: Slot,
     },
     Typed {
         c: u8,
@@ -21,23 +21,23 @@ pub enum Shown {
         bytes: ArrayVec<u8, 64>,
     },
     Words {
-        s: u8,
+        s: Slot,
         a: u32,
         words: ArrayVec<Word, 8>,
     },
     /// Words of a slot from an address on, typed out, each in a line of its own.
     Listed {
-        s: u8,
+        s: Slot,
         a: u32,
         words: ArrayVec<Word, 8>,
     },
     State {
         version: u8,
-        s: u8,
+        s: Slot,
         show: JobShow,
     },
     Peeked {
-        s: u8,
+        s: Slot,
         peek: Peek,
     },
     /// The files of a directory, and how many there are: they are read while they are printed.

@@ -1,6 +1,5 @@
 //! The ticks of a slot, and the `T` line of their letters.
 ghost use Rattle.std.specs.Prelude.{◌≡◌, ◌≤◌, ◌<◌, ◌+◌, ◌∷◌, ◌++◌, [], length, replicate};
-ghost use Rattle.its_word.specs.Limits.{slots};
 ghost use Rattle.its_stepped.specs.Lines.{paces_of, after_ticks};
 ghost use Rattle.its_world.specs.World.{state_of};
 ghost use Rattle.its_monitor.specs.Kept.{Kept};
@@ -16,12 +15,12 @@ use its_io::Sink;
 use its_monitor::Monitor;
 use its_print::{Reply, Run};
 use its_records::Pace;
+use its_word::Slot;
 
 /// Ticks a slot n times, and writes the `T` line of the letters. The room loses what it had before.
 #[tactic(auto, using(crate::proofs::WritingLaws::told_as))]
-pub fn tick_line<K: Sink>(m: &mut Monitor, s: u8, n: u32, room: &mut Room, out: &mut K) -> Flow
+pub fn tick_line<K: Sink>(m: &mut Monitor, s: Slot, n: u32, room: &mut Room, out: &mut K) -> Flow
     requires sound { Kept m.old.world }
-    requires slot { s < slots }
     requires few { n ≤ 512 }
     ensures told { Tells result Flow.On (text_of_line (Ticks s (paces_of (state_of m.old.world) s n))) (K.written out.old) (K.written out.new) }
     ensures state { state_of m.new.world ≡ after_ticks (state_of m.old.world) s n }
@@ -36,9 +35,8 @@ pub fn tick_line<K: Sink>(m: &mut Monitor, s: u8, n: u32, room: &mut Room, out: 
 
 /// The letters of n ticks of a slot, as runs, which are put into an empty array. If the slot waits, they are known before any is made.
 #[tactic(auto, using(crate::proofs::PaceLaws::all_wait, crate::proofs::PaceLaws::paces_length))]
-pub fn paces_of(m: &mut Monitor, s: u8, n: u32, runs: &mut Runs)
+pub fn paces_of(m: &mut Monitor, s: Slot, n: u32, runs: &mut Runs)
     requires sound { Kept m.old.world }
-    requires slot { s < slots }
     requires few { n ≤ 512 }
     requires empty { runs.old.items ≡ [] }
     ensures paces { paces_in runs.new.items ≡ paces_of (state_of m.old.world) s n }
@@ -56,9 +54,8 @@ pub fn paces_of(m: &mut Monitor, s: u8, n: u32, runs: &mut Runs)
 /// The same, tick by tick. Ticks that follow one another and have the same letter are one run.
 #[inline(never)]
 #[tactic(auto, using(crate::proofs::PaceLaws::pacing_end))]
-fn paces_made(m: &mut Monitor, s: u8, n: u32, runs: &mut Runs)
+fn paces_made(m: &mut Monitor, s: Slot, n: u32, runs: &mut Runs)
     requires sound { Kept m.old.world }
-    requires slot { s < slots }
     requires few { n ≤ 512 }
     requires empty { runs.old.items ≡ [] }
     ensures paces { paces_in runs.new.items ≡ paces_of (state_of m.old.world) s n }
@@ -101,9 +98,8 @@ fn put_run(runs: &mut Runs, pace: Pace, count: u32)
 /// The letters of the first ticks of a slot, n at most: of one, and if the tick before it had the same letter, `last`, of all that surely have
 /// it too.
 #[tactic(auto, using(crate::proofs::PaceLaws::one_more, crate::proofs::PaceLaws::one_and_more))]
-fn run_of(m: &mut Monitor, s: u8, n: u32, last: Pace) -> Run
+fn run_of(m: &mut Monitor, s: Slot, n: u32, last: Pace) -> Run
     requires sound { Kept m.old.world }
-    requires slot { s < slots }
     requires some { 0 < n }
     ensures few { 1 + result.more ≤ n }
     ensures paces { paces_in (result ∷ []) ≡ paces_of (state_of m.old.world) s (1 + result.more) }
@@ -121,9 +117,8 @@ fn run_of(m: &mut Monitor, s: u8, n: u32, last: Pace) -> Run
 /// How many ticks of a slot, n at most, surely have the letter of the two before them: after steps all that follow in user mode, or all bytes
 /// that SIOT moves one after the other, and if the slot waits, all ticks. They are made.
 #[tactic(auto, using(crate::proofs::PaceLaws::like_these))]
-fn more_of(m: &mut Monitor, s: u8, pace: Pace, n: u32) -> u32
+fn more_of(m: &mut Monitor, s: Slot, pace: Pace, n: u32) -> u32
     requires sound { Kept m.old.world }
-    requires slot { s < slots }
     ensures few { result ≤ n }
     ensures paces { paces_of (state_of m.old.world) s result ≡ replicate result pace }
     ensures state { state_of m.new.world ≡ after_ticks (state_of m.old.world) s result }

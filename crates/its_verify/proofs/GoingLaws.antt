@@ -272,7 +272,7 @@ pub lines_shown : (e : Event) (a : Answer) (m : Machine) (r : Result (Option Out
 lines_shown (events.Peek s) a m r old new left rest b test is says = absurd (false≢true (sym is ∙ test))
 lines_shown e a m r old new left rest b test is says = says
 
-pub at_item_on : (r : Result (Option Outcome) Failed) (new : Verifier) (rest : Option (List ℕ)) → Stays r new.reader rest → Sure new.judge → new.judge.ended ≡ false → new.last < slots → StaysAtItem r new rest
-at_item_on (Ok None) new rest h sure going last = record { at_line = h; sure = sure; going = going; last = last }
-at_item_on (Ok (Some f)) new rest h sure going last = tt
-at_item_on (Err x) new rest h sure going last = tt
+pub at_item_on : (r : Result (Option Outcome) Failed) (new : Verifier) (rest : Option (List ℕ)) → Stays r new.reader rest → Sure new.judge → new.judge.ended ≡ false → StaysAtItem r new rest
+at_item_on (Ok None) new rest h sure going = record { at_line = h; sure = sure; going = going }
+at_item_on (Ok (Some f)) new rest h sure going = tt
+at_item_on (Err x) new rest h sure going = tt

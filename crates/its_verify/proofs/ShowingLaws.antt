@@ -175,8 +175,3 @@ no_file_is m d x y is = ap (λ (o : Option File). shown_if (λ out. out) (shown_
 
 pub nothing_says : (h : TranscriptReader) (left : Option (List ℕ)) (lines : List Line) → [] ≡ lines → (next : Ruling) → Says (Ok None) h h left left (expects lines next) next
 nothing_says h left lines is next = subst (λ (ls : List Line). Says (Ok None) h h left left (expects ls next) next) is (nothing_on h left next)
-
--- slots
-pub in_slots : (s : ℕ) → s ≤ last_slot 2 → s < slots
-unfolding last_slot
-in_slots s few = omega (arith, few)

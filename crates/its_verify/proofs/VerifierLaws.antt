@@ -68,11 +68,11 @@ ticks_fail_by o i k e old new left rest mid is h =
     ticks_fail i k e old new left rest mid (subst (λ (x : Result (Option Outcome) Failed). ReadsOn x old.reader mid left rest) is h)
 
 pub ticks_stay : (i k : ℕ) (o : Option Outcome) (licensed : Bool) (was : Judge) (text : List ℕ) (mid : TranscriptReader) (new : Verifier) (rest : Option (List ℕ)) → Reads mid rest
-    → AllLed licensed was new.judge text i k → PassedIf o licensed mid new.reader → new.last < slots → StaysAtItem (Ok o) new rest
-ticks_stay i k None false was text mid new rest h all r last = absurd (false≢true r.0)
-ticks_stay i k None true was text mid new rest h all r last =
-    record { at_line = at_line_on mid new.reader rest h r.1; sure = all.0; going = all.1; last = last }
-ticks_stay i k (Some f) licensed was text mid new rest h all r last = tt
+    → AllLed licensed was new.judge text i k → PassedIf o licensed mid new.reader → StaysAtItem (Ok o) new rest
+ticks_stay i k None false was text mid new rest h all r = absurd (false≢true r.0)
+ticks_stay i k None true was text mid new rest h all r =
+    record { at_line = at_line_on mid new.reader rest h r.1; sure = all.0; going = all.1 }
+ticks_stay i k (Some f) licensed was text mid new rest h all r = tt
 
 -- a line that asks for no turns
 pub no_turns : (t : Verifier) (left : Option (List ℕ)) (n q : ℕ) → n ≡ 0 → TurnsSay (Ok None) t t left left n q
@@ -155,10 +155,10 @@ turns_fail_by r e old now new n k q s left mid rest is less so turn says b l nex
     (λ last. subst (λ x. TicksSay x now new mid rest s q) is says b l (λ w. turned (n - (k + 1)) q w s next) (λ w. turned_forward (n - (k + 1)) q w s next forward))
     (forward (walk_of new.judge b l) new.last)
 
-pub stays_by : (r : Result (Option Outcome) Failed) (new : Verifier) (s : ℕ) (rest : Option (List ℕ)) → r ≡ Ok None → StaysAtItem r new rest → s < slots → AtItem (record new { last = s }) rest
-stays_by (Ok None) new s rest is h below = record { at_line = h.at_line; sure = h.sure; going = h.going; last = below }
-stays_by (Ok (Some f)) new s rest is h below = cc
-stays_by (Err e) new s rest is h below = cc
+pub stays_by : (r : Result (Option Outcome) Failed) (new : Verifier) (s : ℕ) (rest : Option (List ℕ)) → r ≡ Ok None → StaysAtItem r new rest → AtItem (record new { last = s }) rest
+stays_by (Ok None) new s rest is h = record { at_line = h.at_line; sure = h.sure; going = h.going }
+stays_by (Ok (Some f)) new s rest is h = cc
+stays_by (Err e) new s rest is h = cc
 
 pub unfailed_by : (r : Result (Option Outcome) Failed) (a b c : ℕ) → r ≡ Ok None → HasCause a b r → a ≡ c → b ≡ c
 unfailed_by (Ok o) a b c is h so = h.kept ∙ so

@@ -22,7 +22,6 @@ pub record AtItem (t : Verifier) (left : Option (List ℕ)) : Type 0 where
   pub at_line : AtLine t.reader left
   pub sure : Sure t.judge
   pub going : t.judge.ended ≡ false
-  pub last : t.last < slots
 
 -- if it goes on, all holds together
 abbrev pub StaysAtItem : Result (Option Outcome) Failed → Verifier → Option (List ℕ) → Type 0

@@ -1,5 +1,5 @@
 //! The judge: the plain machine of a session, and how many `.` came for each slot.
-ghost use Rattle.std.specs.Prelude.{◌≡◌, ◌<◌, ◌≤◌, ◌∷◌, ◌-◌, replicate, true, false, not, Ok, IfOk, IfSome, OnOk, OnErr};
+ghost use Rattle.std.specs.Prelude.{◌≡◌, ◌≤◌, ◌∷◌, ◌-◌, replicate, true, false, not, Ok, IfOk, IfSome, OnOk, OnErr};
 ghost use Rattle.its_word.specs.Limits.{slots};
 ghost use Rattle.its_session.specs.Events.{place_after};
 ghost use Rattle.its_session.specs.Fits.{EventFits};
@@ -16,7 +16,7 @@ use super::ticks::read_ticks;
 use its_direct::{Answer, NoMemory, Plain, Spot};
 use its_print::Run;
 use its_records::{Event, Pace, Refusal};
-use its_word::SLOTS;
+use its_word::{SLOTS, Slot};
 use std::alloc::Global;
 
 /// No more `.` than this come in a row.
@@ -70,9 +70,8 @@ impl Judge {
     }
 
     /// Whether a letter of a slot is licensed: the machine moves accordingly. If it is not, nothing more is to be asked.
-    pub fn licensed(&mut self, slot: u8, pace: Pace) -> bool
+    pub fn licensed(&mut self, slot: Slot, pace: Pace) -> bool
         requires going { self.old.ended ≡ false }
-        requires slot { slot < slots }
         requires outside { self.old.plain.place ≡ Spot.Plain }
         requires sure { Sure self.old }
         ensures led { LedIf result self.old self.new slot pace }
@@ -86,8 +85,7 @@ impl Judge {
     }
 
     /// The same; whether it ended is not said.
-    fn takes(&mut self, slot: u8, pace: Pace) -> bool
-        requires slot { slot < slots }
+    fn takes(&mut self, slot: Slot, pace: Pace) -> bool
         requires outside { self.old.plain.place ≡ Spot.Plain }
         requires sure { Sure self.old }
         ensures led { LedIf result self.old self.new slot pace }
@@ -104,9 +102,8 @@ impl Judge {
 
     /// Whether the letters of some runs of a slot are licensed, each in its turn.
     #[tactic(auto, using(crate::proofs::LettersLaws::runs_start, crate::proofs::LettersLaws::runs_on, crate::proofs::LettersLaws::runs_stop, crate::proofs::LettersLaws::runs_end))]
-    pub fn runs_licensed(&mut self, slot: u8, runs: &[Run]) -> bool
+    pub fn runs_licensed(&mut self, slot: Slot, runs: &[Run]) -> bool
         requires going { self.old.ended ≡ false }
-        requires slot { slot < slots }
         requires outside { self.old.plain.place ≡ Spot.Plain }
         requires sure { Sure self.old }
         ensures led { RunsLed result self.old self.new slot (paces_in runs.now) }
@@ -124,9 +121,8 @@ impl Judge {
 
     /// The same of one run.
     #[tactic(auto, using(crate::proofs::JudgeStateLaws::again, crate::proofs::LettersLaws::run_start, crate::proofs::LettersLaws::run_first_stops, crate::proofs::LettersLaws::run_on, crate::proofs::LettersLaws::run_stops, crate::proofs::LettersLaws::run_end))]
-    fn run_licensed(&mut self, slot: u8, run: Run) -> bool
+    fn run_licensed(&mut self, slot: Slot, run: Run) -> bool
         requires going { self.old.ended ≡ false }
-        requires slot { slot < slots }
         requires outside { self.old.plain.place ≡ Spot.Plain }
         requires sure { Sure self.old }
         ensures led { RunLed result self.old self.new slot (run.pace ∷ replicate run.more run.pace) }
@@ -149,10 +145,9 @@ impl Judge {
     /// Takes at once, of the letters of a run after its first, which is licensed, as many `*` as are units of a slot's job in a row, or
     /// parts of one call, and all that change nothing; how many.
     #[tactic(auto, using(crate::proofs::LettersLaws::waits_again, crate::proofs::LettersLaws::off_again))]
-    fn taken(&mut self, slot: u8, run: Run) -> u32
+    fn taken(&mut self, slot: Slot, run: Run) -> u32
         requires going { self.old.ended ≡ false }
         requires again { Again run.pace self.old slot }
-        requires slot { slot < slots }
         requires outside { self.old.plain.place ≡ Spot.Plain }
         requires sure { Sure self.old }
         ensures few { result ≤ run.more }
@@ -171,9 +166,8 @@ impl Judge {
 
     /// Takes as many `*` as are units of a slot's job in a row, or if there is none as are parts of its call, n at most; how many.
     #[tactic(auto, using(crate::proofs::LettersLaws::run_then))]
-    fn steps(&mut self, slot: u8, n: u32) -> u32
+    fn steps(&mut self, slot: Slot, n: u32) -> u32
         requires going { self.old.ended ≡ false }
-        requires slot { slot < slots }
         requires outside { self.old.plain.place ≡ Spot.Plain }
         requires sure { Sure self.old }
         ensures few { result ≤ n }
@@ -191,9 +185,8 @@ impl Judge {
 
     /// Takes as many `*` as are parts of the call of a slot's job that disturb nobody, n at most; how many.
     #[tactic(auto, using(crate::proofs::SeriesLaws::parts_none, crate::proofs::SeriesLaws::parts_some, crate::proofs::JudgeStateLaws::sure_is, crate::proofs::JudgeStateLaws::sure_still))]
-    fn parts(&mut self, slot: u8, n: u32) -> u32
+    fn parts(&mut self, slot: Slot, n: u32) -> u32
         requires going { self.old.ended ≡ false }
-        requires slot { slot < slots }
         requires outside { self.old.plain.place ≡ Spot.Plain }
         requires sure { Sure self.old }
         ensures few { result ≤ n }
@@ -202,19 +195,18 @@ impl Judge {
         ensures sure { Sure self.new }
         ensures place { self.new.plain.place ≡ self.old.plain.place }
     {
-        let made = self.plain.parts(slot, n);
+        let made = self.plain.parts(slot.number(), n);
         if made == 0 {
             return 0;
         }
-        self.dots[usize::from(slot)] = 0;
+        self.dots[slot.index()] = 0;
         made
     }
 
     /// Takes as many `*` as are units of a slot's job in a row, n at most; how many.
     #[tactic(auto, using(crate::proofs::SeriesLaws::units_none, crate::proofs::SeriesLaws::units_some, crate::proofs::JudgeStateLaws::sure_is, crate::proofs::JudgeStateLaws::sure_still))]
-    fn units(&mut self, slot: u8, n: u32) -> u32
+    fn units(&mut self, slot: Slot, n: u32) -> u32
         requires going { self.old.ended ≡ false }
-        requires slot { slot < slots }
         requires outside { self.old.plain.place ≡ Spot.Plain }
         requires sure { Sure self.old }
         ensures few { result ≤ n }
@@ -223,19 +215,18 @@ impl Judge {
         ensures sure { Sure self.new }
         ensures place { self.new.plain.place ≡ self.old.plain.place }
     {
-        let made = self.plain.steps(slot, n);
+        let made = self.plain.steps(slot.number(), n);
         if made == 0 {
             return 0;
         }
-        self.dots[usize::from(slot)] = 0;
+        self.dots[slot.index()] = 0;
         made
     }
 
     /// Whether a line says so many letters of a slot, and each is licensed in its turn.
     #[tactic(auto, using(crate::proofs::LettersLaws::all_led, crate::proofs::LettersLaws::not_read))]
-    pub fn says_ticks(&mut self, line: &[u8], slot: u8, count: u32, room: &mut Room) -> bool
+    pub fn says_ticks(&mut self, line: &[u8], slot: Slot, count: u32, room: &mut Room) -> bool
         requires going { self.old.ended ≡ false }
-        requires slot { slot < slots }
         requires few { count ≤ 512 }
         requires outside { self.old.plain.place ≡ Spot.Plain }
         requires sure { Sure self.old }
@@ -250,26 +241,25 @@ impl Judge {
 
     /// The slot whose turn it is, after a turn of slot `last`; None if no job runs.
     #[tactic(auto, using(its_robin::proofs::RobinLaws::turn_behind, its_robin::proofs::RobinLaws::turn_around))]
-    pub fn turn_after(&self, last: u8) -> Option<u8>
-        requires last { last < slots }
+    pub fn turn_after(&self, last: Slot) -> Option<Slot>
         ensures turn { result ≡ turn_after (machine_of self.now.plain) last }
-        ensures slot { IfSome result (λ s. s < slots) }
     {
-        match self.first_running(last + 1, SLOTS as u8) {
+        let next = last.number() + 1;
+        match self.first_running(next, SLOTS as u8) {
             Some(slot) => Some(slot),
-            None => self.first_running(0, last + 1),
+            None => self.first_running(0, next),
         }
     }
 
     /// The first slot whose job runs, of those from one on and before another.
     #[tactic(auto, using(its_robin::proofs::RobinLaws::first_next, its_robin::proofs::RobinLaws::first_found, its_robin::proofs::RobinLaws::first_end))]
-    fn first_running(&self, from: u8, to: u8) -> Option<u8>
+    fn first_running(&self, from: u8, to: u8) -> Option<Slot>
         requires order { from ≤ to }
         requires within { to ≤ slots }
         ensures first { result ≡ first_running (runs (machine_of self.now.plain)) (to - from) from }
-        ensures slot { IfSome result (λ s. s < slots) }
     {
         for slot in from..to {
+            let slot = Slot::new(slot);
             if self.runs(slot) {
                 return Some(slot);
             }
@@ -279,46 +269,43 @@ impl Judge {
 
     /// `*`: the step of a slot's job, if it has one.
     #[tactic(auto, using(crate::proofs::JudgeStateLaws::step_led, crate::proofs::JudgeStateLaws::step_not_led, crate::proofs::JudgeStateLaws::sure_is, crate::proofs::JudgeStateLaws::makes_place))]
-    fn takes_step(&mut self, slot: u8) -> bool
-        requires slot { slot < slots }
+    fn takes_step(&mut self, slot: Slot) -> bool
         requires outside { self.old.plain.place ≡ Spot.Plain }
         requires sure { Sure self.old }
         ensures led { LedIf result self.old self.new slot Pace.Step }
         ensures sure { result ≡ true → Sure self.new }
         ensures place { self.new.plain.place ≡ self.old.plain.place }
     {
-        if !self.plain.step(slot) {
+        if !self.plain.step(slot.number()) {
             return false;
         }
-        self.dots[usize::from(slot)] = 0;
+        self.dots[slot.index()] = 0;
         self.forget_touched();
         true
     }
 
     /// `.`: one more of a slot whose job runs, if fewer than 16 came.
     #[tactic(auto, using(crate::proofs::JudgeStateLaws::dot_led, crate::proofs::JudgeStateLaws::dot_not_led, crate::proofs::JudgeStateLaws::dot_still, crate::proofs::JudgeStateLaws::sure_still))]
-    fn takes_dot(&mut self, slot: u8) -> bool
-        requires slot { slot < slots }
+    fn takes_dot(&mut self, slot: Slot) -> bool
         requires sure { Sure self.old }
         ensures led { LedIf result self.old self.new slot Pace.Work }
         ensures sure { result ≡ true → Sure self.new }
         ensures place { self.new.plain.place ≡ self.old.plain.place }
     {
-        let dots = self.dots[usize::from(slot)];
+        let dots = self.dots[slot.index()];
         if !self.runs(slot) {
             return false;
         }
         if dots >= MOST_DOTS {
             return false;
         }
-        self.dots[usize::from(slot)] = dots + 1;
+        self.dots[slot.index()] = dots + 1;
         true
     }
 
     /// `w`: a slot's job runs, and has no step.
     #[tactic(auto, using(crate::proofs::JudgeStateLaws::wait_led, crate::proofs::JudgeStateLaws::wait_not_led, crate::proofs::JudgeStateLaws::wait_still, crate::proofs::JudgeStateLaws::makes_place))]
-    fn waits(&mut self, slot: u8) -> bool
-        requires slot { slot < slots }
+    fn waits(&mut self, slot: Slot) -> bool
         requires outside { self.old.plain.place ≡ Spot.Plain }
         requires sure { Sure self.old }
         ensures led { LedIf result self.old self.new slot Pace.Wait }
@@ -328,13 +315,12 @@ impl Judge {
         if !self.runs(slot) {
             return false;
         }
-        !self.plain.step(slot)
+        !self.plain.step(slot.number())
     }
 
     /// `-`: a slot has no job, or its job is stopped.
     #[tactic(auto, using(crate::proofs::JudgeStateLaws::off_led))]
-    fn is_off(&mut self, slot: u8) -> bool
-        requires slot { slot < slots }
+    fn is_off(&mut self, slot: Slot) -> bool
         requires sure { Sure self.old }
         ensures led { LedIf result self.old self.new slot Pace.Off }
         ensures sure { result ≡ true → Sure self.new }
@@ -344,11 +330,10 @@ impl Judge {
     }
 
     /// Whether the job of a slot runs.
-    fn runs(&self, slot: u8) -> bool
-        requires { slot < slots }
+    fn runs(&self, slot: Slot) -> bool
         ensures { result ≡ is_running ((machine_of self.now.plain).jobs slot) }
     {
-        self.plain.runs(slot)
+        self.plain.runs(slot.number())
     }
 
     /// No `.` came since for the slots that were touched.

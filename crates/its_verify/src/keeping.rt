@@ -1,5 +1,5 @@
 //! The session of an input: all up to and with the first line whose only word is END.
-ghost use Rattle.std.specs.Prelude.{◌≡◌, ◌≢◌, ◌≤◌, ◌<◌, ◌-◌, ◌==◌, ◌&&◌, [], Ok, Err, codes};
+ghost use Rattle.std.specs.Prelude.{◌≡◌, ◌≢◌, ◌≤◌, ◌-◌, ◌==◌, ◌&&◌, [], Ok, Err, codes};
 ghost use Rattle.std.specs.List.{list_all};
 ghost use Rattle.its_io.specs.Bytes.{next_fault};
 ghost use Rattle.its_session.specs.Events.{most_lines};

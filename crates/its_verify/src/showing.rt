@@ -2,7 +2,6 @@
 ghost use Rattle.std.specs.Prelude.{◌≡◌, ◌≤◌, ◌<◌, ◌+◌, ◌*◌, ◌/◌, ◌^◌, true, [], ◌∷◌, IsOk, length, map, take, drop};
 ghost use Rattle.std.specs.List.{list_all};
 ghost use Rattle.its_io.specs.Bytes.{HasCause};
-ghost use Rattle.its_word.specs.Limits.{slots};
 ghost use Rattle.its_files.specs.Files.{entry_at, is_file, file_at as file_of, words_at};
 ghost use Rattle.its_print.specs.Printing.{Dir, Drained, Filed, Row, State, listed};
 ghost use Rattle.its_session.specs.Fits.{EventFits};
@@ -21,7 +20,7 @@ use its_direct::{Answer, Plain};
 use its_io::{Failed, Source};
 use its_print::Reply;
 use its_records::Event;
-use its_word::Word;
+use its_word::{Slot, Word};
 
 /// How many words a line of SHOW has.
 const ROW_WORDS: u32 = 8;
@@ -131,12 +130,11 @@ fn show_words<S: Source>(
     reader: &mut TranscriptReader,
     src: &mut S,
     plain: &Plain,
-    s: u8,
+    s: Slot,
     a: u32,
     n: u32,
     line: &mut Bytes,
 ) -> Result<Option<Outcome>, Failed>
-    requires slot { s < slots }
     requires address { a < 2 ^ 18 }
     requires few { n ≤ 8 }
     requires there { IsOk (examined (machine_of plain.now) s a n) }
@@ -145,7 +143,7 @@ fn show_words<S: Source>(
     ensures stays { Stays result reader.new (S.left src.new) }
     ensures cause { HasCause (S.faults src.old) (S.faults src.new) result }
 {
-    let Ok(words) = plain.words(s, a, n) else {
+    let Ok(words) = plain.words(s.number(), a, n) else {
         unreachable!()
     };
     let words = words.as_slice();
@@ -158,12 +156,11 @@ fn list_words<S: Source>(
     reader: &mut TranscriptReader,
     src: &mut S,
     plain: &Plain,
-    s: u8,
+    s: Slot,
     a: u32,
     n: u32,
     line: &mut Bytes,
 ) -> Result<Option<Outcome>, Failed>
-    requires slot { s < slots }
     requires address { a < 2 ^ 18 }
     requires few { n ≤ 8 }
     requires there { IsOk (examined (machine_of plain.now) s a n) }
@@ -172,7 +169,7 @@ fn list_words<S: Source>(
     ensures stays { Stays result reader.new (S.left src.new) }
     ensures cause { HasCause (S.faults src.old) (S.faults src.new) result }
 {
-    let Ok(words) = plain.words(s, a, n) else {
+    let Ok(words) = plain.words(s.number(), a, n) else {
         unreachable!()
     };
     list_each(reader, src, s, a, words.as_slice(), line)
@@ -183,7 +180,7 @@ fn list_words<S: Source>(
 fn list_each<S: Source>(
     reader: &mut TranscriptReader,
     src: &mut S,
-    s: u8,
+    s: Slot,
     a: u32,
     words: &[Word],
     line: &mut Bytes,
@@ -216,17 +213,16 @@ fn show_state<S: Source>(
     reader: &mut TranscriptReader,
     src: &mut S,
     plain: &Plain,
-    s: u8,
+    s: Slot,
     line: &mut Bytes,
 ) -> Result<Option<Outcome>, Failed>
-    requires slot { s < slots }
     requires there { IsOk (state_shown (machine_of plain.now) s) }
     requires at_line { AtLine reader.old (S.left src.old) }
     ensures says { (next : Ruling) → Says result reader.old reader.new (S.left src.old) (S.left src.new) (expects (shown_if (λ show. State (machine_of plain.now).version s show ∷ []) (state_shown (machine_of plain.now) s)) next) next }
     ensures stays { Stays result reader.new (S.left src.new) }
     ensures cause { HasCause (S.faults src.old) (S.faults src.new) result }
 {
-    match plain.shown(s) {
+    match plain.shown(s.number()) {
         Ok(show) => {
             let version = plain.version;
             let show = &show;

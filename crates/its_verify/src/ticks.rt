@@ -10,11 +10,12 @@ use super::room::{Bytes, Room, Runs};
 use arrayvec::ArrayVec;
 use its_print::{Reply, Run, print_reply};
 use its_records::Pace;
+use its_word::Slot;
 
 /// Reads the runs of letters in a line, which has its LF, into the room for them, for `count` ticks of slot `slot`, of which there are at
 /// most 512; whether it is the text of a `T` line of that slot with so many letters.
 #[tactic(auto, using(crate::proofs::TickLaws::ticks_read, crate::proofs::TickLaws::ticks_other, crate::proofs::TickLaws::ticks_few))]
-pub fn read_ticks(line: &[u8], slot: u8, count: u32, room: &mut Room) -> bool
+pub fn read_ticks(line: &[u8], slot: Slot, count: u32, room: &mut Room) -> bool
     requires { count ≤ 512 }
     ensures some { result ≡ true → ticks_in slot count line.now ≡ Some (paces_in room.new.runs.items) }
     ensures none { result ≡ false → ticks_in slot count line.now ≡ None }
@@ -28,7 +29,7 @@ pub fn read_ticks(line: &[u8], slot: u8, count: u32, room: &mut Room) -> bool
 /// Whether a line is the `T` line of a slot with these runs; its text is printed into the room for it.
 fn is_line_of<const N: usize>(
     line: &[u8],
-    slot: u8,
+    slot: Slot,
     runs: &ArrayVec<Run, N>,
     text: &mut Bytes,
 ) -> bool

@@ -1,7 +1,6 @@
 //! A verifier: a judge and the lines of a transcript together, along a session.
-ghost use Rattle.std.specs.Prelude.{◌≡◌, ◌<◌, ◌≤◌, ◌∷◌, ℕ, [], false, None, Ok};
+ghost use Rattle.std.specs.Prelude.{◌≡◌, ◌≤◌, ◌∷◌, ℕ, [], false, None, Ok};
 ghost use Rattle.its_io.specs.Bytes.{HasCause};
-ghost use Rattle.its_word.specs.Limits.{slots};
 ghost use Rattle.its_print.specs.Printing.{Refused};
 ghost use Rattle.its_session.specs.Events.{place_after};
 ghost use Rattle.its_session.specs.Fits.{EventFits};
@@ -20,6 +19,7 @@ use super::transcript_reader::TranscriptReader;
 use its_direct::{Answer, Spot};
 use its_io::{Failed, Source};
 use its_records::{Event, Reason};
+use its_word::Slot;
 
 /// The judge of a session, the lines of its transcript, and the slot of the last turn of a RUN line (before the first one the
 /// highest slot); and room for what a line says.
@@ -27,7 +27,7 @@ use its_records::{Event, Reason};
 pub struct Verifier {
     pub judge: Judge,
     pub reader: TranscriptReader,
-    pub last: u8,
+    pub last: Slot,
     pub room: Room,
 }
 
@@ -46,10 +46,9 @@ impl Verifier {
     pub fn ticks<S: Source>(
         &mut self,
         src: &mut S,
-        slot: u8,
+        slot: Slot,
         count: u32,
     ) -> Result<Option<Outcome>, Failed>
-        requires slot { slot < slots }
         requires few { count ≤ 512 }
         requires outside { self.old.judge.plain.place ≡ Spot.Plain }
         requires at_item { AtItem self.old (S.left src.old) }

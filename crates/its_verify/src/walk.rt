@@ -21,7 +21,7 @@ use its_direct::Spot;
 use its_io::{Failed, SafeSource, Source};
 use its_reader::{Found, Items, Texts};
 use its_records::Event;
-use its_word::SLOTS;
+use its_word::Slot;
 use std::alloc::Global;
 
 /// The most bytes of a line of a session before its LF, and of a line of a transcript.
@@ -33,7 +33,7 @@ const TRANSCRIPT_BYTES: usize = 1543;
 const MOST_LINES: u32 = 1 << 20;
 
 /// The slot of the last turn, before the first one of a session.
-const HIGHEST: u8 = SLOTS as u8 - 1;
+const HIGHEST: Slot = Slot::LAST;
 
 /// What is said of a session and its transcript, which a source gives one after the other. The session is kept in memory; the
 /// transcript is not.

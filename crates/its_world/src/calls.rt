@@ -16,7 +16,7 @@ use super::world::World;
 use arrayvec::ArrayVec;
 use its_calls::{Next, View};
 use its_records::{Owed, Site};
-use its_word::{Fault, Word};
+use its_word::{Fault, Slot, Word};
 
 impl World {
     /// The frame of a slot.
@@ -104,7 +104,7 @@ impl World {
         ensures written { IfSome (entered_in (call_in self.old slot)) (λ s. SlotWritten self.old self.new slot (job_at self.old.jobs slot) (after_parse s (parse_of (core_at self.old.core slot) s))) }
         ensures fault { IfSome (entered_in (call_in self.old slot)) (λ s. fault_of result ≡ fault_of (parse_of (core_at self.old.core slot) s)) }
     {
-        self.frames[usize::from(slot)].parse(&self.core, slot)
+        self.frames[usize::from(slot)].parse(&self.core, Slot::new(slot))
     }
 
     /// The arguments of the call of a slot are found, and their values are taken. At a fault the job is in user mode again.
@@ -131,7 +131,7 @@ impl World {
         ensures written { IfSome (parsed_in (call_in self.old slot)) (λ f. SlotWritten self.old self.new slot (job_at self.old.jobs slot) (after_fetch f.site (fetch_of (core_at self.old.core slot) f.site f.block))) }
         ensures fault { IfSome (parsed_in (call_in self.old slot)) (λ f. fault_of result ≡ fault_of (fetch_of (core_at self.old.core slot) f.site f.block)) }
     {
-        self.frames[usize::from(slot)].fetch(&self.core, slot)
+        self.frames[usize::from(slot)].fetch(&self.core, Slot::new(slot))
     }
 
     /// The call of a slot goes on.

@@ -2,7 +2,6 @@
 //! known, so its plan stays in registers, and its stores are made in place.
 ghost use Rattle.std.specs.Prelude.{◌≡◌, ◌<◌, ◌^◌};
 ghost use Rattle.its_core.specs.Cores.{core_at};
-ghost use Rattle.its_word.specs.Limits.{slots};
 ghost use Rattle.its_plain.specs.Unit.{outcome_of, unit as unit_of};
 ghost use Rattle.its_plain.specs.UnitArith.{arithmetic_row, boolean_row, shift_row};
 ghost use Rattle.its_plain.specs.UnitBytes.{byte_row};
@@ -25,13 +24,12 @@ use super::units::{Ended, fault_bit, rarely};
 use its_core::Core;
 use its_records::Job;
 use its_word::{
-    ArithmeticOp, BranchOp, ByteOp, Context, Fault, MaskOp, Mode, MoveOp, ShiftOp, StackOp,
+    ArithmeticOp, BranchOp, ByteOp, Context, Fault, MaskOp, Mode, MoveOp, ShiftOp, Slot, StackOp,
 };
 
 /// Does what is planned for the unit of a job.
 #[inline(always)]
-fn made(planned: Result<Draft, Fault>, core: &mut Core, slot: u8, job: &mut Job) -> Ended
-    requires slot { slot < slots }
+fn made(planned: Result<Draft, Fault>, core: &mut Core, slot: Slot, job: &mut Job) -> Ended
     requires pc { job.old.pc < 2 ^ 18 }
     requires unit { outcome_of (core_at core.old slot) job.old planned ≡ unit_of (core_at core.old slot) job.old }
     ensures { InPlace result (unit_of (core_at core.old slot) job.old) core.old core.new slot job.old job.new }
@@ -48,8 +46,7 @@ fn made(planned: Result<Draft, Fault>, core: &mut Core, slot: u8, job: &mut Job)
 
 /// MOVE, MOVS, MOVN, MOVM.
 #[inline(always)]
-fn moving(core: &mut Core, slot: u8, job: &mut Job, x: &Context, op: MoveOp, mode: Mode) -> Ended
-    requires slot { slot < slots }
+fn moving(core: &mut Core, slot: Slot, job: &mut Job, x: &Context, op: MoveOp, mode: Mode) -> Ended
     requires pc { job.old.pc < 2 ^ 18 }
     requires fits { ContextFits x.now }
     requires unit { outcome_of (core_at core.old slot) job.old (move_row (core_at core.old slot) x.now op mode) ≡ unit_of (core_at core.old slot) job.old }
@@ -60,8 +57,7 @@ fn moving(core: &mut Core, slot: u8, job: &mut Job, x: &Context, op: MoveOp, mod
 
 /// HLL to HLRE.
 #[inline(always)]
-fn halving(core: &mut Core, slot: u8, job: &mut Job, x: &Context, k: u32, mode: Mode) -> Ended
-    requires slot { slot < slots }
+fn halving(core: &mut Core, slot: Slot, job: &mut Job, x: &Context, k: u32, mode: Mode) -> Ended
     requires pc { job.old.pc < 2 ^ 18 }
     requires fits { ContextFits x.now }
     requires k { k < 16 }
@@ -75,13 +71,12 @@ fn halving(core: &mut Core, slot: u8, job: &mut Job, x: &Context, k: u32, mode: 
 #[inline(always)]
 fn working(
     core: &mut Core,
-    slot: u8,
+    slot: Slot,
     job: &mut Job,
     x: &Context,
     op: ArithmeticOp,
     mode: Mode,
 ) -> Ended
-    requires slot { slot < slots }
     requires pc { job.old.pc < 2 ^ 18 }
     requires fits { ContextFits x.now }
     requires unit { outcome_of (core_at core.old slot) job.old (arithmetic_row (core_at core.old slot) x.now op mode) ≡ unit_of (core_at core.old slot) job.old }
@@ -92,8 +87,7 @@ fn working(
 
 /// ASH, ROT, LSH, JFFO, ASHC, ROTC, LSHC.
 #[inline(always)]
-fn shifting(core: &mut Core, slot: u8, job: &mut Job, x: &Context, op: ShiftOp) -> Ended
-    requires slot { slot < slots }
+fn shifting(core: &mut Core, slot: Slot, job: &mut Job, x: &Context, op: ShiftOp) -> Ended
     requires pc { job.old.pc < 2 ^ 18 }
     requires fits { ContextFits x.now }
     requires unit { outcome_of (core_at core.old slot) job.old (shift_row (core_at core.old slot) x.now op) ≡ unit_of (core_at core.old slot) job.old }
@@ -104,8 +98,7 @@ fn shifting(core: &mut Core, slot: u8, job: &mut Job, x: &Context, op: ShiftOp) 
 
 /// SETZ to SETO.
 #[inline(always)]
-fn combining(core: &mut Core, slot: u8, job: &mut Job, x: &Context, k: u32, mode: Mode) -> Ended
-    requires slot { slot < slots }
+fn combining(core: &mut Core, slot: Slot, job: &mut Job, x: &Context, k: u32, mode: Mode) -> Ended
     requires pc { job.old.pc < 2 ^ 18 }
     requires fits { ContextFits x.now }
     requires k { k < 16 }
@@ -117,8 +110,7 @@ fn combining(core: &mut Core, slot: u8, job: &mut Job, x: &Context, k: u32, mode
 
 /// BLT, AOBJP, AOBJN, JRST, JFCL.
 #[inline(always)]
-fn jumping(core: &mut Core, slot: u8, job: &mut Job, x: &Context, op: BranchOp) -> Ended
-    requires slot { slot < slots }
+fn jumping(core: &mut Core, slot: Slot, job: &mut Job, x: &Context, op: BranchOp) -> Ended
     requires pc { job.old.pc < 2 ^ 18 }
     requires fits { ContextFits x.now }
     requires unit { outcome_of (core_at core.old slot) job.old (branch_row (core_at core.old slot) x.now op) ≡ unit_of (core_at core.old slot) job.old }
@@ -129,8 +121,7 @@ fn jumping(core: &mut Core, slot: u8, job: &mut Job, x: &Context, op: BranchOp) 
 
 /// PUSHJ, PUSH, POP, POPJ, JSR, JSP, JSA, JRA.
 #[inline(always)]
-fn stacking(core: &mut Core, slot: u8, job: &mut Job, x: &Context, op: StackOp) -> Ended
-    requires slot { slot < slots }
+fn stacking(core: &mut Core, slot: Slot, job: &mut Job, x: &Context, op: StackOp) -> Ended
     requires pc { job.old.pc < 2 ^ 18 }
     requires fits { ContextFits x.now }
     requires unit { outcome_of (core_at core.old slot) job.old (stack_row (core_at core.old slot) x.now op) ≡ unit_of (core_at core.old slot) job.old }
@@ -143,14 +134,13 @@ fn stacking(core: &mut Core, slot: u8, job: &mut Job, x: &Context, op: StackOp) 
 #[inline(always)]
 fn testing(
     core: &mut Core,
-    slot: u8,
+    slot: Slot,
     job: &mut Job,
     x: &Context,
     op: MaskOp,
     k: u32,
     change: u32,
 ) -> Ended
-    requires slot { slot < slots }
     requires pc { job.old.pc < 2 ^ 18 }
     requires fits { ContextFits x.now }
     requires k { k < 4 }
@@ -163,8 +153,7 @@ fn testing(
 
 /// IBP, ILDB, LDB, IDPB, DPB.
 #[inline(always)]
-fn picking(core: &mut Core, slot: u8, job: &mut Job, x: &Context, op: ByteOp) -> Ended
-    requires slot { slot < slots }
+fn picking(core: &mut Core, slot: Slot, job: &mut Job, x: &Context, op: ByteOp) -> Ended
     requires pc { job.old.pc < 2 ^ 18 }
     requires fits { ContextFits x.now }
     requires unit { outcome_of (core_at core.old slot) job.old (byte_row (core_at core.old slot) x.now op) ≡ unit_of (core_at core.old slot) job.old }
@@ -177,8 +166,7 @@ fn picking(core: &mut Core, slot: u8, job: &mut Job, x: &Context, op: ByteOp) ->
 /// context by value: what is handed on by reference would be kept in memory on the most used path.
 #[inline(never)]
 #[tactic(auto, using(crate::proofs::ChainLaws::stands, crate::proofs::ChainLaws::stands_call), unfolding(its_plain::specs::Unit::row_of, its_word::specs::Opcode::instruction_of, its_word::specs::Opcode::mode_of, its_word::specs::Opcode::full_word_opcode, its_word::specs::Opcode::shift_opcode, its_word::specs::Opcode::branch_opcode, its_word::specs::Opcode::stack_opcode, its_word::specs::Opcode::compare_opcode, its_word::specs::Opcode::test_opcode, its_word::specs::Opcode::mask_of, its_word::specs::Opcode::byte_opcode, its_word::specs::Opcode::monitor_opcode))]
-fn often(core: &mut Core, slot: u8, job: &mut Job, opcode: u32, context: Context) -> Ended
-    requires slot { slot < slots }
+fn often(core: &mut Core, slot: Slot, job: &mut Job, opcode: u32, context: Context) -> Ended
     requires pc { job.old.pc < 2 ^ 18 }
     requires stands { Stands (core_at core.old slot) job.old opcode context }
     requires fits { ContextFits context }
@@ -242,8 +230,7 @@ fn often(core: &mut Core, slot: u8, job: &mut Job, opcode: u32, context: Context
 /// many arms.
 #[inline(always)]
 #[tactic(auto, using(crate::proofs::ChainLaws::stands, crate::proofs::ChainLaws::stands_call), unfolding(its_plain::specs::Unit::row_of, its_word::specs::Opcode::instruction_of, its_word::specs::Opcode::mode_of, its_word::specs::Opcode::full_word_opcode, its_word::specs::Opcode::shift_opcode, its_word::specs::Opcode::branch_opcode, its_word::specs::Opcode::stack_opcode, its_word::specs::Opcode::compare_opcode, its_word::specs::Opcode::test_opcode, its_word::specs::Opcode::mask_of, its_word::specs::Opcode::byte_opcode, its_word::specs::Opcode::monitor_opcode))]
-pub fn frequent(core: &mut Core, slot: u8, job: &mut Job) -> Ended
-    requires slot { slot < slots }
+pub fn frequent(core: &mut Core, slot: Slot, job: &mut Job) -> Ended
     requires pc { job.old.pc < 2 ^ 18 }
     ensures { InPlace result (unit_of (core_at core.old slot) job.old) core.old core.new slot job.old job.new }
 {

@@ -2,7 +2,6 @@
 //! arithmetic" and "Logic").
 ghost use Rattle.std.specs.Prelude.{◌≡◌, ◌<◌};
 ghost use Rattle.its_core.specs.Cores.{core_at};
-ghost use Rattle.its_word.specs.Limits.{slots};
 ghost use Rattle.its_plain.specs.UnitPlan.{ContextFits, two_to, worked_from, worked_to};
 ghost use Rattle.pdp_exec.specs.Stores.{list_of};
 ghost use Rattle.its_plain.specs.UnitArith.{arithmetic_row, boolean_row, is_constant, one_result, one_shifted, quotient as quotient_of, refused_to, shift_row, two_results, two_shifted, worked};
@@ -11,15 +10,16 @@ use super::plans::{Draft, jump, next, to};
 use super::reads::{ac_word, next_ac_word, read};
 use super::stores::{Stores, none, one, three, two};
 use its_core::Core;
-use its_word::{ArithmeticOp, Context, Fault, Mode, NO_DIVIDE, OVERFLOW, Result2, ShiftOp, Word};
+use its_word::{
+    ArithmeticOp, Context, Fault, Mode, NO_DIVIDE, OVERFLOW, Result2, ShiftOp, Slot, Word,
+};
 use pdp_arith::{add, div, idiv, imul, mul, sub};
 use pdp_logic::{ash, ashc, boolean, lsh, lshc, rot, rotc, zeros};
 
 /// The source of an arithmetic or Boolean instruction.
 #[inline(always)]
 #[tactic(auto, unfolding(its_plain::specs::UnitPlan::worked_from))]
-fn source(core: &Core, slot: u8, x: &Context, mode: Mode) -> Result<Word, Fault>
-    requires slot { slot < slots }
+fn source(core: &Core, slot: Slot, x: &Context, mode: Mode) -> Result<Word, Fault>
     requires fits { ContextFits x.now }
     ensures { result ≡ worked_from (core_at core.now slot) x.now mode }
 {
@@ -104,8 +104,7 @@ fn quotient(x: &Context, mode: Mode, s: Word, r: Option<Result2>) -> Draft
 /// An operation on AC and the source.
 #[inline(always)]
 #[tactic(auto, unfolding(its_plain::specs::UnitArith::worked))]
-fn work(core: &Core, slot: u8, x: &Context, op: ArithmeticOp, mode: Mode, s: Word) -> Draft
-    requires slot { slot < slots }
+fn work(core: &Core, slot: Slot, x: &Context, op: ArithmeticOp, mode: Mode, s: Word) -> Draft
     requires fits { ContextFits x.now }
     ensures { result ≡ worked (core_at core.now slot) x.now op mode s }
 {
@@ -125,12 +124,11 @@ fn work(core: &Core, slot: u8, x: &Context, op: ArithmeticOp, mode: Mode, s: Wor
 #[tactic(auto, unfolding(its_plain::specs::UnitArith::arithmetic_row))]
 pub fn arithmetic(
     core: &Core,
-    slot: u8,
+    slot: Slot,
     x: &Context,
     op: ArithmeticOp,
     mode: Mode,
 ) -> Result<Draft, Fault>
-    requires slot { slot < slots }
     requires fits { ContextFits x.now }
     ensures { result ≡ arithmetic_row (core_at core.now slot) x.now op mode }
 {
@@ -160,8 +158,7 @@ fn two_places(x: &Context, r: &Result2) -> Draft
 /// ASH, ROT, LSH, JFFO, ASHC, ROTC, LSHC.
 #[inline(always)]
 #[tactic(auto, unfolding(its_plain::specs::UnitArith::shift_row))]
-pub fn shifts(core: &Core, slot: u8, x: &Context, op: ShiftOp) -> Result<Draft, Fault>
-    requires slot { slot < slots }
+pub fn shifts(core: &Core, slot: Slot, x: &Context, op: ShiftOp) -> Result<Draft, Fault>
     requires fits { ContextFits x.now }
     ensures { result ≡ shift_row (core_at core.now slot) x.now op }
 {
@@ -194,8 +191,7 @@ fn is_fixed(k: u32) -> bool
 /// SETZ to SETO, by their place in the order of the opcodes.
 #[inline(always)]
 #[tactic(auto, unfolding(its_plain::specs::UnitArith::boolean_row))]
-pub fn booleans(core: &Core, slot: u8, x: &Context, k: u32, mode: Mode) -> Result<Draft, Fault>
-    requires slot { slot < slots }
+pub fn booleans(core: &Core, slot: Slot, x: &Context, k: u32, mode: Mode) -> Result<Draft, Fault>
     requires fits { ContextFits x.now }
     requires k { k < 16 }
     ensures { result ≡ boolean_row (core_at core.now slot) x.now k mode }

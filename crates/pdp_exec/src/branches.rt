@@ -2,7 +2,6 @@
 //! transmission", "Program control" and "Pushdown list").
 ghost use Rattle.std.specs.Prelude.{◌≡◌, ◌<◌, ◌^◌, if◌then◌else◌, ◌==◌};
 ghost use Rattle.its_core.specs.Cores.{core_at};
-ghost use Rattle.its_word.specs.Limits.{slots};
 ghost use Rattle.its_plain.specs.Job.{flags_of, pc_word};
 ghost use Rattle.its_plain.specs.UnitPlan.{ContextFits, both_down, both_up};
 ghost use Rattle.its_plain.specs.UnitJumps.{branch_row, with_count, is_negative, named_by, restored, stack_row, transferred};
@@ -13,7 +12,7 @@ use super::plans::{
 use super::reads::{ac_word, read};
 use super::stores::{none, one, two};
 use its_core::Core;
-use its_word::{BYTE_HALF, BranchOp, Context, Fault, PDL, StackOp, Word, flags_in, pc_word};
+use its_word::{BYTE_HALF, BranchOp, Context, Fault, PDL, Slot, StackOp, Word, flags_in, pc_word};
 
 /// The count at which a push sets PDL.
 const PUSHED_OUT: u32 = 0;
@@ -78,8 +77,7 @@ fn named(a: u32) -> u32
 /// BLT, AOBJP, AOBJN, JRST, JFCL.
 #[inline(always)]
 #[tactic(auto, unfolding(its_plain::specs::UnitJumps::branch_row))]
-pub fn branches(core: &Core, slot: u8, x: &Context, op: BranchOp) -> Result<Draft, Fault>
-    requires slot { slot < slots }
+pub fn branches(core: &Core, slot: Slot, x: &Context, op: BranchOp) -> Result<Draft, Fault>
     requires fits { ContextFits x.now }
     ensures { result ≡ branch_row (core_at core.now slot) x.now op }
 {
@@ -120,8 +118,7 @@ fn count(end: u32, pointer: Word, plan: Draft) -> Draft
 /// PUSHJ, PUSH, POP, POPJ, JSR, JSP, JSA, JRA.
 #[inline(always)]
 #[tactic(auto, unfolding(its_plain::specs::UnitJumps::stack_row))]
-pub fn stack(core: &Core, slot: u8, x: &Context, op: StackOp) -> Result<Draft, Fault>
-    requires slot { slot < slots }
+pub fn stack(core: &Core, slot: Slot, x: &Context, op: StackOp) -> Result<Draft, Fault>
     requires fits { ContextFits x.now }
     ensures { result ≡ stack_row (core_at core.now slot) x.now op }
 {

@@ -1,7 +1,6 @@
 //! Byte instructions (processor reference manual, "Byte manipulation").
 ghost use Rattle.std.specs.Prelude.{◌≡◌, ◌<◌, ◌≤◌, ◌^◌, Ok, IfOk, OnOk};
 ghost use Rattle.its_core.specs.Cores.{core_at};
-ghost use Rattle.its_word.specs.Limits.{slots};
 ghost use Rattle.its_word.specs.Byte.{has_size, size};
 ghost use Rattle.its_plain.specs.UnitPlan.{ContextFits};
 ghost use Rattle.its_plain.specs.UnitBytes.{byte_by, byte_row, deposits, first_half, incremented, loads, pointed_to};
@@ -11,7 +10,7 @@ use super::reads::{ac_word, read};
 use super::stores::one;
 use its_bytes::{deposit, has_size, increment, load};
 use its_core::Core;
-use its_word::{Address, BYTE_HALF, ByteOp, Context, Fault, Word};
+use its_word::{Address, BYTE_HALF, ByteOp, Context, Fault, Slot, Word};
 
 /// The pointer to the next byte; Ilo if its size is none of 1 to 36.
 #[inline(always)]
@@ -25,8 +24,7 @@ fn step(p: Word) -> Result<Word, Fault>
 /// The address of a pointer's word, under what is left of the budget; Ilo if its size is none of 1 to 36.
 #[inline(always)]
 #[tactic(auto, unfolding(its_plain::specs::UnitBytes::pointed_to))]
-fn target(core: &Core, slot: u8, x: &Context, p: Word) -> Result<u32, Fault>
-    requires slot { slot < slots }
+fn target(core: &Core, slot: Slot, x: &Context, p: Word) -> Result<u32, Fault>
     requires fits { ContextFits x.now }
     ensures address { result ≡ pointed_to (core_at core.now slot) x.now p }
     ensures below { IfOk result (λ b. b < 2 ^ 18) }
@@ -40,15 +38,14 @@ fn target(core: &Core, slot: u8, x: &Context, p: Word) -> Result<u32, Fault>
     let Address {
         e,
         flags_word: _last,
-    } = core.effective(slot, p, &mut used)?;
+    } = core.effective(slot.number(), p, &mut used)?;
     Ok(e)
 }
 
 /// The byte of a pointer to AC.
 #[inline(always)]
 #[tactic(auto, using(crate::proofs::ByteLaws::byte_is_word), unfolding(its_plain::specs::UnitBytes::loads))]
-fn loads_byte(core: &Core, slot: u8, x: &Context, p: Word) -> Result<Draft, Fault>
-    requires slot { slot < slots }
+fn loads_byte(core: &Core, slot: Slot, x: &Context, p: Word) -> Result<Draft, Fault>
     requires fits { ContextFits x.now }
     ensures { result ≡ loads (core_at core.now slot) x.now p }
 {
@@ -60,8 +57,7 @@ fn loads_byte(core: &Core, slot: u8, x: &Context, p: Word) -> Result<Draft, Faul
 /// The low bits of AC to the byte of a pointer.
 #[inline(always)]
 #[tactic(auto, unfolding(its_plain::specs::UnitBytes::deposits))]
-fn deposits_byte(core: &Core, slot: u8, x: &Context, p: Word) -> Result<Draft, Fault>
-    requires slot { slot < slots }
+fn deposits_byte(core: &Core, slot: Slot, x: &Context, p: Word) -> Result<Draft, Fault>
     requires fits { ContextFits x.now }
     ensures { result ≡ deposits (core_at core.now slot) x.now p }
 {
@@ -82,8 +78,7 @@ fn first_part(x: &Context, p: Word) -> Result<Draft, Fault>
 
 #[inline(always)]
 #[tactic(auto, unfolding(its_plain::specs::UnitBytes::byte_by))]
-fn by_pointer(core: &Core, slot: u8, x: &Context, op: ByteOp, p: Word) -> Result<Draft, Fault>
-    requires slot { slot < slots }
+fn by_pointer(core: &Core, slot: Slot, x: &Context, op: ByteOp, p: Word) -> Result<Draft, Fault>
     requires fits { ContextFits x.now }
     ensures { result ≡ byte_by (core_at core.now slot) x.now op p }
 {
@@ -101,8 +96,7 @@ fn by_pointer(core: &Core, slot: u8, x: &Context, op: ByteOp, p: Word) -> Result
 /// IBP, ILDB, LDB, IDPB, DPB.
 #[inline(always)]
 #[tactic(auto, unfolding(its_plain::specs::UnitBytes::byte_row))]
-pub fn bytes(core: &Core, slot: u8, x: &Context, op: ByteOp) -> Result<Draft, Fault>
-    requires slot { slot < slots }
+pub fn bytes(core: &Core, slot: Slot, x: &Context, op: ByteOp) -> Result<Draft, Fault>
     requires fits { ContextFits x.now }
     ensures { result ≡ byte_row (core_at core.now slot) x.now op }
 {

@@ -2,7 +2,7 @@
 ghost use Rattle.std.specs.Prelude.{◌≡◌, ◌<◌, ◌≤◌, ◌+◌, ◌*◌, ◌^◌, ◌++◌, [], length, Ok, IfOk, IfSome};
 ghost use Rattle.its_core.specs.Cores.{core_at};
 ghost use Rattle.its_word.specs.Address.{is_indirect};
-ghost use Rattle.its_word.specs.Limits.{budget, slots};
+ghost use Rattle.its_word.specs.Limits.{budget};
 ghost use Rattle.its_word.specs.Opcode.{IsRow, ac_of, opcode_of};
 ghost use Rattle.its_plain.specs.UnitPlan.{ContextFits};
 ghost use Rattle.its_plain.specs.Traced.{word as word_of};
@@ -14,7 +14,7 @@ use arrayvec::ArrayVec;
 use its_core::Core;
 use its_records::Job;
 use its_word::{
-    Address, BUDGET, BranchOp, ChainStep, Context, Fault, Instruction, Reached, Word, decode,
+    Address, BUDGET, BranchOp, ChainStep, Context, Fault, Instruction, Reached, Slot, Word, decode,
 };
 
 /// How many instruction words a unit can have: its own, and the targets of its XCTs.
@@ -85,8 +85,7 @@ pub struct AtHand {
 /// indirect.
 #[inline(always)]
 #[tactic(auto, using(crate::proofs::ChainLaws::stands_at))]
-pub fn at_hand(core: &Core, slot: u8, job: &Job) -> Option<AtHand>
-    requires slot { slot < slots }
+pub fn at_hand(core: &Core, slot: Slot, job: &Job) -> Option<AtHand>
     requires pc { job.now.pc < 2 ^ 18 }
     ensures stands { IfSome result (λ f. Stands (core_at core.now slot) job.now f.opcode f.context) }
     ensures fits { IfSome result (λ f. ContextFits f.context) }
@@ -96,7 +95,7 @@ pub fn at_hand(core: &Core, slot: u8, job: &Job) -> Option<AtHand>
         return None;
     }
     let mut used = 0;
-    let Address { e, flags_word } = core.effective(slot, w, &mut used).ok()?;
+    let Address { e, flags_word } = core.effective(slot.number(), w, &mut used).ok()?;
     Some(AtHand {
         opcode: opcode(w),
         context: Context {
@@ -112,8 +111,7 @@ pub fn at_hand(core: &Core, slot: u8, job: &Job) -> Option<AtHand>
 
 /// The word at an address, which is noted; Mpv if its page is absent.
 #[tactic(auto, unfolding(its_plain::specs::Traced::word))]
-fn noted(core: &Core, slot: u8, a: u32, reads: &mut Places) -> Result<Word, Fault>
-    requires slot { slot < slots }
+fn noted(core: &Core, slot: Slot, a: u32, reads: &mut Places) -> Result<Word, Fault>
     requires address { a < 2 ^ 18 }
     requires room { length reads.old.items < 160 }
     ensures answer { result ≡ (word_of (core_at core.now slot) a).answer }
@@ -126,8 +124,7 @@ fn noted(core: &Core, slot: u8, a: u32, reads: &mut Places) -> Result<Word, Faul
 
 /// The target of an XCT; Ilo if the budget is at its end.
 #[tactic(auto, using(its_plain::proofs::TracedLaws::joined, its_plain::proofs::TracedLaws::ended), unfolding(its_plain::specs::Unit::target_of, its_plain::specs::Traced::also))]
-fn target(core: &Core, slot: u8, x: &Context, reads: &mut Places) -> Result<ChainStep, Fault>
-    requires slot { slot < slots }
+fn target(core: &Core, slot: Slot, x: &Context, reads: &mut Places) -> Result<ChainStep, Fault>
     requires fits { ContextFits x.now }
     requires few { length reads.old.items ≤ 2 * x.now.used + 2 }
     ensures step { result ≡ (target_of (core_at core.now slot) x.now).answer }
@@ -148,12 +145,11 @@ fn target(core: &Core, slot: u8, x: &Context, reads: &mut Places) -> Result<Chai
 #[tactic(auto, using(its_plain::proofs::TracedLaws::ended), unfolding(its_plain::specs::Unit::chain_step_at))]
 fn step_by(
     core: &Core,
-    slot: u8,
+    slot: Slot,
     i: Instruction,
     x: &Context,
     reads: &mut Places,
 ) -> Result<ChainStep, Fault>
-    requires slot { slot < slots }
     requires fits { ContextFits x.now }
     requires numbers { IsRow i }
     requires few { length reads.old.items ≤ 2 * x.now.used + 2 }
@@ -175,13 +171,12 @@ fn step_by(
 #[tactic(auto, using(its_plain::proofs::TracedLaws::joined, its_plain::proofs::TracedLaws::ended), unfolding(its_plain::specs::Unit::chain_step, its_plain::specs::Traced::also, its_plain::specs::Traced::located))]
 fn chain_step(
     core: &Core,
-    slot: u8,
+    slot: Slot,
     job: &Job,
     w: Word,
     used: u32,
     reads: &mut Places,
 ) -> Result<ChainStep, Fault>
-    requires slot { slot < slots }
     requires pc { job.now.pc < 2 ^ 18 }
     requires used { used ≤ budget }
     requires few { length reads.old.items ≤ 2 * used + 1 }
@@ -192,7 +187,7 @@ fn chain_step(
 {
     let i = instruction(w)?;
     let mut after = used;
-    let Address { e, flags_word } = core.address(slot, w, &mut after, reads)?;
+    let Address { e, flags_word } = core.address(slot.number(), w, &mut after, reads)?;
     let x = Context {
         pc: job.pc,
         flags: job.flags,
@@ -207,8 +202,7 @@ fn chain_step(
 /// The instruction of a job's unit: the one at its PC, or the one at the end of its chain of XCTs. The
 /// places of the words that are read to come there are noted.
 #[tactic(auto, using(crate::proofs::ChainLaws::no_word, crate::proofs::ChainLaws::step_faults))]
-pub fn find(core: &Core, slot: u8, job: &Job, reads: &mut Places) -> Result<Reached, Fault>
-    requires slot { slot < slots }
+pub fn find(core: &Core, slot: Slot, job: &Job, reads: &mut Places) -> Result<Reached, Fault>
     requires pc { job.now.pc < 2 ^ 18 }
     requires none { reads.old.items ≡ [] }
     ensures found { result ≡ (reached (core_at core.now slot) job.now).answer }
@@ -231,8 +225,7 @@ pub fn find(core: &Core, slot: u8, job: &Job, reads: &mut Places) -> Result<Reac
 }
 
 /// The same, with no note of what is read.
-pub fn reach(core: &Core, slot: u8, job: &Job) -> Result<Reached, Fault>
-    requires slot { slot < slots }
+pub fn reach(core: &Core, slot: Slot, job: &Job) -> Result<Reached, Fault>
     requires pc { job.now.pc < 2 ^ 18 }
     ensures found { result ≡ (reached (core_at core.now slot) job.now).answer }
     ensures ready { IfOk result (λ r. IsReady (ChainStep.Found r)) }

@@ -2,7 +2,6 @@
 //! testing and modification").
 ghost use Rattle.std.specs.Prelude.{◌≡◌, ◌<◌, ◌^◌};
 ghost use Rattle.its_core.specs.Cores.{core_at};
-ghost use Rattle.its_word.specs.Limits.{slots};
 ghost use Rattle.its_plain.specs.UnitPlan.{ContextFits};
 ghost use Rattle.its_word.specs.declared.instruction.CompareOp.TheVariants.{Cai, Cam, Jump, Skip, Aoj, Aos, Soj, Sos};
 ghost use Rattle.its_plain.specs.UnitTests.{compare_row, counts_jump, counts_skip, mask_for, test_row};
@@ -12,7 +11,7 @@ use super::plans::{Draft, ac_but_0, jump, skip, to};
 use super::reads::{ac_word, read};
 use super::stores::{none, one, two};
 use its_core::Core;
-use its_word::{CompareOp, Context, Fault, MaskOp, Result2, Word};
+use its_word::{CompareOp, Context, Fault, MaskOp, Result2, Slot, Word};
 use pdp_arith::{add, compares};
 use pdp_logic::{changed, tested};
 
@@ -50,8 +49,7 @@ fn count_and_skip(x: &Context, k: u32, r: &Result2) -> Draft
 /// CAI with condition k.
 #[inline(always)]
 #[tactic(auto, unfolding(its_plain::specs::UnitTests::compare_row))]
-pub fn cai(core: &Core, slot: u8, x: &Context, k: u32) -> Result<Draft, Fault>
-    requires slot { slot < slots }
+pub fn cai(core: &Core, slot: Slot, x: &Context, k: u32) -> Result<Draft, Fault>
     requires fits { ContextFits x.now }
     requires k { k < 8 }
     ensures { result ≡ compare_row (core_at core.now slot) x.now Cai k }
@@ -63,8 +61,7 @@ pub fn cai(core: &Core, slot: u8, x: &Context, k: u32) -> Result<Draft, Fault>
 /// CAM with condition k.
 #[inline(always)]
 #[tactic(auto, unfolding(its_plain::specs::UnitTests::compare_row))]
-pub fn cam(core: &Core, slot: u8, x: &Context, k: u32) -> Result<Draft, Fault>
-    requires slot { slot < slots }
+pub fn cam(core: &Core, slot: Slot, x: &Context, k: u32) -> Result<Draft, Fault>
     requires fits { ContextFits x.now }
     requires k { k < 8 }
     ensures { result ≡ compare_row (core_at core.now slot) x.now Cam k }
@@ -77,8 +74,7 @@ pub fn cam(core: &Core, slot: u8, x: &Context, k: u32) -> Result<Draft, Fault>
 /// JUMP with condition k.
 #[inline(always)]
 #[tactic(auto, unfolding(its_plain::specs::UnitTests::compare_row))]
-pub fn jumps(core: &Core, slot: u8, x: &Context, k: u32) -> Result<Draft, Fault>
-    requires slot { slot < slots }
+pub fn jumps(core: &Core, slot: Slot, x: &Context, k: u32) -> Result<Draft, Fault>
     requires fits { ContextFits x.now }
     requires k { k < 8 }
     ensures { result ≡ compare_row (core_at core.now slot) x.now Jump k }
@@ -90,8 +86,7 @@ pub fn jumps(core: &Core, slot: u8, x: &Context, k: u32) -> Result<Draft, Fault>
 /// SKIP with condition k.
 #[inline(always)]
 #[tactic(auto, unfolding(its_plain::specs::UnitTests::compare_row))]
-pub fn skips(core: &Core, slot: u8, x: &Context, k: u32) -> Result<Draft, Fault>
-    requires slot { slot < slots }
+pub fn skips(core: &Core, slot: Slot, x: &Context, k: u32) -> Result<Draft, Fault>
     requires fits { ContextFits x.now }
     requires k { k < 8 }
     ensures { result ≡ compare_row (core_at core.now slot) x.now Skip k }
@@ -103,8 +98,7 @@ pub fn skips(core: &Core, slot: u8, x: &Context, k: u32) -> Result<Draft, Fault>
 /// AOJ with condition k.
 #[inline(always)]
 #[tactic(auto, unfolding(its_plain::specs::UnitTests::compare_row))]
-pub fn aoj(core: &Core, slot: u8, x: &Context, k: u32) -> Result<Draft, Fault>
-    requires slot { slot < slots }
+pub fn aoj(core: &Core, slot: Slot, x: &Context, k: u32) -> Result<Draft, Fault>
     requires fits { ContextFits x.now }
     requires k { k < 8 }
     ensures { result ≡ compare_row (core_at core.now slot) x.now Aoj k }
@@ -116,8 +110,7 @@ pub fn aoj(core: &Core, slot: u8, x: &Context, k: u32) -> Result<Draft, Fault>
 /// AOS with condition k.
 #[inline(always)]
 #[tactic(auto, unfolding(its_plain::specs::UnitTests::compare_row))]
-pub fn aos(core: &Core, slot: u8, x: &Context, k: u32) -> Result<Draft, Fault>
-    requires slot { slot < slots }
+pub fn aos(core: &Core, slot: Slot, x: &Context, k: u32) -> Result<Draft, Fault>
     requires fits { ContextFits x.now }
     requires k { k < 8 }
     ensures { result ≡ compare_row (core_at core.now slot) x.now Aos k }
@@ -129,8 +122,7 @@ pub fn aos(core: &Core, slot: u8, x: &Context, k: u32) -> Result<Draft, Fault>
 /// SOJ with condition k.
 #[inline(always)]
 #[tactic(auto, unfolding(its_plain::specs::UnitTests::compare_row))]
-pub fn soj(core: &Core, slot: u8, x: &Context, k: u32) -> Result<Draft, Fault>
-    requires slot { slot < slots }
+pub fn soj(core: &Core, slot: Slot, x: &Context, k: u32) -> Result<Draft, Fault>
     requires fits { ContextFits x.now }
     requires k { k < 8 }
     ensures { result ≡ compare_row (core_at core.now slot) x.now Soj k }
@@ -142,8 +134,7 @@ pub fn soj(core: &Core, slot: u8, x: &Context, k: u32) -> Result<Draft, Fault>
 /// SOS with condition k.
 #[inline(always)]
 #[tactic(auto, unfolding(its_plain::specs::UnitTests::compare_row))]
-pub fn sos(core: &Core, slot: u8, x: &Context, k: u32) -> Result<Draft, Fault>
-    requires slot { slot < slots }
+pub fn sos(core: &Core, slot: Slot, x: &Context, k: u32) -> Result<Draft, Fault>
     requires fits { ContextFits x.now }
     requires k { k < 8 }
     ensures { result ≡ compare_row (core_at core.now slot) x.now Sos k }
@@ -155,12 +146,11 @@ pub fn sos(core: &Core, slot: u8, x: &Context, k: u32) -> Result<Draft, Fault>
 /// CAI, CAM, JUMP, SKIP, AOJ, AOS, SOJ, SOS, with condition k.
 pub fn comparisons(
     core: &Core,
-    slot: u8,
+    slot: Slot,
     x: &Context,
     op: CompareOp,
     k: u32,
 ) -> Result<Draft, Fault>
-    requires slot { slot < slots }
     requires fits { ContextFits x.now }
     requires k { k < 8 }
     ensures { result ≡ compare_row (core_at core.now slot) x.now op k }
@@ -180,8 +170,7 @@ pub fn comparisons(
 /// The mask of a test.
 #[inline(always)]
 #[tactic(auto, unfolding(its_plain::specs::UnitTests::mask_for))]
-fn mask(core: &Core, slot: u8, x: &Context, op: MaskOp) -> Result<Word, Fault>
-    requires slot { slot < slots }
+fn mask(core: &Core, slot: Slot, x: &Context, op: MaskOp) -> Result<Word, Fault>
     requires fits { ContextFits x.now }
     ensures { result ≡ mask_for (core_at core.now slot) x.now op }
 {
@@ -198,13 +187,12 @@ fn mask(core: &Core, slot: u8, x: &Context, op: MaskOp) -> Result<Word, Fault>
 #[tactic(auto, unfolding(its_plain::specs::UnitTests::test_row))]
 pub fn tests_of(
     core: &Core,
-    slot: u8,
+    slot: Slot,
     x: &Context,
     op: MaskOp,
     k: u32,
     change: u32,
 ) -> Result<Draft, Fault>
-    requires slot { slot < slots }
     requires fits { ContextFits x.now }
     requires k { k < 4 }
     requires change { change < 4 }

@@ -2,7 +2,6 @@
 //! data transmission").
 ghost use Rattle.std.specs.Prelude.{◌≡◌, ◌<◌};
 ghost use Rattle.its_core.specs.Cores.{core_at};
-ghost use Rattle.its_word.specs.Limits.{slots};
 ghost use Rattle.its_plain.specs.UnitPlan.{ContextFits, moved_from, moved_to};
 ghost use Rattle.pdp_exec.specs.Stores.{list_of};
 ghost use Rattle.its_plain.specs.UnitMoves.{exch_row, half_row, half_to, move_row, moved, swapped};
@@ -11,15 +10,14 @@ use super::plans::{Draft, next, to};
 use super::reads::{ac_word, read};
 use super::stores::{Stores, one, two};
 use its_core::Core;
-use its_word::{Context, Fault, Mode, MoveOp, Result2, Word};
+use its_word::{Context, Fault, Mode, MoveOp, Result2, Slot, Word};
 use pdp_arith::{magnitude, neg};
 use pdp_logic::half;
 
 /// The source of a move or a half move.
 #[inline(always)]
 #[tactic(auto, unfolding(its_plain::specs::UnitPlan::moved_from))]
-fn source(core: &Core, slot: u8, x: &Context, mode: Mode) -> Result<Word, Fault>
-    requires slot { slot < slots }
+fn source(core: &Core, slot: Slot, x: &Context, mode: Mode) -> Result<Word, Fault>
     requires fits { ContextFits x.now }
     ensures { result ≡ moved_from (core_at core.now slot) x.now mode }
 {
@@ -70,8 +68,7 @@ fn moved_by(op: MoveOp, s: Word) -> Result2
 /// MOVE, MOVS, MOVN, MOVM.
 #[inline(always)]
 #[tactic(auto, unfolding(its_plain::specs::UnitMoves::move_row))]
-pub fn moves(core: &Core, slot: u8, x: &Context, op: MoveOp, mode: Mode) -> Result<Draft, Fault>
-    requires slot { slot < slots }
+pub fn moves(core: &Core, slot: Slot, x: &Context, op: MoveOp, mode: Mode) -> Result<Draft, Fault>
     requires fits { ContextFits x.now }
     ensures { result ≡ move_row (core_at core.now slot) x.now op mode }
 {
@@ -83,8 +80,7 @@ pub fn moves(core: &Core, slot: u8, x: &Context, op: MoveOp, mode: Mode) -> Resu
 /// EXCH.
 #[inline(always)]
 #[tactic(auto, unfolding(its_plain::specs::UnitMoves::exch_row))]
-pub fn exchange(core: &Core, slot: u8, x: &Context) -> Result<Draft, Fault>
-    requires slot { slot < slots }
+pub fn exchange(core: &Core, slot: Slot, x: &Context) -> Result<Draft, Fault>
     requires fits { ContextFits x.now }
     ensures { result ≡ exch_row (core_at core.now slot) x.now }
 {
@@ -96,8 +92,7 @@ pub fn exchange(core: &Core, slot: u8, x: &Context) -> Result<Draft, Fault>
 /// The destination of a half move, whose other half may stay.
 #[inline(always)]
 #[tactic(auto, unfolding(its_plain::specs::UnitMoves::half_to))]
-fn destination(core: &Core, slot: u8, x: &Context, mode: Mode) -> Result<Word, Fault>
-    requires slot { slot < slots }
+fn destination(core: &Core, slot: Slot, x: &Context, mode: Mode) -> Result<Word, Fault>
     requires fits { ContextFits x.now }
     ensures { result ≡ half_to (core_at core.now slot) x.now mode }
 {
@@ -112,8 +107,7 @@ fn destination(core: &Core, slot: u8, x: &Context, mode: Mode) -> Result<Word, F
 /// HLL to HLRE, by their place in the order of the opcodes.
 #[inline(always)]
 #[tactic(auto, unfolding(its_plain::specs::UnitMoves::half_row))]
-pub fn halves(core: &Core, slot: u8, x: &Context, k: u32, mode: Mode) -> Result<Draft, Fault>
-    requires slot { slot < slots }
+pub fn halves(core: &Core, slot: Slot, x: &Context, k: u32, mode: Mode) -> Result<Draft, Fault>
     requires fits { ContextFits x.now }
     requires k { k < 16 }
     ensures { result ≡ half_row (core_at core.now slot) x.now k mode }

@@ -2,7 +2,6 @@
 ghost use Rattle.std.specs.Prelude.{◌≡◌, ◌<◌, ◌^◌, IfSome};
 ghost use Rattle.its_core.specs.Cores.{core_at};
 ghost use Rattle.its_word.specs.Address.{index_of};
-ghost use Rattle.its_word.specs.Limits.{slots};
 ghost use Rattle.its_plain.specs.Unit.{Called, unit as unit_of};
 ghost use Rattle.pdp_exec.specs.Near.{near_site};
 
@@ -10,7 +9,7 @@ use super::chain::{ac_field, instruction, is_indirect};
 use super::reads::read;
 use its_core::Core;
 use its_records::Job;
-use its_word::{Instruction, Word};
+use its_word::{Instruction, Slot, Word};
 
 /// A call at a job's PC: its E, and its channel if it is `.IOT`.
 #[derive(Clone, Copy, Debug, PartialEq, Eq)]
@@ -29,8 +28,7 @@ fn index(w: Word) -> u32
 /// The call at a job's PC, if its unit is one and no word but that at the PC is read on the way. A call without it can still be one.
 #[inline(always)]
 #[tactic(auto, using(crate::proofs::NearLaws::near_iot, crate::proofs::NearLaws::near_call))]
-pub fn call_at_hand(core: &Core, slot: u8, job: &Job) -> Option<Near>
-    requires slot { slot < slots }
+pub fn call_at_hand(core: &Core, slot: Slot, job: &Job) -> Option<Near>
     requires pc { job.now.pc < 2 ^ 18 }
     ensures { IfSome result (λ n. unit_of (core_at core.now slot) job.now ≡ Called (near_site job.now.pc n)) }
 {

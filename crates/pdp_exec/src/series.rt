@@ -1,6 +1,5 @@
 //! Units of one job, one after another.
 ghost use Rattle.std.specs.Prelude.{◌≡◌, ◌≢◌, ◌<◌, ◌≤◌, ◌^◌, ℕ, true, false, Some, None, if◌then◌else◌};
-ghost use Rattle.its_word.specs.Limits.{slots};
 ghost use Rattle.its_core.specs.Cores.{core_at};
 ghost use Rattle.its_plain.specs.Unit.{unit as unit_of};
 ghost use Rattle.pdp_exec.specs.Units.{after_outcome, after_unit, after_units, left};
@@ -9,14 +8,13 @@ use super::units::{Ended, run};
 use its_core::Core;
 use its_ints::deliverable;
 use its_records::Job;
-use its_word::Word;
+use its_word::{Slot, Word};
 
 /// Executes up to n units of a slot's job on its core and its registers in place, as long as no interrupt is deliverable and none is a
 /// call; how many were executed. It is not inlined: its loop is the one place in which every unit is.
 #[inline(never)]
 #[tactic(auto, using(crate::proofs::SeriesLaws::units_start, crate::proofs::SeriesLaws::none_left))]
-pub fn run_units(core: &mut Core, slot: u8, job: &mut Job, n: u32) -> u32
-    requires slot { slot < slots }
+pub fn run_units(core: &mut Core, slot: Slot, job: &mut Job, n: u32) -> u32
     requires pc { job.old.pc < 2 ^ 18 }
     ensures few { result ≤ n }
     ensures same { result ≡ 0 → (core.new ≡ core.old) × (job.new ≡ job.old) }
@@ -38,8 +36,7 @@ pub fn run_units(core: &mut Core, slot: u8, job: &mut Job, n: u32) -> u32
 /// Runs the unit of a job, unless an interrupt is deliverable or it is a call (false).
 #[inline(always)]
 #[tactic(auto, using(crate::proofs::SeriesLaws::none_due, crate::proofs::SeriesLaws::unit_made))]
-fn run_next(core: &mut Core, slot: u8, job: &mut Job) -> bool
-    requires slot { slot < slots }
+fn run_next(core: &mut Core, slot: Slot, job: &mut Job) -> bool
     requires pc { job.old.pc < 2 ^ 18 }
     ensures left { after_unit (Some (left (core_at core.old slot) job.old)) ≡ (if result then Some (left (core_at core.new slot) job.new) else None) }
     ensures others { (k : ℕ) → k ≢ slot → core_at core.new k ≡ core_at core.old k }
@@ -56,8 +53,7 @@ fn run_next(core: &mut Core, slot: u8, job: &mut Job) -> bool
 
 /// Runs the unit of a job on its core and its registers. A fault sets its bit; a call is not made (false).
 #[inline(always)]
-fn run_unit(core: &mut Core, slot: u8, job: &mut Job) -> bool
-    requires slot { slot < slots }
+fn run_unit(core: &mut Core, slot: Slot, job: &mut Job) -> bool
     requires pc { job.old.pc < 2 ^ 18 }
     ensures left { after_outcome (unit_of (core_at core.old slot) job.old) (core_at core.old slot) job.old ≡ (if result then Some (left (core_at core.new slot) job.new) else None) }
     ensures others { (k : ℕ) → k ≢ slot → core_at core.new k ≡ core_at core.old k }

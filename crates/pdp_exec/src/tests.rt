@@ -3,12 +3,11 @@
 //! pages that are read only | units | PC, flags and pending word 1 after them | accumulators and words that changed.
 //! All other accumulators are 0, and only the pages of these words exist.
 ghost use Rattle.std.specs.Prelude.{◌≡◌, ◌<◌, ◌^◌, None, slice_index_or};
-ghost use Rattle.its_word.specs.Limits.{slots};
 
 use super::*;
 use its_core::Core;
 use its_records::{Channel, Job};
-use its_word::{USER, Word, read_octal};
+use its_word::{Slot, USER, Word, read_octal};
 use std::process::Abort;
 use std::test::Fail;
 
@@ -660,8 +659,7 @@ struct Bench {
 
 /// Makes a page present in a slot.
 #[tactic(auto, using(crate::proofs::TestLaws::no_page), unfolding(its_core::specs::Cores::reserved_at))]
-fn make_page(core: &mut Core, slot: u8, page: u8)
-    requires slot { slot < slots }
+fn make_page(core: &mut Core, slot: Slot, page: u8)
     requires none { slice_index_or core.old.reserved 0 None ≡ None }
     ensures none { slice_index_or core.new.reserved 0 None ≡ None }
 {
@@ -670,22 +668,20 @@ fn make_page(core: &mut Core, slot: u8, page: u8)
     core.clear_quarter(0, 1);
     core.clear_quarter(0, 2);
     core.clear_quarter(0, 3);
-    if core.page(slot, page).is_some() || core.map(0, slot, page).is_err() {
+    if core.page(slot.number(), page).is_some() || core.map(0, slot.number(), page).is_err() {
         core.give_back(0);
     }
 }
 
 impl Bench {
     /// Stores words in a slot, whose pages are made if they are absent.
-    fn load(&mut self, rt: &impl Abort, slot: u8, list: &str)
-        requires { slot < slots }
-    {
+    fn load(&mut self, rt: &impl Abort, slot: Slot, list: &str) {
         for text in list.split_whitespace() {
             let (place, w) = pair(rt, text);
             if place >= 16 {
                 make_page(&mut self.core, slot, (place / 1024) as u8);
             }
-            assert!(rt; self.core.put(slot, place, w).is_ok());
+            assert!(rt; self.core.put(slot.number(), place, w).is_ok());
         }
     }
 
@@ -693,7 +689,7 @@ impl Bench {
     fn protect(&mut self, rt: &impl Abort, list: &str) {
         for text in list.split_whitespace() {
             let page = (number(rt, Some(text)).right() % 256) as u8;
-            make_page(&mut self.core, 0, page);
+            make_page(&mut self.core, Slot::new(0), page);
             if self.core.page(0, page).is_some() {
                 self.core.protect(0, page, false);
             }
@@ -704,7 +700,7 @@ impl Bench {
     fn run(&mut self, rt: &impl Abort, job: &mut Job, units: u32) {
         for _ in 0..units {
             assert!(rt; job.pc < 0o1000000);
-            if let Outcome::Fault(bit) = unit(&mut self.core, 0, job) {
+            if let Outcome::Fault(bit) = unit(&mut self.core, Slot::new(0), job) {
                 job.pend1 = job.pend1 | Word::new(u64::from(bit));
             }
         }
@@ -714,9 +710,9 @@ impl Bench {
     fn call(&mut self, rt: &impl Abort, row: &str) {
         self.core.drop_all(0);
         let mut fields = row.split('|');
-        self.load(rt, 0, fields.next().expect(rt, "words"));
+        self.load(rt, Slot::new(0), fields.next().expect(rt, "words"));
         let mut caller = job(0o100, USER);
-        let Outcome::Call(site) = unit(&mut self.core, 0, &mut caller) else {
+        let Outcome::Call(site) = unit(&mut self.core, Slot::new(0), &mut caller) else {
             panic!(rt; "no call in {row}");
         };
         assert_eq!(rt; caller, job(0o100, USER), "registers of {row}");
@@ -764,10 +760,10 @@ impl Bench {
         );
         let accs = fields.next().expect(rt, "accumulators");
         let words = fields.next().expect(rt, "words");
-        self.load(rt, 0, accs);
-        self.load(rt, 0, words);
-        self.load(rt, 1, accs);
-        self.load(rt, 1, words);
+        self.load(rt, Slot::new(0), accs);
+        self.load(rt, Slot::new(0), words);
+        self.load(rt, Slot::new(1), accs);
+        self.load(rt, Slot::new(1), words);
         self.protect(rt, fields.next().expect(rt, "pages"));
         let units = fields.next().expect(rt, "units").split_whitespace().next();
         self.run(rt, &mut job, number(rt, units).right());
@@ -781,8 +777,8 @@ impl Bench {
         assert_eq!(rt; job.pend1, number(rt, end.next()), "pending word of {row}");
         let new_accs = fields.next().expect(rt, "accumulators");
         let new_words = fields.next().expect(rt, "words");
-        self.load(rt, 1, new_accs);
-        self.load(rt, 1, new_words);
+        self.load(rt, Slot::new(1), new_accs);
+        self.load(rt, Slot::new(1), new_words);
         for list in [accs, words, new_accs, new_words] {
             assert!(rt; self.agrees(rt, list), "words of {row}");
         }

@@ -1,7 +1,6 @@
 //! The unit of a job.
 ghost use Rattle.std.specs.Prelude.{◌≡◌, ◌≢◌, ◌<◌, ◌≤◌, ◌^◌, ℕ, false, length, Ok, IfErr, IfOk, OnErr, OnOk};
 ghost use Rattle.its_core.specs.Cores.{core_at};
-ghost use Rattle.its_word.specs.Limits.{slots};
 ghost use Rattle.its_word.specs.Opcode.{IsRow};
 ghost use Rattle.its_plain.specs.Job.{bit_of};
 ghost use Rattle.its_plain.specs.UnitPlan.{ContextFits};
@@ -21,7 +20,7 @@ use super::plans::{Draft, next, with_pending};
 use super::stores::none;
 use its_core::Core;
 use its_records::{Job, Site};
-use its_word::{BRK, ChainStep, Context, Fault, ILO, Instruction, MPV, Reached, WRO, Word};
+use its_word::{BRK, ChainStep, Context, Fault, ILO, Instruction, MPV, Reached, Slot, WRO, Word};
 
 /// The result of a unit: it is done; or a fault, with its bit of pending word 1, which leaves no part of it done; or
 /// a call of the monitor.
@@ -43,8 +42,7 @@ fn breaks(x: &Context) -> Result<Draft, Fault>
 
 /// The row of an instruction.
 #[tactic(auto, unfolding(its_plain::specs::Unit::row_of))]
-fn row(core: &Core, slot: u8, x: &Context, i: Instruction) -> Result<Draft, Fault>
-    requires slot { slot < slots }
+fn row(core: &Core, slot: Slot, x: &Context, i: Instruction) -> Result<Draft, Fault>
     requires fits { ContextFits x.now }
     requires numbers { IsRow i }
     ensures { result ≡ row_of (core_at core.now slot) x.now i }
@@ -79,8 +77,7 @@ pub fn fault_bit(f: Fault) -> u32
 }
 
 /// Plans what an instruction does, and does it.
-fn act(core: &mut Core, slot: u8, job: &mut Job, r: &Reached) -> Result<(), Fault>
-    requires slot { slot < slots }
+fn act(core: &mut Core, slot: Slot, job: &mut Job, r: &Reached) -> Result<(), Fault>
     requires pc { job.old.pc < 2 ^ 18 }
     requires ready { IsReady (ChainStep.Found r.now) }
     ensures done { OnOk result (outcome_of (core_at core.old slot) job.old (row_of (core_at core.old slot) r.now.context r.now.instruction) ≡ Changed (core_at core.new slot) job.new) }
@@ -114,8 +111,7 @@ fn is_call(i: Instruction) -> bool
 /// The unit of a job, whichever instruction it has, and wherever the instruction is.
 #[inline(never)]
 #[tactic(auto, using(crate::proofs::ChainLaws::unit_by, crate::proofs::ChainLaws::unit_lost, crate::proofs::ChainLaws::is_called))]
-pub fn rarely(core: &mut Core, slot: u8, job: &mut Job) -> Ended
-    requires slot { slot < slots }
+pub fn rarely(core: &mut Core, slot: Slot, job: &mut Job) -> Ended
     requires pc { job.old.pc < 2 ^ 18 }
     ensures { InPlace result (unit_of (core_at core.old slot) job.old) core.old core.new slot job.old job.new }
 {
@@ -135,8 +131,7 @@ pub fn rarely(core: &mut Core, slot: u8, job: &mut Job) -> Ended
 /// One unit of the job of a slot, as `unit` makes it, without the site of a call. At a fault and at a
 /// call the core and the job are as they were.
 #[inline(always)]
-pub fn run(core: &mut Core, slot: u8, job: &mut Job) -> Ended
-    requires slot { slot < slots }
+pub fn run(core: &mut Core, slot: Slot, job: &mut Job) -> Ended
     requires pc { job.old.pc < 2 ^ 18 }
     ensures unit { UnitEnds result (unit_of (core_at core.old slot) job.old) (core_at core.new slot) job.new }
     ensures pc { job.new.pc < 2 ^ 18 }
@@ -163,8 +158,7 @@ fn site_at(x: &Context, channel: Option<u8>, decode: Places) -> Site
 
 /// The site at which a job calls the monitor, whose unit is a call.
 #[tactic(auto, using(crate::proofs::ChainLaws::unit_iot, crate::proofs::ChainLaws::unit_call, crate::proofs::ChainLaws::no_other, crate::proofs::ChainLaws::no_fault))]
-pub fn site(core: &Core, slot: u8, job: &Job) -> Site
-    requires slot { slot < slots }
+pub fn site(core: &Core, slot: Slot, job: &Job) -> Site
     requires pc { job.now.pc < 2 ^ 18 }
     requires call { IsCalled (unit_of (core_at core.now slot) job.now) }
     ensures { unit_of (core_at core.now slot) job.now ≡ Called result }
@@ -182,8 +176,7 @@ pub fn site(core: &Core, slot: u8, job: &Job) -> Site
 
 /// One unit of the job of a slot. At a fault and at a call of the monitor the core and the job are as
 /// they were; the caller sets the bit of the fault.
-pub fn unit(core: &mut Core, slot: u8, job: &mut Job) -> Outcome
-    requires slot { slot < slots }
+pub fn unit(core: &mut Core, slot: Slot, job: &mut Job) -> Outcome
     requires pc { job.old.pc < 2 ^ 18 }
     ensures unit { Answers result (unit_of (core_at core.old slot) job.old) (core_at core.new slot) job.new }
     ensures pc { job.new.pc < 2 ^ 18 }

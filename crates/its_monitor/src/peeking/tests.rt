@@ -4,7 +4,7 @@ use arrayvec::ArrayVec;
 use its_calls::View;
 use its_frame::CallName;
 use its_records::{Ask, Block, Operand, Owed, Peek, PeekState, Site};
-use its_word::Word;
+use its_word::{Slot, Word};
 use std::process::Abort;
 use std::test::Fail;
 
@@ -105,9 +105,12 @@ fn frame(state: PeekState, parts: &Parts) -> View<'_> {
 #[test]
 fn frames(rt: HostRuntime) -> Result<(), Fail> {
     let mut m = Monitor::open(rt.alloc())?;
-    assert_eq!(rt; m.load_job(Word::new(7), Word::new(0o107), None), Ok(0));
-    assert_eq!(rt; m.load_word(0, 0o2000, Word::new(0o42)), Ok(()));
-    assert_eq!(rt; m.load_word(0, 0o2001, Word::new(0o43)), Ok(()));
+    assert_eq!(rt;
+        m.load_job(Word::new(7), Word::new(0o107), None),
+        Ok(Slot::FIRST)
+    );
+    assert_eq!(rt; m.load_word(Slot::FIRST, 0o2000, Word::new(0o42)), Ok(()));
+    assert_eq!(rt; m.load_word(Slot::FIRST, 0o2001, Word::new(0o43)), Ok(()));
     let there = [None, Some(0o2000), Some(0o2001)];
     let absent = [None, None, Some(0o4000)];
     let past = [None, Some(0o1000000), Some(0o2001)];
@@ -220,7 +223,10 @@ fn frames(rt: HostRuntime) -> Result<(), Fail> {
             b: shown[1].map(Word::new),
             h: h.map(Word::new),
         };
-        assert_eq!(rt; peek_of(&m.world, 0, &frame(state, &parts), left), wanted);
+        assert_eq!(rt;
+            peek_of(&m.world, Slot::FIRST, &frame(state, &parts), left),
+            wanted
+        );
     }
     Ok(())
 }

@@ -14,7 +14,6 @@ returns-then-not-goes_on-clause-circled g c =
 pub loop-k-preserved : goal.loop-k-preserved
 loop-k-preserved g c = record {
   sound = c.tick_line-flow.ensures.sound;
-  last = c.in-Some.ensures.slot;
   unfailed = c.tick_line-flow.ensures.cause.unfailed (not_fault _ (sym c.goes_on.ensures ∙ c.if-not-goes_on.false)) ∙ c.loop-k.invariant.unfailed;
   so_far = circle_turn _ _ _ _ _ _ _ _ _ _ _ _ _ c.loop-k-test.true c.loop-k.invariant.so_far (sym c.in-Some.ensures.turn) c.tick_line-flow.ensures.state
       (sym c.goes_on.ensures ∙ c.if-not-goes_on.false) c.tick_line-flow.ensures.told;

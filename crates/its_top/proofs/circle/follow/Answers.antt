@@ -8,8 +8,6 @@ pub returns-in_default : goal.returns-in_default
 returns-in_default g c = record {
   follows = line_follows _ _ _ _ _ _ _ _ _ _ (asks_none _ c.in_default.not-Run) c.answer.ensures.answered;
   sound = c.answer.ensures.sound;
-  slot = c.answer.ensures.slot;
-  last = c.requires.last;
   number = c.answer.ensures.kept;
   cause = c.answer.ensures.cause;
 }

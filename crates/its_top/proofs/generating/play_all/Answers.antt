@@ -5,7 +5,6 @@ use Rattle.its_top.proofs.generating.play_all.Goals as goal
 pub loop-event-init : goal.loop-event-init
 loop-event-init c = record {
   sound = c.requires.sound;
-  slot = omega arith;
   within = omega arith;
   steps = omega arith;
   drained = omega arith;

@@ -1,5 +1,4 @@
-use Rattle.std.proofs.Common.{◌≤◌, ◌<◌, ◌+◌, ◌-◌, ◌*◌, length, drop}
-use Rattle.its_word.specs.Limits.{slots}
+use Rattle.std.proofs.Common.{◌≤◌, ◌+◌, ◌-◌, ◌*◌, length, drop}
 use Rattle.its_session.specs.Generated.{generated_session}
 use Rattle.its_world.specs.World.{state_of}
 use Rattle.its_monitor.specs.Kept.{Kept}
@@ -9,7 +8,6 @@ use Rattle.its_top.proofs.generating.play_all.Given as goal
 abbrev pub invariant-loop-event : goal.invariant-loop-event
 invariant-loop-event l = record {
   sound : Kept l.m.world;
-  slot : l.play.progress.slot < slots;
   within : l.play.progress.number ≤ length (generated_session l.n);
   steps : l.play.tally.steps ≤ 512 * l.play.progress.number;
   drained : l.play.tally.drained ≤ 64 * l.play.progress.number;

@@ -17,8 +17,6 @@ take-flow-requires-clause-start g c = found_start c.loop-found.items.place c.in-
 pub loop-found-preserved : goal.loop-found-preserved
 loop-found-preserved g c = record {
   sound = c.take-flow.ensures.sound;
-  slot = c.take-flow.ensures.slot;
-  last = c.take-flow.ensures.last;
   few = c.in-Ok.ensures.few (not_last_by _ _ _ _ _ _ _ _ _ _ _ (sym c.goes_on.ensures ∙ c.if-not-goes_on.false) c.take-flow.ensures.takes);
   ready = c.in-Ok.ensures.ready;
   begun = start_over _ _ c.in-Ok.found _ c.in-Ok.ensures.place (not_last_by _ _ _ _ _ _ _ _ _ _ _ (sym c.goes_on.ensures ∙ c.if-not-goes_on.false) c.take-flow.ensures.takes);

@@ -1,5 +1,4 @@
-use Rattle.std.proofs.Common.{◌≡◌, ◌≤◌, ◌+◌, ◌-◌, ◌<◌}
-use Rattle.its_word.specs.Limits.{slots}
+use Rattle.std.proofs.Common.{◌≡◌, ◌≤◌, ◌+◌, ◌-◌}
 use Rattle.its_records.specs.declared.session.Place.TheVariants as places
 use Rattle.its_session.specs.Events.{most_lines}
 use Rattle.its_plain.specs.Machine.{no_machine}
@@ -14,8 +13,6 @@ use Rattle.its_top.proofs.run.run_items.Given as goal
 abbrev pub invariant-loop-found : goal.invariant-loop-found
 invariant-loop-found g l = record {
   sound : Kept l.m.world;
-  slot : l.p.slot < slots;
-  last : l.last < slots;
   few : l.items.lines.number ≤ most_lines;
   ready : BetweenLines l.items.lines (g.S.Source.left l.src);
   begun : l.items.place ≡ places.First → state_of l.m.world ≡ no_state no_machine;

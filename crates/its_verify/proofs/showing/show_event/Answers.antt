@@ -1,21 +1,11 @@
 use Rattle.std.proofs.Common.{rules, subst, sym}
 use Rattle.its_records.specs.declared.session.Event.{Event}
-use Rattle.its_session.specs.Fits.{EventFits}
 use Rattle.its_direct.specs.Plain.{machine_of}
 use Rattle.its_verify.specs.TranscriptReader.{Says}
 use Rattle.its_verify.specs.Rulings.{Ruling, expects}
 use Rattle.its_verify.specs.Showing.{lines_of}
-use Rattle.its_verify.proofs.ShowingLaws.{in_slots, nothing_says}
+use Rattle.its_verify.proofs.ShowingLaws.{nothing_says}
 use Rattle.its_verify.proofs.showing.show_event.Goals as goal
-
-pub show_words-requires-clause-slot : goal.show_words-requires-clause-slot
-show_words-requires-clause-slot g c = in_slots c.in-Exam.s (subst (EventFits 2) c.in-Exam.is c.requires.fits).0
-
-pub list_words-requires-clause-slot : goal.list_words-requires-clause-slot
-list_words-requires-clause-slot g c = in_slots c.in-List.s (subst (EventFits 2) c.in-List.is c.requires.fits).0
-
-pub show_state-requires-clause-slot : goal.show_state-requires-clause-slot
-show_state-requires-clause-slot g c = in_slots c.in-State.s (subst (EventFits 2) c.in-State.is c.requires.fits)
 
 pub returns-in-List-clause-says : goal.returns-in-List-clause-says
 returns-in-List-clause-says g c =

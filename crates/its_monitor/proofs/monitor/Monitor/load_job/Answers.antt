@@ -11,11 +11,11 @@ pub hold_console-requires : goal.hold_console-requires
 hold_console-requires c = record { console = console_there c.args.console (sym c.no_console.ensures ∙ c.if-no_console.false) }
 
 pub returns-in-Ok-clause-done : goal.returns-in-Ok-clause-done
-returns-in-Ok-clause-done c = load_done _ _ _ _ _ _ _ c.requires.kept c.in-Ok.ensures.slot.0 c.in-Ok.ensures.made c.hold_console.ensures
+returns-in-Ok-clause-done c = load_done _ _ _ _ _ _ _ c.requires.kept c.in-Ok.ensures.slot c.in-Ok.ensures.made c.hold_console.ensures
 
 pub returns-in-Ok-clause-kept : goal.returns-in-Ok-clause-kept
 returns-in-Ok-clause-kept c =
-    load_kept _ _ _ _ _ _ _ (console_there c.args.console (sym c.no_console.ensures ∙ c.if-no_console.false)) c.requires.kept c.in-Ok.ensures.slot.0 c.in-Ok.ensures.made
+    load_kept _ _ _ _ _ _ _ (console_there c.args.console (sym c.no_console.ensures ∙ c.if-no_console.false)) c.requires.kept c.in-Ok.ensures.slot c.in-Ok.ensures.made
     c.hold_console.ensures
 
 pub returns-in-Err-clause-refused : goal.returns-in-Err-clause-refused

@@ -1,13 +1,8 @@
 use Rattle.std.proofs.Common.{subst}
-use Rattle.its_session.specs.Fits.{EventFits}
-use Rattle.its_verify.proofs.ShowingLaws.{in_slots}
 use Rattle.its_direct.specs.Events.{MayStand, spot_place}
 use Rattle.its_verify.proofs.OutLaws.{tick_out}
 use Rattle.its_verify.proofs.VerifierLaws.{outside_tick}
 use Rattle.its_verify.proofs.verifier.Verifier.line.Goals as goal
-
-pub ticks-requires-clause-slot : goal.ticks-requires-clause-slot
-ticks-requires-clause-slot g c = in_slots c.in-Tick.s (subst (EventFits 2) c.in-Tick.is c.requires.fits).0
 
 pub ticks-requires-clause-outside : goal.ticks-requires-clause-outside
 ticks-requires-clause-outside g c =

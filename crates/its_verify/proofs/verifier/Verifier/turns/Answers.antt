@@ -19,7 +19,7 @@ pub loop-k-preserved : goal.loop-k-preserved
 loop-k-preserved g c =
     let is : c.ticks.result ≡ Ok None = c.in_ok-outcome.was ∙ ap Ok c.in_default-2.is in
     record {
-      at_item = stays_by c.ticks.result c.ticks.new.self c.in-Some.slot (g.S.Source.left c.ticks.new.src) is c.ticks.ensures.stays c.in-Some.ensures.slot;
+      at_item = stays_by c.ticks.result c.ticks.new.self c.in-Some.slot (g.S.Source.left c.ticks.new.src) is c.ticks.ensures.stays;
       place = c.ticks.ensures.place ∙ c.loop-k.invariant.place;
       unfailed = unfailed_by c.ticks.result (g.S.Source.faults c.loop-k.src) (g.S.Source.faults c.ticks.new.src) (g.S.Source.faults c.args.src.now) is c.ticks.ensures.cause c.loop-k.invariant.unfailed;
       so_far =
