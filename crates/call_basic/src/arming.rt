@@ -9,6 +9,7 @@ use super::sleeping::is_negative;
 use arrayvec::ArrayVec;
 use its_frame::{Change, Decision, error};
 use its_records::{Ask, Job};
+use its_word::Slot;
 use its_world::World;
 
 /// The longest period of an alarm, in thirtieths.
@@ -17,7 +18,7 @@ const LONGEST_PERIOD: u64 = 0o200000000000;
 /// REALT n: the job has an alarm from now on, of period n, whose next time is n thirtieths from now; with 0 it has none. Error 22 if n
 /// is below 0 or longer than 2^34.
 #[tactic(auto, unfolding(its_plain::specs::CallBasic::realt, its_plain::specs::View::view, its_world::specs::World::state_of))]
-pub fn realt(w: &World, slot: u8, job: &Job, ask: &Ask) -> Decision
+pub fn realt(w: &World, slot: Slot, job: &Job, ask: &Ask) -> Decision
     requires tidy { Tidy w.now }
     ensures { result ≡ realt (seen_by w.now slot job.now ask.now) ask.now }
 {

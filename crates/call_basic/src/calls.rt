@@ -1,5 +1,4 @@
-ghost use Rattle.std.specs.Prelude.{◌≡◌, ◌<◌, true, is_some, IfSome};
-ghost use Rattle.its_word.specs.Limits.{slots};
+ghost use Rattle.std.specs.Prelude.{◌≡◌, true, is_some, IfSome};
 ghost use Rattle.its_frame.specs.declared.decision.Decision.TheVariants.{Gone};
 ghost use Rattle.its_jobs.specs.Table.{job_at, superior_at};
 ghost use Rattle.its_plain.specs.CallBasic.{told_superior};
@@ -12,17 +11,16 @@ use super::party::{channel, is_oneself};
 use arrayvec::ArrayVec;
 use its_frame::{CallName, Change, Decision};
 use its_records::{Ask, Channel, Job};
-use its_word::Word;
+use its_word::{Slot, Word};
 use its_world::World;
 
 /// The slot of the job into which the call of a slot's job reaches, through an open channel on it.
 #[tactic(auto, using(crate::proofs::RawLaws::target_here))]
-pub fn target_of(w: &World, slot: u8, ask: &Ask) -> Option<u8>
-    requires slot { slot < slots }
+pub fn target_of(w: &World, slot: Slot, ask: &Ask) -> Option<u8>
     requires job { is_some (job_at w.now.jobs slot) ≡ true }
     ensures { IfSome (raw_in w.now slot) (λ q. result ≡ target q ask.now) }
 {
-    match w.jobs.job(slot) {
+    match w.jobs.job(slot.number()) {
         Some(job) => target(w, slot, job, ask),
         None => unreachable!(),
     }
@@ -30,7 +28,7 @@ pub fn target_of(w: &World, slot: u8, ask: &Ask) -> Option<u8>
 
 /// The same, by the job's registers.
 #[tactic(auto, unfolding(its_plain::specs::Decide::target))]
-fn target(w: &World, slot: u8, job: &Job, ask: &Ask) -> Option<u8>
+fn target(w: &World, slot: Slot, job: &Job, ask: &Ask) -> Option<u8>
     ensures { result ≡ target (raw_with w.now slot job.now) ask.now }
 {
     if ask.fail != 0 {
@@ -47,7 +45,7 @@ fn target(w: &World, slot: u8, job: &Job, ask: &Ask) -> Option<u8>
 
 /// The slot of the job that a job argument names, other than oneself.
 #[tactic(auto, using(its_machine::proofs::NumberLaws::under))]
-fn reached(w: &World, slot: u8, job: &Job, party: Word) -> Option<u8>
+fn reached(w: &World, slot: Slot, job: &Job, party: Word) -> Option<u8>
     ensures { result ≡ reached_by (raw_with w.now slot job.now) party }
 {
     if is_oneself(party) {
@@ -60,11 +58,11 @@ fn reached(w: &World, slot: u8, job: &Job, party: Word) -> Option<u8>
 }
 
 /// LOGOUT: the job and all jobs below it are removed, and INF is set in its superior.
-pub fn logout(w: &World, slot: u8) -> Decision
+pub fn logout(w: &World, slot: Slot) -> Decision
     ensures { result ≡ Gone (record { items = told_superior (superior_at w.now.jobs slot) }) }
 {
     let mut changes = ArrayVec::new();
-    if let Some(superior) = w.jobs.superior(slot) {
+    if let Some(superior) = w.jobs.superior(slot.number()) {
         changes.push(Change::Inform { slot: superior });
     }
     Decision::Gone { changes }

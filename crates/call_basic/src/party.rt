@@ -5,7 +5,7 @@ ghost use Rattle.its_machine.specs.Called.{channel_under};
 ghost use Rattle.call_basic.specs.Seen.{outline_at};
 
 use its_records::{Channel, Job};
-use its_word::Word;
+use its_word::{Slot, Word};
 use its_world::World;
 
 /// Whether an argument names the caller itself.
@@ -27,11 +27,11 @@ pub fn channel(job: &Job, number: Word) -> Channel
 }
 
 /// Whether a job is the superior of the job of a slot.
-pub fn is_superior(w: &World, slot: u8, inferior: u8) -> bool
+pub fn is_superior(w: &World, slot: Slot, inferior: u8) -> bool
     ensures { result ≡ is_superior slot (outline_at w.now inferior) }
 {
     match w.jobs.job(inferior) {
-        Some(_) => w.jobs.superior(inferior) == Some(slot),
+        Some(_) => w.jobs.superior(inferior) == Some(slot.number()),
         None => false,
     }
 }

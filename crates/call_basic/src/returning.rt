@@ -1,5 +1,4 @@
-ghost use Rattle.std.specs.Prelude.{◌≡◌, ◌<◌};
-ghost use Rattle.its_word.specs.Limits.{slots};
+ghost use Rattle.std.specs.Prelude.{◌≡◌};
 ghost use Rattle.its_plain.specs.CallBasic.{dismiss};
 ghost use Rattle.call_basic.specs.Seen.{seen_by};
 
@@ -15,12 +14,11 @@ use its_world::World;
 /// stack pointer word at p. Error 17 if p is immediate; MPV if one of the words is absent, else WRO if p is read
 /// only.
 #[tactic(auto, using(its_machine::proofs::BareLaws::dismissed_bare), unfolding(its_plain::specs::CallBasic::dismiss, its_plain::specs::View::view, its_world::specs::World::state_of))]
-pub fn dismiss(w: &World, slot: u8, job: &Job, ask: &Ask) -> Decision
-    requires { slot < slots }
+pub fn dismiss(w: &World, slot: Slot, job: &Job, ask: &Ask) -> Decision
     ensures { result ≡ dismiss (seen_by w.now slot job.now ask.now) ask.now }
 {
     match place_of_input(ask, 0) {
-        Some(p) => match dismissed(&w.core, job, Slot::new(slot), p) {
+        Some(p) => match dismissed(&w.core, job, slot, p) {
             Ok(exit) => ends(store_at(Some(p), popped(input(ask, 0))), exit),
             Err(fault) => faults(job, fault),
         },

@@ -1,5 +1,4 @@
-ghost use Rattle.std.specs.Prelude.{◌≡◌, ◌<◌, Some};
-ghost use Rattle.its_word.specs.Limits.{slots};
+ghost use Rattle.std.specs.Prelude.{◌≡◌, Some};
 ghost use Rattle.its_frame.specs.declared.name.CallName.TheVariants.{Usrvar};
 ghost use Rattle.its_plain.specs.Arguments.{has_input, input};
 ghost use Rattle.its_frame.specs.Variables.{variable_named};
@@ -17,15 +16,14 @@ use super::variables::{by_oneself, by_superior, exit_with, variable_of};
 use arrayvec::ArrayVec;
 use its_frame::{Change, Decision, Store, Variable, error};
 use its_records::{Ask, Channel, Job};
-use its_word::Word;
+use its_word::{Slot, Word};
 use its_world::World;
 
 /// USRVAR job, name, optional new value: the output gets the value before, and then the new value is set. Errors 4 if
 /// the channel is closed, 5 if it is on no job, 22 if no variable has the name, 5 if the channel has no leave to
 /// write, and 22 if the variable cannot be set so.
 #[tactic(auto, using(its_machine::proofs::NumberLaws::under, crate::proofs::RawLaws::usrvar_target), unfolding(its_plain::specs::CallBasic::usrvar, its_plain::specs::View::view, its_world::specs::World::state_of))]
-pub fn usrvar(w: &World, slot: u8, job: &Job, ask: &Ask) -> Decision
-    requires slot { slot < slots }
+pub fn usrvar(w: &World, slot: Slot, job: &Job, ask: &Ask) -> Decision
     requires fail { ask.now.fail ≡ 0 }
     requires name { call_named_by ask.now.name ≡ Some Usrvar }
     ensures { result ≡ usrvar (seen_by w.now slot job.now ask.now) ask.now }
@@ -47,8 +45,7 @@ pub fn usrvar(w: &World, slot: u8, job: &Job, ask: &Ask) -> Decision
 
 /// USRVAR on oneself.
 #[tactic(auto, unfolding(its_plain::specs::View::view, its_world::specs::World::state_of))]
-fn own_variable(w: &World, slot: u8, job: &Job, ask: &Ask) -> Decision
-    requires { slot < slots }
+fn own_variable(w: &World, slot: Slot, job: &Job, ask: &Ask) -> Decision
     ensures { result ≡ own_variable (seen_by w.now slot job.now ask.now) ask.now (variable_named (input ask.now 1)) }
 {
     let Some(variable) = Variable::named(input(ask, 1)) else {
@@ -62,8 +59,7 @@ fn own_variable(w: &World, slot: u8, job: &Job, ask: &Ask) -> Decision
 
 /// The output gets the value of a variable of one's own, and then the new value is set, if there is one.
 #[tactic(auto, using(its_machine::proofs::BareLaws::set_bare), unfolding(its_plain::specs::View::view, its_world::specs::World::state_of))]
-fn set_own(w: &World, slot: u8, job: &Job, ask: &Ask, variable: Variable) -> Decision
-    requires { slot < slots }
+fn set_own(w: &World, slot: Slot, job: &Job, ask: &Ask, variable: Variable) -> Decision
     ensures { result ≡ set_own (seen_by w.now slot job.now ask.now) ask.now variable (has_input ask.now 2) }
 {
     let stores = output(ask, variable_of(w, slot, job, variable));
@@ -76,7 +72,14 @@ fn set_own(w: &World, slot: u8, job: &Job, ask: &Ask, variable: Variable) -> Dec
 
 /// USRVAR through a channel on an inferior.
 #[tactic(auto, unfolding(its_plain::specs::View::view, its_world::specs::World::state_of))]
-fn other_variable(w: &World, slot: u8, job: &Job, ask: &Ask, inferior: u8, write: bool) -> Decision
+fn other_variable(
+    w: &World,
+    slot: Slot,
+    job: &Job,
+    ask: &Ask,
+    inferior: u8,
+    write: bool,
+) -> Decision
     requires target { target (raw_with w.now slot job.now) ask.now ≡ Some inferior }
     ensures { result ≡ other_variable (seen_by w.now slot job.now ask.now) ask.now inferior write (variable_named (input ask.now 1)) }
 {
@@ -99,7 +102,7 @@ fn value_of_other(w: &World, inferior: u8, variable: Variable) -> Word
     ensures { result ≡ value_of_other inferior variable (raw_in w.now inferior) }
 {
     match w.jobs.job(inferior) {
-        Some(job) => variable_of(w, inferior, job, variable),
+        Some(job) => variable_of(w, Slot::new(inferior), job, variable),
         None => Word::ZERO,
     }
 }

@@ -1,5 +1,4 @@
-ghost use Rattle.std.specs.Prelude.{◌≡◌, ◌<◌, ◌+◌, ◌∷◌, [], None};
-ghost use Rattle.its_word.specs.Limits.{slots};
+ghost use Rattle.std.specs.Prelude.{◌≡◌, ◌+◌, ◌∷◌, [], None};
 ghost use Rattle.its_core.specs.Cores.{core_at};
 ghost use Rattle.its_plain.specs.CallBasic.{is_negative, negated, read_only, shared_place, sleep};
 ghost use Rattle.its_plain.specs.Tests.{goes};
@@ -10,7 +9,7 @@ use super::ends::{fails, faults, finishes};
 use arrayvec::ArrayVec;
 use its_frame::{Decision, Wait, error};
 use its_records::{Ask, Job};
-use its_word::{Fault, Word};
+use its_word::{Fault, Slot, Word};
 use its_world::World;
 
 /// The longest sleep, in thirtieths.
@@ -22,8 +21,7 @@ const WORDS: u64 = 0o1000000000000;
 /// SLEEP n: for n above 0 its argument becomes minus the time of waking; for n below 0 it waits for that time. Errors
 /// 22 if n is too long, 17 if n is no word of its own, and WRO.
 #[tactic(auto, unfolding(its_plain::specs::CallBasic::sleep, its_plain::specs::View::view, its_world::specs::World::state_of))]
-pub fn sleep(w: &World, slot: u8, job: &Job, ask: &Ask) -> Decision
-    requires { slot < slots }
+pub fn sleep(w: &World, slot: Slot, job: &Job, ask: &Ask) -> Decision
     ensures { result ≡ sleep (seen_by w.now slot job.now ask.now) ask.now }
 {
     let n = input(ask, 0).value();
@@ -69,12 +67,11 @@ pub fn is_shared_place(ask: &Ask, place: Option<u32>) -> bool
 
 /// Whether the word of the argument cannot be stored.
 #[inline(always)]
-pub fn is_read_only(w: &World, slot: u8, place: Option<u32>) -> bool
-    requires { slot < slots }
+pub fn is_read_only(w: &World, slot: Slot, place: Option<u32>) -> bool
     ensures { result ≡ read_only (core_at w.now.core slot) place }
 {
     match place {
-        Some(p) => !w.core.is_storable(slot, p),
+        Some(p) => !w.core.is_storable(slot.number(), p),
         None => false,
     }
 }

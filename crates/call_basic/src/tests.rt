@@ -7,7 +7,7 @@ use its_core::Core;
 use its_frame::{CallName, Change, Decision, Exit, Store, Variable, Wait, error};
 use its_jobs::Jobs;
 use its_records::{Ask, Channel, Operand};
-use its_word::{BYTE_HALF, SLOTS, Word};
+use its_word::{BYTE_HALF, SLOTS, Slot, Word};
 use its_world::World;
 use std::alloc::Global;
 use std::process::Abort;
@@ -214,13 +214,14 @@ fn wanted(rt: &impl Abort, want: Want) -> Decision {
 
 /// The decision of a call of slot 1 whose decoding gave no error.
 fn decision(rt: &impl Abort, w: &World, ask: &Ask) -> Decision {
+    let slot = Slot::new(1);
     let job = w.jobs.job(1).expect(rt, "slot 1 has a job");
     assert!(rt; ask.fail == 0);
     match CallName::named(ask.name) {
-        Some(CallName::Sleep) => sleep(w, 1, job, ask),
-        Some(CallName::Dismis) => dismiss(w, 1, job, ask),
-        Some(CallName::Usrvar) => usrvar(w, 1, job, ask),
-        Some(CallName::Logout) => logout(w, 1),
+        Some(CallName::Sleep) => sleep(w, slot, job, ask),
+        Some(CallName::Dismis) => dismiss(w, slot, job, ask),
+        Some(CallName::Usrvar) => usrvar(w, slot, job, ask),
+        Some(CallName::Logout) => logout(w, slot),
         _ => fails(job, ask, error::NO_CALL),
     }
 }
@@ -418,11 +419,11 @@ fn calls(rt: HostRuntime) -> Result<(), Fail> {
     ] {
         let ask = ask(&rt, name, inputs, outputs);
         let wanted = wanted(&rt, want);
-        assert_eq!(rt; target_of(&w, 1, &ask), target, "{name:?}");
+        assert_eq!(rt; target_of(&w, Slot::new(1), &ask), target, "{name:?}");
         assert_eq!(rt; decision(&rt, &w, &ask), wanted, "{name:?}");
     }
     let iot = ask(&rt, CallName::Iot, &[(0, None)], &none);
-    assert_eq!(rt; target_of(&w, 1, &iot), Some(2));
+    assert_eq!(rt; target_of(&w, Slot::new(1), &iot), Some(2));
     Ok(())
 }
 

@@ -1,8 +1,7 @@
 //! What `.IOT` and SIOT have in common, whatever their channel is on: SIOT's tests, and the ways in which they move a byte or a word.
-ghost use Rattle.std.specs.Prelude.{◌≡◌, ◌==◌, ◌<◌, ◌||◌, ◌∷◌, ◌-◌, [], true, false, IfOk};
+ghost use Rattle.std.specs.Prelude.{◌≡◌, ◌==◌, ◌||◌, ◌∷◌, ◌-◌, [], true, false, IfOk};
 ghost use Rattle.std.specs.Option.{option_to_list};
 ghost use Rattle.its_word.specs.Byte.{size};
-ghost use Rattle.its_word.specs.Limits.{slots};
 ghost use Rattle.its_records.specs.declared.jobs.Job.{Job};
 ghost use Rattle.its_core.specs.Cores.{core_at};
 ghost use Rattle.its_frame.specs.declared.decision.Decision.TheVariants.{Ends, Goes};
@@ -23,7 +22,7 @@ use arrayvec::ArrayVec;
 use its_bytes::{has_size, increment};
 use its_frame::{Change, Decision, Held, Store, Wait, error};
 use its_records::{Ask, Job};
-use its_word::{Fault, Word};
+use its_word::{Fault, Slot, Word};
 use its_world::World;
 
 /// Bits 13 to 17 of a word are the low five bits of its left half: I and X of a byte pointer.
@@ -54,14 +53,13 @@ pub fn iot_ends(job: &Job, change: Option<Change>, stores: ArrayVec<Store, 2>) -
 }
 
 /// Why a word cannot be stored.
-pub fn bar_of_store(w: &World, slot: u8, at: u32) -> Option<Fault>
-    requires { slot < slots }
+pub fn bar_of_store(w: &World, slot: Slot, at: u32) -> Option<Fault>
     ensures { result ≡ bar_of (core_at w.now.core slot) at }
 {
-    if w.core.word(slot, at).is_none() {
+    if w.core.word(slot.number(), at).is_none() {
         return Some(Fault::Mpv);
     }
-    if !w.core.is_storable(slot, at) {
+    if !w.core.is_storable(slot.number(), at) {
         return Some(Fault::Wro);
     }
     None
@@ -117,8 +115,7 @@ pub struct Part {
 /// that its device moves only whole words.
 #[inline(always)]
 #[tactic(auto, unfolding(its_plain::specs::View::view, its_world::specs::World::state_of))]
-pub fn next_byte(w: &World, slot: u8, ask: &Ask, words: bool, ended: bool) -> Result<Word, Stop>
-    requires { slot < slots }
+pub fn next_byte(w: &World, slot: Slot, ask: &Ask, words: bool, ended: bool) -> Result<Word, Stop>
     ensures stops { (j : Job) → stop_in j ask.now result ≡ first_of (siot_tests (seen_by w.now slot j ask.now) ask.now (input ask.now 1) (input ask.now 2) words ended) }
     ensures next { IfOk result (λ n. n ≡ next_pointer (input ask.now 1)) }
 {
@@ -219,13 +216,12 @@ fn going(part: Part) -> Decision
 /// The first of SIOT's tests that holds, as a decision (`next_byte`).
 pub fn stopped(
     w: &World,
-    slot: u8,
+    slot: Slot,
     job: &Job,
     ask: &Ask,
     words: bool,
     ended: bool,
 ) -> Option<Decision>
-    requires { slot < slots }
     ensures { result ≡ first_of (siot_tests (seen_by w.now slot job.now ask.now) ask.now (input ask.now 1) (input ask.now 2) words ended) }
 {
     match next_byte(w, slot, ask, words, ended) {

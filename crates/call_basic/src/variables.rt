@@ -1,6 +1,5 @@
 //! The variables of a job: their values, who may set them, and setting one.
-ghost use Rattle.std.specs.Prelude.{◌≡◌, ◌<◌};
-ghost use Rattle.its_word.specs.Limits.{slots};
+ghost use Rattle.std.specs.Prelude.{◌≡◌};
 ghost use Rattle.its_plain.specs.CallBasic.{by_oneself, by_superior};
 ghost use Rattle.its_plain.specs.Own.{with_advance, exit_of, variable_of, with_variable};
 ghost use Rattle.call_basic.specs.Seen.{raw_with};
@@ -8,15 +7,21 @@ ghost use Rattle.call_basic.specs.Seen.{raw_with};
 use super::ends::exit_after;
 use its_frame::{Exit, Variable};
 use its_records::Job;
-use its_word::{Word, flags_in};
+use its_word::{Slot, Word, flags_in};
 use its_world::World;
 
 /// The value of a variable of a slot's job.
-pub(crate) fn variable_of(w: &World, slot: u8, job: &Job, variable: Variable) -> Word
-    requires { slot < slots }
+pub(crate) fn variable_of(w: &World, slot: Slot, job: &Job, variable: Variable) -> Word
     ensures { result ≡ variable_of slot (raw_with w.now slot job.now) variable }
 {
-    its_machine::variable_of(&w.core, &w.jobs, slot, slot, job, variable)
+    its_machine::variable_of(
+        &w.core,
+        &w.jobs,
+        slot.number(),
+        slot.number(),
+        job,
+        variable,
+    )
 }
 
 /// Whether a job may set a variable of its own.

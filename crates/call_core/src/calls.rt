@@ -1,5 +1,4 @@
-ghost use Rattle.std.specs.Prelude.{◌≡◌, ◌<◌, true, not, is_some, IfSome, None, Some, []};
-ghost use Rattle.its_word.specs.Limits.{slots};
+ghost use Rattle.std.specs.Prelude.{◌≡◌, true, not, is_some, IfSome, None, Some, []};
 ghost use Rattle.its_frame.specs.declared.name.CallName.TheVariants.{Siot};
 ghost use Rattle.its_jobs.specs.Table.{job_at};
 ghost use Rattle.its_plain.specs.Arguments.{input};
@@ -20,22 +19,21 @@ use call_tty::{finish, listen, ttylnd};
 use call_usr::{uclose, usrmem};
 use its_frame::{CallName, Decision, Wait, error};
 use its_records::{Ask, Job};
-use its_word::Word;
+use its_word::{Slot, Word};
 use its_world::World;
 
 /// The name of SIOT.
 const SIOT: u64 = 0o635157640000;
 
 /// The decision of the call of a slot's job.
-pub fn decide(w: &World, slot: u8, ask: &Ask) -> Decision
-    requires slot { slot < slots }
+pub fn decide(w: &World, slot: Slot, ask: &Ask) -> Decision
     requires job { is_some (job_at w.now.jobs slot) ≡ true }
     requires tidy { Tidy w.now }
     requires forest { Forest (state_of w.now).raw }
     requires unmarked { IfSome (raw_in w.now slot) (λ q. helps q ask.now ≡ true → w.now.files.mark ≡ None) }
     ensures { IfSome (raw_in w.now slot) (λ q. result ≡ decision (state_of w.now).raw slot q ask.now) }
 {
-    match w.jobs.job(slot) {
+    match w.jobs.job(slot.number()) {
         Some(job) => decided(w, slot, job, ask),
         None => unreachable!(),
     }
@@ -43,8 +41,7 @@ pub fn decide(w: &World, slot: u8, ask: &Ask) -> Decision
 
 /// The part of the call of a slot's job that is done next, if the call is SIOT and moves a byte by one change. Then it reaches no
 /// other job, and no close is half made. None says nothing.
-pub fn part(w: &World, slot: u8, ask: &Ask) -> Option<Part>
-    requires slot { slot < slots }
+pub fn part(w: &World, slot: Slot, ask: &Ask) -> Option<Part>
     requires job { is_some (job_at w.now.jobs slot) ≡ true }
     requires tidy { Tidy w.now }
     ensures goes { IfSome result (λ p. IfSome (raw_in w.now slot) (λ q. going p ≡ decision (state_of w.now).raw slot q ask.now)) }
@@ -62,8 +59,7 @@ pub fn part(w: &World, slot: u8, ask: &Ask) -> Option<Part>
 }
 
 /// The same if no close is half made.
-fn unmarked_part(w: &World, slot: u8, ask: &Ask) -> Option<Part>
-    requires slot { slot < slots }
+fn unmarked_part(w: &World, slot: Slot, ask: &Ask) -> Option<Part>
     requires job { is_some (job_at w.now.jobs slot) ≡ true }
     requires fail { ask.now.fail ≡ 0 }
     requires name { call_named_by ask.now.name ≡ Some Siot }
@@ -74,7 +70,7 @@ fn unmarked_part(w: &World, slot: u8, ask: &Ask) -> Option<Part>
     ensures unmarked { IfSome result (λ p. w.now.files.mark ≡ None) }
     ensures name { IfSome result (λ p. call_named_by ask.now.name ≡ Some Siot) }
 {
-    match w.jobs.job(slot) {
+    match w.jobs.job(slot.number()) {
         Some(job) => siot_part(w, slot, job, ask),
         None => None,
     }
@@ -89,8 +85,7 @@ pub fn is_siot(ask: &Ask) -> bool
 }
 
 /// Whether the call of a slot's job can go on.
-pub fn ready(w: &World, slot: u8, ask: &Ask) -> bool
-    requires slot { slot < slots }
+pub fn ready(w: &World, slot: Slot, ask: &Ask) -> bool
     requires job { is_some (job_at w.now.jobs slot) ≡ true }
     requires tidy { Tidy w.now }
     requires forest { Forest (state_of w.now).raw }
@@ -106,8 +101,7 @@ pub fn ready(w: &World, slot: u8, ask: &Ask) -> bool
 /// The decision of the call of a job with these registers: the one place that says which function, of which crate, serves a call. An
 /// error of its decoding comes first.
 #[tactic(auto, unfolding(its_plain::specs::Decide::decided, its_plain::specs::View::view, its_world::specs::World::state_of))]
-fn decided(w: &World, slot: u8, job: &Job, ask: &Ask) -> Decision
-    requires slot { slot < slots }
+fn decided(w: &World, slot: Slot, job: &Job, ask: &Ask) -> Decision
     requires job { job_at w.now.jobs slot ≡ Some job.now }
     requires tidy { Tidy w.now }
     requires forest { Forest (state_of w.now).raw }

@@ -1,6 +1,5 @@
 //! The calls that devices share: OPEN by its device; CLOSE, `.IOT` and SIOT by what the channel is on.
 ghost use Rattle.std.specs.Prelude.{◌≡◌, ◌<◌, ◌∷◌, [], true, false, None, Some, IfSome};
-ghost use Rattle.its_word.specs.Limits.{slots};
 ghost use Rattle.its_frame.specs.declared.change.Change.TheVariants.{Shut};
 ghost use Rattle.its_frame.specs.declared.decision.Decision.TheVariants.{Ends};
 ghost use Rattle.its_frame.specs.declared.name.CallName.TheVariants.{Iot, Siot};
@@ -26,12 +25,12 @@ use call_tty::{iot_in, iot_out, open_tty, siot_in, siot_out};
 use call_usr::{iot_through, is_usr, open_usr, siot_through};
 use its_frame::{Change, Decision, error};
 use its_records::{Ask, Channel, Job};
+use its_word::Slot;
 use its_world::World;
 
 /// OPEN by its device: any but DSK, USR and LNK has to be TTY.
 #[tactic(auto, unfolding(its_plain::specs::CallDevice::open_call))]
-pub(crate) fn open(w: &World, slot: u8, job: &Job, ask: &Ask) -> Decision
-    requires { slot < slots }
+pub(crate) fn open(w: &World, slot: Slot, job: &Job, ask: &Ask) -> Decision
     ensures { result ≡ open_call (seen_by w.now slot job.now ask.now) ask.now }
 {
     if is_disk(ask) {
@@ -48,8 +47,7 @@ pub(crate) fn open(w: &World, slot: u8, job: &Job, ask: &Ask) -> Decision
 /// CLOSE by what the channel is on: a draft becomes a file, an end of a link is closed, any other channel is closed alone. Error 4, and
 /// those of a draft.
 #[tactic(auto, using(call_file::proofs::HeldLaws::reading, call_file::proofs::HeldLaws::writing, its_machine::proofs::NumberLaws::numbers), unfolding(its_plain::specs::CallDevice::close_call, its_plain::specs::View::view, its_world::specs::World::state_of))]
-pub(crate) fn close(w: &World, slot: u8, job: &Job, ask: &Ask) -> Decision
-    requires slot { slot < slots }
+pub(crate) fn close(w: &World, slot: Slot, job: &Job, ask: &Ask) -> Decision
     requires job { job_at w.now.jobs slot ≡ Some job.now }
     requires tidy { Tidy w.now }
     ensures { result ≡ close_call (seen_by w.now slot job.now ask.now) ask.now }
@@ -78,8 +76,7 @@ fn shut(job: &Job, ask: &Ask) -> Decision
 
 /// `.IOT` by what the channel is on; IOC if it is closed.
 #[tactic(auto, using(call_file::proofs::HeldLaws::reading, call_file::proofs::HeldLaws::writing, call_file::proofs::RawLaws::iot_helps), unfolding(its_plain::specs::CallDevice::iot_call, its_plain::specs::View::view, its_world::specs::World::state_of))]
-pub(crate) fn iot(w: &World, slot: u8, job: &Job, ask: &Ask) -> Decision
-    requires slot { slot < slots }
+pub(crate) fn iot(w: &World, slot: Slot, job: &Job, ask: &Ask) -> Decision
     requires fail { ask.now.fail ≡ 0 }
     requires name { call_named ask.now.name ≡ Some Iot }
     requires job { job_at w.now.jobs slot ≡ Some job.now }
@@ -105,8 +102,7 @@ pub(crate) fn iot(w: &World, slot: u8, job: &Job, ask: &Ask) -> Decision
 
 /// SIOT by what the channel is on. Error 4.
 #[tactic(auto, using(call_file::proofs::HeldLaws::reading, call_file::proofs::HeldLaws::writing, call_file::proofs::RawLaws::siot_helps), unfolding(its_plain::specs::CallDevice::siot_call, its_plain::specs::View::view, its_world::specs::World::state_of))]
-pub(crate) fn siot(w: &World, slot: u8, job: &Job, ask: &Ask) -> Decision
-    requires slot { slot < slots }
+pub(crate) fn siot(w: &World, slot: Slot, job: &Job, ask: &Ask) -> Decision
     requires fail { ask.now.fail ≡ 0 }
     requires name { call_named ask.now.name ≡ Some Siot }
     requires job { job_at w.now.jobs slot ≡ Some job.now }
@@ -136,8 +132,7 @@ pub(crate) fn siot(w: &World, slot: u8, job: &Job, ask: &Ask) -> Decision
 
 /// The part of SIOT that is done next, if its channel is on a console, a file, a draft or a link and a byte can be moved.
 #[tactic(auto, using(call_file::proofs::HeldLaws::reading, call_file::proofs::HeldLaws::writing), unfolding(its_plain::specs::CallDevice::siot_call, its_plain::specs::View::view, its_world::specs::World::state_of))]
-pub(crate) fn siot_part(w: &World, slot: u8, job: &Job, ask: &Ask) -> Option<Part>
-    requires slot { slot < slots }
+pub(crate) fn siot_part(w: &World, slot: Slot, job: &Job, ask: &Ask) -> Option<Part>
     requires job { job_at w.now.jobs slot ≡ Some job.now }
     requires tidy { Tidy w.now }
     requires unmarked { w.now.files.mark ≡ None }

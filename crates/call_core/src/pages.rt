@@ -1,6 +1,6 @@
 //! CORBLK.
-ghost use Rattle.std.specs.Prelude.{◌≡◌, ◌<◌, not, nat_lt, Some};
-ghost use Rattle.its_word.specs.Limits.{most_pages, slots};
+ghost use Rattle.std.specs.Prelude.{◌≡◌, not, nat_lt, Some};
+ghost use Rattle.its_word.specs.Limits.{most_pages};
 ghost use Rattle.its_core.specs.Cores.{core_at};
 ghost use Rattle.its_frame.specs.declared.name.CallName.TheVariants.{Corblk};
 ghost use Rattle.its_jobs.specs.Table.{job_at};
@@ -17,6 +17,7 @@ use arrayvec::ArrayVec;
 use call_basic::{channel, fails, finishes_with, input, is_oneself};
 use its_frame::{Change, Decision, error};
 use its_records::{Ask, Channel, Job};
+use its_word::Slot;
 use its_world::World;
 
 /// The highest operation.
@@ -31,8 +32,7 @@ const MAPPED: u32 = 1024;
 /// CORBLK operation, job, page: drops a page (0), makes one of zeros (1), or makes it read only (2) or writable (3). Errors 22, 4, 5;
 /// 22 by the page, 16 if it exists, for operation 1, or is absent, for any other; 15 if all jobs together have 1024 pages.
 #[tactic(auto, using(its_machine::proofs::NumberLaws::under, crate::proofs::OtherLaws::other_few), unfolding(its_plain::specs::CallCore::corblk, its_plain::specs::View::view, its_world::specs::World::state_of))]
-pub(crate) fn corblk(w: &World, slot: u8, job: &Job, ask: &Ask) -> Decision
-    requires slot { slot < slots }
+pub(crate) fn corblk(w: &World, slot: Slot, job: &Job, ask: &Ask) -> Decision
     requires fail { ask.now.fail ≡ 0 }
     requires name { call_named ask.now.name ≡ Some Corblk }
     requires job { job_at w.now.jobs slot ≡ Some job.now }
@@ -53,15 +53,14 @@ pub(crate) fn corblk(w: &World, slot: u8, job: &Job, ask: &Ask) -> Decision
             slot: inferior,
             write: true,
             ..
-        } => pages_of(w, slot, job, ask, inferior),
+        } => pages_of(w, slot, job, ask, Slot::new(inferior)),
         _ => fails(job, ask, error::WRONG_DEVICE),
     }
 }
 
 /// The operation on a page of the job of a slot.
 #[tactic(auto, unfolding(its_plain::specs::View::view, its_world::specs::World::state_of))]
-fn pages_of(w: &World, slot: u8, job: &Job, ask: &Ask, target: u8) -> Decision
-    requires target { target < slots }
+fn pages_of(w: &World, slot: Slot, job: &Job, ask: &Ask, target: Slot) -> Decision
     requires tidy { Tidy w.now }
     ensures { result ≡ pages_of (seen_by w.now slot job.now ask.now) ask.now (input ask.now 0) target (core_at w.now.core target) (input ask.now 2) }
 {
@@ -82,11 +81,10 @@ fn pages_of(w: &World, slot: u8, job: &Job, ask: &Ask, target: u8) -> Decision
 }
 
 /// Whether a page of a job is there.
-fn has_page(w: &World, slot: u8, page: u8) -> bool
-    requires { slot < slots }
+fn has_page(w: &World, slot: Slot, page: u8) -> bool
     ensures { result ≡ has_page (core_at w.now.core slot) page }
 {
-    w.core.page(slot, page).is_some()
+    w.core.page(slot.number(), page).is_some()
 }
 
 /// Whether a page that is to be made is there, or any other is not.
@@ -106,9 +104,10 @@ fn is_full(w: &World) -> bool
 }
 
 /// What an operation does to a page.
-fn page_changed(operation: u64, slot: u8, page: u8) -> Change
+fn page_changed(operation: u64, slot: Slot, page: u8) -> Change
     ensures { result ≡ page_changed operation slot page }
 {
+    let slot = slot.number();
     match operation {
         0 => Change::Unmap { slot, page },
         1 => Change::Map { slot, page },

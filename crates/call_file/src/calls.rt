@@ -12,6 +12,7 @@ use super::directory::DSK;
 use call_basic::{channel, input};
 use its_frame::{CallName, OnFiles};
 use its_records::{Ask, Channel, Job};
+use its_word::Slot;
 use its_world::World;
 
 /// Whether the device of OPEN is DSK.
@@ -22,10 +23,10 @@ pub fn is_disk(ask: &Ask) -> bool
 }
 
 /// Whether a call of a slot's job is one on files, before whose commit the pending parts of a half made close are performed.
-pub fn helps(w: &World, slot: u8, ask: &Ask) -> bool
+pub fn helps(w: &World, slot: Slot, ask: &Ask) -> bool
     ensures { IfSome (raw_in w.now slot) (λ q. result ≡ helps q ask.now) }
 {
-    match w.jobs.job(slot) {
+    match w.jobs.job(slot.number()) {
         Some(job) => is_on_files(w, slot, job, ask),
         None => false,
     }
@@ -33,7 +34,7 @@ pub fn helps(w: &World, slot: u8, ask: &Ask) -> bool
 
 /// The same, by the job's registers: its name, its device, or what its channel is on.
 #[tactic(auto, using(crate::proofs::RawLaws::on_file), unfolding(its_stepped::specs::Tick::helps))]
-fn is_on_files(w: &World, slot: u8, job: &Job, ask: &Ask) -> bool
+fn is_on_files(w: &World, slot: Slot, job: &Job, ask: &Ask) -> bool
     ensures { result ≡ helps (raw_with w.now slot job.now) ask.now }
 {
     if ask.fail != 0 {

@@ -16,7 +16,7 @@ use arrayvec::ArrayVec;
 use call_basic::{channel, control, fails, finishes, finishes_with, input, is_free, store_at};
 use its_frame::{Change, Decision, Opened, error};
 use its_records::{Ask, Channel, Job};
-use its_word::{ADDRESSES, Word};
+use its_word::{ADDRESSES, Slot, Word};
 use its_world::World;
 
 /// The position at which a channel on an inferior is at its end, after word 777777 (octal).
@@ -27,7 +27,7 @@ const FILES: u32 = 256;
 
 /// OPEN channel, DSK, name 1, name 2, directory: a file for input, or a new draft with control 1. Errors 4, 22, 6.
 #[tactic(auto, using(call_basic::proofs::ChannelLaws::free), unfolding(its_plain::specs::CallFile::opens_disk, its_plain::specs::View::view, its_world::specs::World::state_of))]
-pub fn open_disk(w: &World, slot: u8, job: &Job, ask: &Ask) -> Decision
+pub fn open_disk(w: &World, slot: Slot, job: &Job, ask: &Ask) -> Decision
     ensures { result ≡ opens_disk (seen_by w.now slot job.now ask.now) ask.now }
 {
     let number = input(ask, 0);
@@ -61,7 +61,7 @@ fn opened(control: u64, d: Word, x: Word, y: Word) -> Opened
 
 /// CLOSE of a draft. Errors 11 if a channel reads the file that it would replace, 7 if it replaces none and there are 256 files.
 #[tactic(auto, using(its_files::proofs::EntryLaws::draft_stands, its_machine::proofs::SeenLaws::seen_count), unfolding(its_plain::specs::CallFile::closes_draft, its_plain::specs::View::view, its_world::specs::World::state_of))]
-pub fn close_draft(w: &World, slot: u8, job: &Job, ask: &Ask, draft: u32) -> Decision
+pub fn close_draft(w: &World, slot: Slot, job: &Job, ask: &Ask, draft: u32) -> Decision
     requires number { input ask.now 0 < 16 }
     requires draft { is_draft (entry_at w.now.files draft) ≡ true }
     requires tidy { Tidy w.now }
@@ -83,7 +83,7 @@ pub fn close_draft(w: &World, slot: u8, job: &Job, ask: &Ask, draft: u32) -> Dec
 /// ACCESS channel, position: the next word that a file gives, or that a channel on an inferior is at. Errors 4, 5, 22 if the position
 /// is past the end.
 #[tactic(auto, using(crate::proofs::HeldLaws::reading), unfolding(its_plain::specs::CallFile::access, its_plain::specs::View::view, its_world::specs::World::state_of))]
-pub fn access(w: &World, slot: u8, job: &Job, ask: &Ask) -> Decision
+pub fn access(w: &World, slot: Slot, job: &Job, ask: &Ask) -> Decision
     requires job { job_at w.now.jobs slot ≡ Some job.now }
     requires tidy { Tidy w.now }
     ensures { result ≡ access (seen_by w.now slot job.now ask.now) ask.now }
@@ -98,7 +98,7 @@ pub fn access(w: &World, slot: u8, job: &Job, ask: &Ask) -> Decision
 
 /// The position of a channel that reads a file is set.
 #[tactic(auto, using(its_machine::proofs::SeenLaws::seen_words, its_files::proofs::EntryLaws::file_stands), unfolding(its_plain::specs::View::view, its_world::specs::World::state_of))]
-fn moved(w: &World, slot: u8, job: &Job, ask: &Ask, file: u32, was: u32) -> Decision
+fn moved(w: &World, slot: Slot, job: &Job, ask: &Ask, file: u32, was: u32) -> Decision
     requires number { input ask.now 0 < 16 }
     requires file { is_file (entry_at w.now.files file) ≡ true }
     ensures { result ≡ access_on (seen_by w.now slot job.now ask.now) ask.now (Reads (names_at w.now.files file) was) }
@@ -109,7 +109,7 @@ fn moved(w: &World, slot: u8, job: &Job, ask: &Ask, file: u32, was: u32) -> Deci
 
 /// The position of a channel is set, which is at most this. Error 22 if it is above.
 #[tactic(auto, unfolding(its_plain::specs::View::view, its_world::specs::World::state_of))]
-fn access_to(w: &World, slot: u8, job: &Job, ask: &Ask, most: u32) -> Decision
+fn access_to(w: &World, slot: Slot, job: &Job, ask: &Ask, most: u32) -> Decision
     requires { input ask.now 0 < 16 }
     ensures { result ≡ access_to (seen_by w.now slot job.now ask.now) ask.now most }
 {
@@ -126,7 +126,7 @@ fn access_to(w: &World, slot: u8, job: &Job, ask: &Ask, most: u32) -> Decision
 
 /// FILLEN channel: how many words a file or a draft has. Errors 4, 5.
 #[tactic(auto, using(crate::proofs::HeldLaws::reading, crate::proofs::HeldLaws::writing, its_files::proofs::EntryLaws::draft_stands), unfolding(its_plain::specs::CallFile::fillen, its_plain::specs::View::view, its_world::specs::World::state_of))]
-pub fn fillen(w: &World, slot: u8, job: &Job, ask: &Ask) -> Decision
+pub fn fillen(w: &World, slot: Slot, job: &Job, ask: &Ask) -> Decision
     requires job { job_at w.now.jobs slot ≡ Some job.now }
     requires tidy { Tidy w.now }
     ensures { result ≡ fillen (seen_by w.now slot job.now ask.now) ask.now }
@@ -141,7 +141,7 @@ pub fn fillen(w: &World, slot: u8, job: &Job, ask: &Ask) -> Decision
 
 /// The length of a file is the output.
 #[tactic(auto, using(its_files::proofs::EntryLaws::file_stands, its_machine::proofs::SeenLaws::seen_words), unfolding(its_plain::specs::View::view, its_world::specs::World::state_of))]
-fn file_measured(w: &World, slot: u8, job: &Job, ask: &Ask, file: u32, at: u32) -> Decision
+fn file_measured(w: &World, slot: Slot, job: &Job, ask: &Ask, file: u32, at: u32) -> Decision
     requires { is_file (entry_at w.now.files file) ≡ true }
     ensures { result ≡ fillen_on (seen_by w.now slot job.now ask.now) ask.now (Reads (names_at w.now.files file) at) }
 {

@@ -11,7 +11,7 @@ use arrayvec::ArrayVec;
 use call_basic::{fails, finishes_with, input};
 use its_frame::{Change, Decision, error};
 use its_records::{Ask, Job};
-use its_word::Word;
+use its_word::{Slot, Word};
 use its_world::World;
 
 /// The device of files, in SIXBIT.
@@ -43,7 +43,7 @@ pub(crate) fn has_file(w: &World, names: [Word; 3]) -> bool
 
 /// Whether a channel reads a file with these names.
 #[tactic(auto, using(crate::proofs::SeenLaws::seen_read))]
-pub(crate) fn is_read(w: &World, slot: u8, job: &Job, ask: &Ask, names: [Word; 3]) -> bool
+pub(crate) fn is_read(w: &World, slot: Slot, job: &Job, ask: &Ask, names: [Word; 3]) -> bool
     requires { Tidy w.now }
     ensures { result ≡ is_read names (channels_in (seen_by w.now slot job.now ask.now)) }
 {
@@ -63,7 +63,7 @@ fn has_readers(w: &World, file: Option<u32>) -> bool
 
 /// Why a file is neither deleted nor renamed: error 5 if the device is not DSK, 6 if there is no such file, 11 if a channel reads it.
 #[tactic(auto, unfolding(its_plain::specs::View::view, its_world::specs::World::state_of))]
-fn barred(w: &World, slot: u8, job: &Job, ask: &Ask) -> Option<Decision>
+fn barred(w: &World, slot: Slot, job: &Job, ask: &Ask) -> Option<Decision>
     requires { Tidy w.now }
     ensures { result ≡ first_of (file_tests (seen_by w.now slot job.now ask.now) ask.now (names_from ask.now 1)) }
 {
@@ -82,7 +82,7 @@ fn barred(w: &World, slot: u8, job: &Job, ask: &Ask) -> Option<Decision>
 
 /// DELETE device, name 1, name 2, directory. Errors 5, 6, 11.
 #[tactic(auto, unfolding(its_plain::specs::CallFile::delete, its_plain::specs::View::view, its_world::specs::World::state_of))]
-pub fn delete(w: &World, slot: u8, job: &Job, ask: &Ask) -> Decision
+pub fn delete(w: &World, slot: Slot, job: &Job, ask: &Ask) -> Decision
     requires { Tidy w.now }
     ensures { result ≡ delete (seen_by w.now slot job.now ask.now) ask.now }
 {
@@ -100,7 +100,7 @@ pub fn delete(w: &World, slot: u8, job: &Job, ask: &Ask) -> Decision
 /// RENAME device, name 1, name 2, directory, new name 1, new name 2. Errors 5, 6, 11, and 23 if a file of the
 /// directory has the new names, itself included.
 #[tactic(auto, unfolding(its_plain::specs::CallFile::rename, its_plain::specs::View::view, its_world::specs::World::state_of))]
-pub fn rename(w: &World, slot: u8, job: &Job, ask: &Ask) -> Decision
+pub fn rename(w: &World, slot: Slot, job: &Job, ask: &Ask) -> Decision
     requires { Tidy w.now }
     ensures { result ≡ rename (seen_by w.now slot job.now ask.now) ask.now }
 {

@@ -1,7 +1,6 @@
 //! `.IOT` and SIOT on files and drafts: whole words.
 ghost use Rattle.std.specs.Prelude.{◌≡◌, ◌<◌, ◌-◌, ◌^◌, ◌∷◌, [], None, IfSome, true, slice_get, slice_index_or};
 ghost use Rattle.its_word.specs.Byte.{has_size};
-ghost use Rattle.its_word.specs.Limits.{slots};
 ghost use Rattle.its_files.specs.Files.{directory, entry_at, file_at, is_draft, is_file, names_at};
 ghost use Rattle.its_plain.specs.Arguments.{input};
 ghost use Rattle.its_plain.specs.CallFile.{file_named, iot_reads, iot_writes, siot_read, siot_reads, siot_write, siot_writes, words_by, words_of};
@@ -17,7 +16,7 @@ use call_basic::{
 use its_bytes::load;
 use its_frame::{Change, Decision, Held, Store, error};
 use its_records::{Ask, Job};
-use its_word::{Fault, Word};
+use its_word::{Fault, Slot, Word};
 use its_world::World;
 
 /// What `.IOT` gets at the end of a file.
@@ -37,8 +36,7 @@ fn word_at(w: &World, file: u32, at: u32) -> Option<Word>
 /// `.IOT` from a file: the word at its position, which is then one more; 777777000003 at its end. MPV or WRO by the word at
 /// E.
 #[tactic(auto, unfolding(its_plain::specs::View::view, its_world::specs::World::state_of))]
-pub fn iot_reads(w: &World, slot: u8, job: &Job, ask: &Ask, file: u32, at: u32) -> Decision
-    requires slot { slot < slots }
+pub fn iot_reads(w: &World, slot: Slot, job: &Job, ask: &Ask, file: u32, at: u32) -> Decision
     requires number { input ask.now 0 < 16 }
     requires file { is_file (entry_at w.now.files file) ≡ true }
     ensures { result ≡ iot_reads (seen_by w.now slot job.now ask.now) (slice_index_or ask.now.outputs.items 0 0) (input ask.now 0) (names_at w.now.files file) at }
@@ -71,8 +69,7 @@ fn one_store(at: u32, word: Word) -> ArrayVec<Store, 2>
 
 /// `.IOT` to a draft: the word at E is appended. MPV by that word; IOC if there is no room.
 #[tactic(auto, using(crate::proofs::SeenLaws::seen_full, its_files::proofs::EntryLaws::draft_stands), unfolding(its_plain::specs::View::view, its_world::specs::World::state_of))]
-pub fn iot_writes(w: &World, slot: u8, job: &Job, ask: &Ask, draft: u32) -> Decision
-    requires slot { slot < slots }
+pub fn iot_writes(w: &World, slot: Slot, job: &Job, ask: &Ask, draft: u32) -> Decision
     requires number { input ask.now 0 < 16 }
     requires draft { is_draft (entry_at w.now.files draft) ≡ true }
     requires unmarked { w.now.files.mark ≡ None }
@@ -81,7 +78,7 @@ pub fn iot_writes(w: &World, slot: u8, job: &Job, ask: &Ask, draft: u32) -> Deci
 {
     w.files.seen();
     let e = ask.outputs.first().copied().unwrap_or(0);
-    let Some(word) = w.core.word(slot, e) else {
+    let Some(word) = w.core.word(slot.number(), e) else {
         return faults(job, Fault::Mpv);
     };
     if w.files.is_full(draft) {
@@ -99,13 +96,12 @@ pub fn iot_writes(w: &World, slot: u8, job: &Job, ask: &Ask, draft: u32) -> Deci
 #[tactic(auto, unfolding(its_plain::specs::View::view, its_world::specs::World::state_of))]
 pub fn siot_reads(
     w: &World,
-    slot: u8,
+    slot: Slot,
     job: &Job,
     ask: &Ask,
     file: u32,
     at: u32,
 ) -> Result<Part, Stop>
-    requires slot { slot < slots }
     requires number { input ask.now 0 < 16 }
     requires file { is_file (entry_at w.now.files file) ≡ true }
     ensures { part_of job.now ask.now result ≡ siot_reads (seen_by w.now slot job.now ask.now) ask.now (input ask.now 0) at (slice_get (words_of (seen_by w.now slot job.now ask.now) (names_at w.now.files file)) at) }
@@ -122,14 +118,13 @@ pub fn siot_reads(
 #[tactic(auto, unfolding(its_plain::specs::View::view, its_world::specs::World::state_of))]
 fn siot_read(
     w: &World,
-    slot: u8,
+    slot: Slot,
     job: &Job,
     ask: &Ask,
     next: Word,
     at: u32,
     word: Word,
 ) -> Result<Part, Stop>
-    requires slot { slot < slots }
     requires number { input ask.now 0 < 16 }
     requires few { at < 2 ^ 18 }
     ensures { part_of job.now ask.now result ≡ siot_read (seen_by w.now slot job.now ask.now) next (input ask.now 2) (input ask.now 0) at word }
@@ -152,8 +147,7 @@ fn siot_read(
 /// SIOT to a draft. Error 10 if there is no room.
 #[inline(always)]
 #[tactic(auto, using(its_plain::proofs::SizeLaws::next_sized), unfolding(its_plain::specs::View::view, its_world::specs::World::state_of))]
-pub fn siot_writes(w: &World, slot: u8, job: &Job, ask: &Ask, draft: u32) -> Result<Part, Stop>
-    requires slot { slot < slots }
+pub fn siot_writes(w: &World, slot: Slot, job: &Job, ask: &Ask, draft: u32) -> Result<Part, Stop>
     requires number { input ask.now 0 < 16 }
     requires draft { is_draft (entry_at w.now.files draft) ≡ true }
     requires unmarked { w.now.files.mark ≡ None }
@@ -171,13 +165,12 @@ pub fn siot_writes(w: &World, slot: u8, job: &Job, ask: &Ask, draft: u32) -> Res
 #[tactic(auto, using(its_machine::proofs::StopLaws::loaded_fits, crate::proofs::SeenLaws::seen_full, its_files::proofs::EntryLaws::draft_stands), unfolding(its_plain::specs::View::view, its_world::specs::World::state_of))]
 fn siot_write(
     w: &World,
-    slot: u8,
+    slot: Slot,
     job: &Job,
     ask: &Ask,
     next: Word,
     draft: u32,
 ) -> Result<Part, Stop>
-    requires slot { slot < slots }
     requires number { input ask.now 0 < 16 }
     requires size { has_size next ≡ true }
     requires draft { is_draft (entry_at w.now.files draft) ≡ true }
@@ -186,7 +179,7 @@ fn siot_write(
     ensures { part_of job.now ask.now result ≡ siot_write (seen_by w.now slot job.now ask.now) ask.now next (input ask.now 2) (input ask.now 0) (file_at w.now.files draft) }
 {
     w.files.seen();
-    let Some(word) = w.core.word(slot, next.right()) else {
+    let Some(word) = w.core.word(slot.number(), next.right()) else {
         return Err(Stop::Faults(Fault::Mpv));
     };
     if w.files.is_full(draft) {

@@ -1,6 +1,5 @@
 //! OPEN of LNK: an end of a link by its names, which is made if there is none; and CLOSE of an end.
 ghost use Rattle.std.specs.Prelude.{◌≡◌, ◌==◌, ◌<◌, ◌∷◌, []};
-ghost use Rattle.its_word.specs.Limits.{slots};
 ghost use Rattle.its_records.specs.Links.{is_unopened, link_end, most_links};
 ghost use Rattle.its_records.specs.Tree.{least_free};
 ghost use Rattle.its_frame.specs.declared.change.Change.TheVariants.{Join, Part};
@@ -15,6 +14,7 @@ use arrayvec::ArrayVec;
 use call_basic::{control, fails, finishes_with, input, is_free};
 use its_frame::{Change, Decision, error};
 use its_records::{Ask, End, Job, Link};
+use its_word::Slot;
 use its_world::World;
 
 /// The device of links, in SIXBIT.
@@ -30,8 +30,7 @@ pub fn is_link(ask: &Ask) -> bool
 /// OPEN channel, LNK, name 1, name 2: the reading end, or with control 1 the writing end, of the link with these names. Errors 4, 22;
 /// 24 if the end is open or was open, 25 if no link has the names and there are 16.
 #[tactic(auto, using(call_basic::proofs::ChannelLaws::free), unfolding(its_plain::specs::CallLink::opens_link, its_plain::specs::View::view, its_world::specs::World::state_of))]
-pub fn open_link(w: &World, slot: u8, job: &Job, ask: &Ask) -> Decision
-    requires { slot < slots }
+pub fn open_link(w: &World, slot: Slot, job: &Job, ask: &Ask) -> Decision
     ensures { result ≡ opens_link (seen_by w.now slot job.now ask.now) ask.now }
 {
     let number = input(ask, 0);
@@ -47,8 +46,7 @@ pub fn open_link(w: &World, slot: u8, job: &Job, ask: &Ask) -> Decision
 
 /// The end with the names of OPEN is opened, if nobody has opened it before; without a link of these names one is made.
 #[tactic(auto, unfolding(its_plain::specs::View::view, its_world::specs::World::state_of))]
-fn opens_end(w: &World, slot: u8, job: &Job, ask: &Ask, n: u8, write: bool) -> Decision
-    requires { slot < slots }
+fn opens_end(w: &World, slot: Slot, job: &Job, ask: &Ask, n: u8, write: bool) -> Decision
     ensures { result ≡ opens_end (seen_by w.now slot job.now ask.now) ask.now n write (input ask.now 2) (input ask.now 3) (link_named (seen_by w.now slot job.now ask.now).links (input ask.now 2) (input ask.now 3)) }
 {
     match w.pipes.link_named(input(ask, 2), input(ask, 3)) {
@@ -60,7 +58,7 @@ fn opens_end(w: &World, slot: u8, job: &Job, ask: &Ask, n: u8, write: bool) -> D
 
 /// A link with the names of OPEN is made under the least number that has none, and its end opened.
 #[tactic(auto, unfolding(its_plain::specs::View::view, its_world::specs::World::state_of))]
-fn makes_link(w: &World, slot: u8, job: &Job, ask: &Ask, n: u8, write: bool) -> Decision
+fn makes_link(w: &World, slot: Slot, job: &Job, ask: &Ask, n: u8, write: bool) -> Decision
     ensures { result ≡ makes_link (seen_by w.now slot job.now ask.now) ask.now n write (input ask.now 2) (input ask.now 3) (least_free most_links (seen_by w.now slot job.now ask.now).links) }
 {
     match w.pipes.free_link() {

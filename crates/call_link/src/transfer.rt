@@ -1,7 +1,6 @@
 //! `.IOT` and SIOT on links: whole words, or bytes that become words.
-ghost use Rattle.std.specs.Prelude.{◌≡◌, ◌<◌, true, slice_index_or};
+ghost use Rattle.std.specs.Prelude.{◌≡◌, true, slice_index_or};
 ghost use Rattle.its_word.specs.Byte.{has_size};
-ghost use Rattle.its_word.specs.Limits.{slots};
 ghost use Rattle.its_plain.specs.Arguments.{input};
 ghost use Rattle.its_plain.specs.CallLink.{iot_linked, iot_receives, iot_sends, siot_linked, siot_receive, siot_receives, siot_send, siot_sends};
 ghost use Rattle.its_plain.specs.Transfer.{next_pointer};
@@ -15,15 +14,14 @@ use call_basic::{
 use its_bytes::load;
 use its_frame::{Change, Decision, Held, Wait, error};
 use its_records::{Ask, Job};
-use its_word::{Fault, Word};
+use its_word::{Fault, Slot, Word};
 use its_world::World;
 
 /// What `.IOT` gets at the end of a link.
 const END_OF_LINK: u64 = 0o777777000003;
 
 /// `.IOT` through a channel on a link: to it, if the channel is on the writing end, else from it.
-pub fn iot_link(w: &World, slot: u8, job: &Job, ask: &Ask, link: u8, write: bool) -> Decision
-    requires { slot < slots }
+pub fn iot_link(w: &World, slot: Slot, job: &Job, ask: &Ask, link: u8, write: bool) -> Decision
     ensures { result ≡ iot_linked (seen_by w.now slot job.now ask.now) (slice_index_or ask.now.outputs.items 0 0) link write }
 {
     if write {
@@ -35,8 +33,7 @@ pub fn iot_link(w: &World, slot: u8, job: &Job, ask: &Ask, link: u8, write: bool
 
 /// `.IOT` from a link: its first word; 777777000003 at its end. MPV or WRO by the word at E.
 #[tactic(auto, unfolding(its_plain::specs::View::view, its_world::specs::World::state_of))]
-fn iot_receives(w: &World, slot: u8, job: &Job, ask: &Ask, link: u8) -> Decision
-    requires { slot < slots }
+fn iot_receives(w: &World, slot: Slot, job: &Job, ask: &Ask, link: u8) -> Decision
     ensures { result ≡ iot_receives (seen_by w.now slot job.now ask.now) (slice_index_or ask.now.outputs.items 0 0) link }
 {
     let e = ask.outputs.first().copied().unwrap_or(0);
@@ -54,12 +51,11 @@ fn iot_receives(w: &World, slot: u8, job: &Job, ask: &Ask, link: u8) -> Decision
 
 /// `.IOT` to a link: the word at E is sent. MPV by that word; IOC if the reading end is closed.
 #[tactic(auto, unfolding(its_plain::specs::View::view, its_world::specs::World::state_of))]
-fn iot_sends(w: &World, slot: u8, job: &Job, ask: &Ask, link: u8) -> Decision
-    requires { slot < slots }
+fn iot_sends(w: &World, slot: Slot, job: &Job, ask: &Ask, link: u8) -> Decision
     ensures { result ≡ iot_sends (seen_by w.now slot job.now ask.now) (slice_index_or ask.now.outputs.items 0 0) link }
 {
     let e = ask.outputs.first().copied().unwrap_or(0);
-    let Some(word) = w.core.word(slot, e) else {
+    let Some(word) = w.core.word(slot.number(), e) else {
         return faults(job, Fault::Mpv);
     };
     if w.pipes.is_unread(link) {
@@ -75,13 +71,12 @@ fn iot_sends(w: &World, slot: u8, job: &Job, ask: &Ask, link: u8) -> Decision
 #[inline(always)]
 pub fn siot_link(
     w: &World,
-    slot: u8,
+    slot: Slot,
     job: &Job,
     ask: &Ask,
     link: u8,
     write: bool,
 ) -> Result<Part, Stop>
-    requires { slot < slots }
     ensures { part_of job.now ask.now result ≡ siot_linked (seen_by w.now slot job.now ask.now) ask.now link write }
 {
     if write {
@@ -94,8 +89,7 @@ pub fn siot_link(
 /// SIOT from a link: its first word is held, and its low bits stored by the next step. At the end of the link it finishes.
 #[inline(always)]
 #[tactic(auto, unfolding(its_plain::specs::View::view, its_world::specs::World::state_of))]
-fn siot_receives(w: &World, slot: u8, job: &Job, ask: &Ask, link: u8) -> Result<Part, Stop>
-    requires { slot < slots }
+fn siot_receives(w: &World, slot: Slot, job: &Job, ask: &Ask, link: u8) -> Result<Part, Stop>
     ensures { part_of job.now ask.now result ≡ siot_receives (seen_by w.now slot job.now ask.now) ask.now link }
 {
     match next_byte(w, slot, ask, false, w.pipes.is_ended(link)) {
@@ -109,13 +103,12 @@ fn siot_receives(w: &World, slot: u8, job: &Job, ask: &Ask, link: u8) -> Result<
 #[tactic(auto, unfolding(its_plain::specs::View::view, its_world::specs::World::state_of))]
 fn siot_receive(
     w: &World,
-    slot: u8,
+    slot: Slot,
     job: &Job,
     ask: &Ask,
     next: Word,
     link: u8,
 ) -> Result<Part, Stop>
-    requires { slot < slots }
     ensures { part_of job.now ask.now result ≡ siot_receive (seen_by w.now slot job.now ask.now) next (input ask.now 2) link }
 {
     let place = next.right();
@@ -140,8 +133,7 @@ fn siot_receive(
 /// SIOT to a link: the byte becomes a word, which is sent. Error 26 if the reading end is closed.
 #[inline(always)]
 #[tactic(auto, using(its_plain::proofs::SizeLaws::next_sized), unfolding(its_plain::specs::View::view, its_world::specs::World::state_of))]
-fn siot_sends(w: &World, slot: u8, job: &Job, ask: &Ask, link: u8) -> Result<Part, Stop>
-    requires { slot < slots }
+fn siot_sends(w: &World, slot: Slot, job: &Job, ask: &Ask, link: u8) -> Result<Part, Stop>
     ensures { part_of job.now ask.now result ≡ siot_sends (seen_by w.now slot job.now ask.now) ask.now link }
 {
     match next_byte(w, slot, ask, false, false) {
@@ -153,12 +145,18 @@ fn siot_sends(w: &World, slot: u8, job: &Job, ask: &Ask, link: u8) -> Result<Par
 /// The same if no test of its arguments stops it.
 #[inline(always)]
 #[tactic(auto, using(its_machine::proofs::StopLaws::loaded_fits), unfolding(its_plain::specs::View::view, its_world::specs::World::state_of))]
-fn siot_send(w: &World, slot: u8, job: &Job, ask: &Ask, next: Word, link: u8) -> Result<Part, Stop>
-    requires slot { slot < slots }
+fn siot_send(
+    w: &World,
+    slot: Slot,
+    job: &Job,
+    ask: &Ask,
+    next: Word,
+    link: u8,
+) -> Result<Part, Stop>
     requires size { has_size next ≡ true }
     ensures { part_of job.now ask.now result ≡ siot_send (seen_by w.now slot job.now ask.now) ask.now next (input ask.now 2) link }
 {
-    let Some(word) = w.core.word(slot, next.right()) else {
+    let Some(word) = w.core.word(slot.number(), next.right()) else {
         return Err(Stop::Faults(Fault::Mpv));
     };
     if w.pipes.is_unread(link) {

@@ -6,6 +6,7 @@ ghost use Rattle.its_world.specs.World.{console_at, holder_at};
 ghost use Rattle.call_tty.specs.Waiting.{cannot_put, cannot_take};
 
 use its_records::Job;
+use its_word::Slot;
 use its_world::World;
 
 /// The bytes that can wait in one direction.
@@ -47,18 +48,18 @@ pub(crate) fn holder(w: &World, console: u8) -> Option<u8>
 }
 
 /// Whether another job holds a console.
-fn is_other(w: &World, slot: u8, console: u8) -> bool
+fn is_other(w: &World, slot: Slot, console: u8) -> bool
     ensures { result ≡ is_other slot (holder_at w.now.holders console) }
 {
     match holder(w, console) {
-        Some(h) => h != slot,
+        Some(h) => h != slot.number(),
         None => false,
     }
 }
 
 /// Whether a job can take no byte from a console.
 #[inline(always)]
-pub(crate) fn input_waits(w: &World, slot: u8, console: u8) -> bool
+pub(crate) fn input_waits(w: &World, slot: Slot, console: u8) -> bool
     ensures { result ≡ cannot_take (console_at w.now.consoles.items console) slot (holder_at w.now.holders console) }
 {
     typed(w, console) == 0 || is_other(w, slot, console)
@@ -66,7 +67,7 @@ pub(crate) fn input_waits(w: &World, slot: u8, console: u8) -> bool
 
 /// Whether a job can put no byte to a console.
 #[inline(always)]
-pub(crate) fn output_waits(w: &World, slot: u8, console: u8) -> bool
+pub(crate) fn output_waits(w: &World, slot: Slot, console: u8) -> bool
     ensures { result ≡ cannot_put (console_at w.now.consoles.items console) slot (holder_at w.now.holders console) }
 {
     waiting(w, console).1 >= RING_BYTES || is_other(w, slot, console)

@@ -10,7 +10,7 @@ use its_core::Core;
 use its_frame::{CallName, Change, Decision, Exit, Held, Opened, Store, Wait};
 use its_jobs::Jobs;
 use its_records::{Ask, Channel, Job, Operand};
-use its_word::{BYTE_HALF, SLOTS, Word, read_octal};
+use its_word::{BYTE_HALF, SLOTS, Slot, Word, read_octal};
 use its_world::World;
 use std::alloc::Global;
 use std::process::Abort;
@@ -299,19 +299,20 @@ fn call(rt: &impl Abort, name: Option<&str>) -> CallName {
 
 /// The decision of a call of slot 1 on a console.
 fn decided(rt: &impl Abort, w: &World, job: &Job, ask: &Ask) -> Decision {
+    let slot = Slot::new(1);
     let decision = match (CallName::named(ask.name), channel(job, input(ask, 0))) {
-        (Some(CallName::Open), _) => Some(open_tty(w, 1, job, ask)),
-        (Some(CallName::Iot), Channel::TtyIn) => Some(iot_in(w, 1, job, ask)),
-        (Some(CallName::Iot), Channel::TtyOut) => Some(iot_out(w, 1, job, ask)),
+        (Some(CallName::Open), _) => Some(open_tty(w, slot, job, ask)),
+        (Some(CallName::Iot), Channel::TtyIn) => Some(iot_in(w, slot, job, ask)),
+        (Some(CallName::Iot), Channel::TtyOut) => Some(iot_out(w, slot, job, ask)),
         (Some(CallName::Siot), Channel::TtyIn) => {
-            Some(decision_of(job, ask, siot_in(w, 1, job, ask)))
+            Some(decision_of(job, ask, siot_in(w, slot, job, ask)))
         }
         (Some(CallName::Siot), Channel::TtyOut) => {
-            Some(decision_of(job, ask, siot_out(w, 1, job, ask)))
+            Some(decision_of(job, ask, siot_out(w, slot, job, ask)))
         }
-        (Some(CallName::Finish), _) => Some(finish(w, 1, job, ask)),
-        (Some(CallName::Listen), _) => Some(listen(w, 1, job, ask)),
-        (Some(CallName::Ttylnd), _) => Some(ttylnd(w, 1, job, ask)),
+        (Some(CallName::Finish), _) => Some(finish(w, slot, job, ask)),
+        (Some(CallName::Listen), _) => Some(listen(w, slot, job, ask)),
+        (Some(CallName::Ttylnd), _) => Some(ttylnd(w, slot, job, ask)),
         _ => None,
     };
     decision.expect(rt, "a channel on a console")

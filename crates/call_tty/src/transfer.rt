@@ -1,6 +1,5 @@
-ghost use Rattle.std.specs.Prelude.{◌≡◌, ◌<◌, true, false, slice_index_or, unwrap_or};
+ghost use Rattle.std.specs.Prelude.{◌≡◌, true, false, slice_index_or, unwrap_or};
 ghost use Rattle.its_word.specs.Byte.{has_size};
-ghost use Rattle.its_word.specs.Limits.{slots};
 ghost use Rattle.its_plain.specs.Arguments.{input};
 ghost use Rattle.its_plain.specs.CallTty.{iot_in, iot_out, shown_byte, siot_in, siot_out};
 ghost use Rattle.its_plain.specs.Transfer.{next_pointer, siot_by};
@@ -13,7 +12,7 @@ use call_basic::{Moved, Part, Stop, bar_of_store, faults, input, iot_ends, next_
 use its_bytes::load;
 use its_frame::{Change, Decision, Held, Store, Wait};
 use its_records::{Ask, Job};
-use its_word::{Fault, Word};
+use its_word::{Fault, Slot, Word};
 use its_world::World;
 
 /// The bits of a byte that a console shows.
@@ -21,8 +20,7 @@ const SHOWN: u64 = 0o177;
 
 /// `.IOT` from a console: its first byte becomes the word at E, right-justified. MPV or WRO by the word.
 #[tactic(auto, unfolding(its_plain::specs::View::view, its_world::specs::World::state_of))]
-pub fn iot_in(w: &World, slot: u8, job: &Job, ask: &Ask) -> Decision
-    requires { slot < slots }
+pub fn iot_in(w: &World, slot: Slot, job: &Job, ask: &Ask) -> Decision
     ensures { result ≡ iot_in (seen_by w.now slot job.now ask.now) (slice_index_or ask.now.outputs.items 0 0) (unwrap_or job.now.console 0) }
 {
     let console = console_of(job);
@@ -43,13 +41,12 @@ pub fn iot_in(w: &World, slot: u8, job: &Job, ask: &Ask) -> Decision
 
 /// `.IOT` to a console: the byte in the word at E is put out. MPV by the word.
 #[tactic(auto, unfolding(its_plain::specs::View::view, its_world::specs::World::state_of))]
-pub fn iot_out(w: &World, slot: u8, job: &Job, ask: &Ask) -> Decision
-    requires { slot < slots }
+pub fn iot_out(w: &World, slot: Slot, job: &Job, ask: &Ask) -> Decision
     ensures { result ≡ iot_out (seen_by w.now slot job.now ask.now) (slice_index_or ask.now.outputs.items 0 0) (unwrap_or job.now.console 0) }
 {
     let console = console_of(job);
     let e = ask.outputs.first().copied().unwrap_or(0);
-    let Some(word) = w.core.word(slot, e) else {
+    let Some(word) = w.core.word(slot.number(), e) else {
         return faults(job, Fault::Mpv);
     };
     if output_waits(w, slot, console) {
@@ -68,8 +65,7 @@ fn shown(word: Word) -> u8
 
 /// SIOT from a console: one byte, which is held and stored by the next step; pointer and count become those of the rest.
 #[inline(always)]
-pub fn siot_in(w: &World, slot: u8, job: &Job, ask: &Ask) -> Result<Part, Stop>
-    requires { slot < slots }
+pub fn siot_in(w: &World, slot: Slot, job: &Job, ask: &Ask) -> Result<Part, Stop>
     ensures { part_of job.now ask.now result ≡ siot_by (seen_by w.now slot job.now ask.now) ask.now false false (siot_in (seen_by w.now slot job.now ask.now) ask.now (next_pointer (input ask.now 1)) (input ask.now 2) (unwrap_or job.now.console 0)) }
 {
     match next_byte(w, slot, ask, false, false) {
@@ -80,8 +76,7 @@ pub fn siot_in(w: &World, slot: u8, job: &Job, ask: &Ask) -> Result<Part, Stop>
 
 /// SIOT to a console: one byte; pointer and count become those of the rest.
 #[inline(always)]
-pub fn siot_out(w: &World, slot: u8, job: &Job, ask: &Ask) -> Result<Part, Stop>
-    requires { slot < slots }
+pub fn siot_out(w: &World, slot: Slot, job: &Job, ask: &Ask) -> Result<Part, Stop>
     ensures { part_of job.now ask.now result ≡ siot_by (seen_by w.now slot job.now ask.now) ask.now false false (siot_out (seen_by w.now slot job.now ask.now) ask.now (next_pointer (input ask.now 1)) (input ask.now 2) (unwrap_or job.now.console 0)) }
 {
     match next_byte(w, slot, ask, false, false) {
@@ -93,8 +88,7 @@ pub fn siot_out(w: &World, slot: u8, job: &Job, ask: &Ask) -> Result<Part, Stop>
 /// SIOT from a console if no test of its arguments stops it.
 #[inline(always)]
 #[tactic(auto, unfolding(its_plain::specs::View::view, its_world::specs::World::state_of))]
-fn takes_byte(w: &World, slot: u8, job: &Job, ask: &Ask, next: Word) -> Result<Part, Stop>
-    requires { slot < slots }
+fn takes_byte(w: &World, slot: Slot, job: &Job, ask: &Ask, next: Word) -> Result<Part, Stop>
     ensures { part_of job.now ask.now result ≡ siot_in (seen_by w.now slot job.now ask.now) ask.now next (input ask.now 2) (unwrap_or job.now.console 0) }
 {
     let console = console_of(job);
@@ -120,13 +114,12 @@ fn takes_byte(w: &World, slot: u8, job: &Job, ask: &Ask, next: Word) -> Result<P
 /// SIOT to a console if no test of its arguments stops it.
 #[inline(always)]
 #[tactic(auto, unfolding(its_plain::specs::View::view, its_world::specs::World::state_of))]
-fn puts_byte(w: &World, slot: u8, job: &Job, ask: &Ask, next: Word) -> Result<Part, Stop>
-    requires slot { slot < slots }
+fn puts_byte(w: &World, slot: Slot, job: &Job, ask: &Ask, next: Word) -> Result<Part, Stop>
     requires size { has_size next ≡ true }
     ensures { part_of job.now ask.now result ≡ siot_out (seen_by w.now slot job.now ask.now) ask.now next (input ask.now 2) (unwrap_or job.now.console 0) }
 {
     let console = console_of(job);
-    let Some(word) = w.core.word(slot, next.right()) else {
+    let Some(word) = w.core.word(slot.number(), next.right()) else {
         return Err(Stop::Faults(Fault::Mpv));
     };
     if output_waits(w, slot, console) {

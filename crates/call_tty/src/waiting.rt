@@ -1,5 +1,4 @@
-ghost use Rattle.std.specs.Prelude.{◌≡◌, ◌<◌, unwrap_or};
-ghost use Rattle.its_word.specs.Limits.{slots};
+ghost use Rattle.std.specs.Prelude.{◌≡◌, unwrap_or};
 ghost use Rattle.its_plain.specs.CallTty.{finish, lands, listen, listens, ttylnd};
 ghost use Rattle.its_world.specs.World.{holder_at};
 ghost use Rattle.call_basic.specs.Seen.{seen_by};
@@ -12,13 +11,12 @@ use call_basic::{
 };
 use its_frame::{Change, Decision, Wait, error};
 use its_records::{Ask, Channel, Job};
-use its_word::Word;
+use its_word::{Slot, Word};
 use its_world::World;
 
 /// FINISH channel: waits until all output of the console is drained. Errors 4, 5.
 #[tactic(auto, using(its_machine::proofs::NumberLaws::under), unfolding(its_plain::specs::CallTty::finish, its_plain::specs::View::view, its_world::specs::World::state_of))]
-pub fn finish(w: &World, slot: u8, job: &Job, ask: &Ask) -> Decision
-    requires { slot < slots }
+pub fn finish(w: &World, slot: Slot, job: &Job, ask: &Ask) -> Decision
     ensures { result ≡ finish (seen_by w.now slot job.now ask.now) ask.now }
 {
     match channel(job, input(ask, 0)) {
@@ -37,8 +35,7 @@ pub fn finish(w: &World, slot: u8, job: &Job, ask: &Ask) -> Decision
 
 /// LISTEN channel: also waits, and gives the number of bytes of input. Errors 4, 5.
 #[tactic(auto, using(its_machine::proofs::NumberLaws::under), unfolding(its_plain::specs::CallTty::listen, its_plain::specs::View::view, its_world::specs::World::state_of))]
-pub fn listen(w: &World, slot: u8, job: &Job, ask: &Ask) -> Decision
-    requires { slot < slots }
+pub fn listen(w: &World, slot: Slot, job: &Job, ask: &Ask) -> Decision
     ensures { result ≡ listen (seen_by w.now slot job.now ask.now) ask.now }
 {
     match channel(job, input(ask, 0)) {
@@ -51,8 +48,7 @@ pub fn listen(w: &World, slot: u8, job: &Job, ask: &Ask) -> Decision
 
 /// The number of bytes of input, once all output is drained.
 #[tactic(auto, unfolding(its_plain::specs::View::view, its_world::specs::World::state_of))]
-fn listened(w: &World, slot: u8, job: &Job, ask: &Ask) -> Decision
-    requires { slot < slots }
+fn listened(w: &World, slot: Slot, job: &Job, ask: &Ask) -> Decision
     ensures { result ≡ listens (seen_by w.now slot job.now ask.now) ask.now (unwrap_or job.now.console 0) }
 {
     let console = console_of(job);
@@ -66,14 +62,13 @@ fn listened(w: &World, slot: u8, job: &Job, ask: &Ask) -> Decision
 /// TTYLND job: the job becomes the holder of the caller's console. Errors 4, 5; 5 if the caller has no console; for
 /// oneself 13 if a stranger holds it; for an inferior 5 if the caller does not hold it.
 #[tactic(auto, using(crate::proofs::HoldLaws::takes, crate::proofs::HoldLaws::holds_it, its_machine::proofs::NumberLaws::under), unfolding(its_plain::specs::CallTty::ttylnd, its_plain::specs::View::view, its_world::specs::World::state_of))]
-pub fn ttylnd(w: &World, slot: u8, job: &Job, ask: &Ask) -> Decision
-    requires { slot < slots }
+pub fn ttylnd(w: &World, slot: Slot, job: &Job, ask: &Ask) -> Decision
     ensures { result ≡ ttylnd (seen_by w.now slot job.now ask.now) ask.now }
 {
     let party = input(ask, 0);
     if is_oneself(party) {
         let may = can_take(w, slot, console_of(job));
-        return lands(w, slot, job, ask, may, error::NOT_INFERIOR, slot);
+        return lands(w, slot, job, ask, may, error::NOT_INFERIOR, slot.number());
     }
     match channel(job, party) {
         Channel::Closed => fails(job, ask, error::BAD_CHANNEL),
@@ -86,29 +81,28 @@ pub fn ttylnd(w: &World, slot: u8, job: &Job, ask: &Ask) -> Decision
 }
 
 /// Whether a job can take a console for itself: nobody holds it, or the job, or one of its inferiors.
-fn can_take(w: &World, slot: u8, console: u8) -> bool
+fn can_take(w: &World, slot: Slot, console: u8) -> bool
     ensures { result ≡ may_take w.now slot (holder_at w.now.holders console) }
 {
     match holder(w, console) {
         None => true,
-        Some(h) => h == slot || is_superior(w, slot, h),
+        Some(h) => h == slot.number() || is_superior(w, slot, h),
     }
 }
 
 /// Whether a job holds a console.
-fn is_holder(w: &World, slot: u8, console: u8) -> bool
+fn is_holder(w: &World, slot: Slot, console: u8) -> bool
     ensures { result ≡ holds slot (holder_at w.now.holders console) }
 {
     match holder(w, console) {
-        Some(h) => h == slot,
+        Some(h) => h == slot.number(),
         None => false,
     }
 }
 
 /// A job becomes the holder of the caller's console, if it may.
 #[tactic(auto, unfolding(its_plain::specs::View::view, its_world::specs::World::state_of))]
-fn lands(w: &World, slot: u8, job: &Job, ask: &Ask, may: bool, number: u8, holder: u8) -> Decision
-    requires { slot < slots }
+fn lands(w: &World, slot: Slot, job: &Job, ask: &Ask, may: bool, number: u8, holder: u8) -> Decision
     ensures { result ≡ lands (seen_by w.now slot job.now ask.now) ask.now may number holder }
 {
     if job.console.is_none() {

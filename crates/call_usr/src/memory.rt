@@ -1,6 +1,5 @@
 //! USRMEM and UCLOSE.
-ghost use Rattle.std.specs.Prelude.{◌≡◌, ◌<◌, Some};
-ghost use Rattle.its_word.specs.Limits.{slots};
+ghost use Rattle.std.specs.Prelude.{◌≡◌, Some};
 ghost use Rattle.its_jobs.specs.Table.{job_at};
 ghost use Rattle.its_frame.specs.declared.decision.Decision.TheVariants.{Ends};
 ghost use Rattle.its_frame.specs.declared.name.CallName.TheVariants.{Usrmem};
@@ -19,7 +18,7 @@ use arrayvec::ArrayVec;
 use call_basic::{channel, fails, finishes, finishes_with, has_input, input, output};
 use its_frame::{Change, Decision, error};
 use its_records::{Ask, Channel, Job};
-use its_word::Word;
+use its_word::{Slot, Word};
 use its_world::World;
 
 /// The highest address.
@@ -28,8 +27,7 @@ const HIGHEST: u64 = 0o777777;
 /// USRMEM channel, address, optional new word: the output gets the word of the inferior, and then the new one is stored. Errors 4, 5,
 /// 22; 5 if the channel has no leave to write, 16 if the word is absent or cannot be stored.
 #[tactic(auto, using(its_machine::proofs::NumberLaws::under), unfolding(its_plain::specs::CallUsr::usrmem, its_plain::specs::View::view, its_world::specs::World::state_of))]
-pub fn usrmem(w: &World, slot: u8, job: &Job, ask: &Ask) -> Decision
-    requires slot { slot < slots }
+pub fn usrmem(w: &World, slot: Slot, job: &Job, ask: &Ask) -> Decision
     requires fail { ask.now.fail ≡ 0 }
     requires name { call_named ask.now.name ≡ Some Usrmem }
     requires job { job_at w.now.jobs slot ≡ Some job.now }
@@ -51,7 +49,7 @@ pub fn usrmem(w: &World, slot: u8, job: &Job, ask: &Ask) -> Decision
 #[tactic(auto, using(crate::proofs::OtherLaws::other_here), unfolding(its_plain::specs::View::view, its_world::specs::World::state_of))]
 fn usrmem_on(
     w: &World,
-    slot: u8,
+    slot: Slot,
     job: &Job,
     ask: &Ask,
     inferior: u8,
@@ -97,7 +95,7 @@ fn set_word(job: &Job, ask: &Ask, inferior: u8, at: u32, word: Word) -> Decision
 
 /// UCLOSE channel: the inferior and all jobs below it are removed. Errors 4, 5.
 #[tactic(auto, using(its_machine::proofs::NumberLaws::under), unfolding(its_plain::specs::CallUsr::uclose, its_plain::specs::View::view, its_world::specs::World::state_of))]
-pub fn uclose(w: &World, slot: u8, job: &Job, ask: &Ask) -> Decision
+pub fn uclose(w: &World, slot: Slot, job: &Job, ask: &Ask) -> Decision
     ensures { result ≡ uclose (seen_by w.now slot job.now ask.now) ask.now }
 {
     match channel(job, input(ask, 0)) {

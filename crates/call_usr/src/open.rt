@@ -1,6 +1,5 @@
 //! OPEN of USR: an inferior by its names, which is made if it is to be written and there is none.
-ghost use Rattle.std.specs.Prelude.{◌≡◌, ◌==◌, ◌&&◌, ◌<◌, [], ◌∷◌, true, unwrap_or};
-ghost use Rattle.its_word.specs.Limits.{slots};
+ghost use Rattle.std.specs.Prelude.{◌≡◌, ◌==◌, ◌&&◌, [], ◌∷◌, true, unwrap_or};
 ghost use Rattle.its_records.specs.Tree.{least_free};
 ghost use Rattle.its_frame.specs.declared.change.Change.TheVariants.{Make, Open};
 ghost use Rattle.its_frame.specs.declared.change.Opened.TheVariants.{Usr};
@@ -15,14 +14,13 @@ use arrayvec::ArrayVec;
 use call_basic::{control, exit_after, fails, finishes_with, input, is_free, is_superior};
 use its_frame::{Change, Decision, Opened, error};
 use its_records::{Ask, Job};
-use its_word::{SLOTS, Word};
+use its_word::{SLOTS, Slot, Word};
 use its_world::World;
 
 /// OPEN channel, USR, user name, job name: the caller's inferior with these names. Errors 4, 22; 13 if they are those of another job,
 /// 12 for input if no job has them, 14 if all slots below the limit have jobs.
 #[tactic(auto, using(call_basic::proofs::ChannelLaws::free), unfolding(its_plain::specs::CallUsr::opens_usr, its_plain::specs::View::view, its_world::specs::World::state_of))]
-pub fn open_usr(w: &World, slot: u8, job: &Job, ask: &Ask) -> Decision
-    requires { slot < slots }
+pub fn open_usr(w: &World, slot: Slot, job: &Job, ask: &Ask) -> Decision
     ensures { result ≡ opens_usr (seen_by w.now slot job.now ask.now) ask.now }
 {
     let number = input(ask, 0);
@@ -38,8 +36,7 @@ pub fn open_usr(w: &World, slot: u8, job: &Job, ask: &Ask) -> Decision
 
 /// The inferior with the names of OPEN is opened, or made.
 #[tactic(auto, unfolding(its_plain::specs::View::view, its_world::specs::World::state_of))]
-fn opens_job(w: &World, slot: u8, job: &Job, ask: &Ask, n: u8, write: bool) -> Decision
-    requires { slot < slots }
+fn opens_job(w: &World, slot: Slot, job: &Job, ask: &Ask, n: u8, write: bool) -> Decision
     ensures { result ≡ opens_job (seen_by w.now slot job.now ask.now) ask.now n (input ask.now 2) (input ask.now 3) write (inferior_named (seen_by w.now slot job.now ask.now) (input ask.now 2) (input ask.now 3)) }
 {
     let (u, x) = (input(ask, 2), input(ask, 3));
@@ -61,7 +58,7 @@ fn opens_job(w: &World, slot: u8, job: &Job, ask: &Ask, n: u8, write: bool) -> D
 
 /// An inferior with these names is made in the least free slot, and opened.
 #[tactic(auto, unfolding(its_plain::specs::View::view, its_world::specs::World::state_of))]
-fn makes_job(w: &World, slot: u8, job: &Job, ask: &Ask, n: u8, u: Word, x: Word) -> Decision
+fn makes_job(w: &World, slot: Slot, job: &Job, ask: &Ask, n: u8, u: Word, x: Word) -> Decision
     ensures { result ≡ makes_job (seen_by w.now slot job.now ask.now) ask.now n u x (least_free (seen_by w.now slot job.now ask.now).limit (seen_by w.now slot job.now ask.now).outlines) }
 {
     match w.jobs.free() {
@@ -88,15 +85,14 @@ fn made(job: &Job, n: u8, slot: u8, u: Word, x: Word) -> Decision
 
 /// The least slot whose job is an inferior of the caller with these names.
 #[tactic(auto, unfolding(its_plain::specs::View::view, its_world::specs::World::state_of))]
-fn inferior_named(w: &World, slot: u8, job: &Job, ask: &Ask, u: Word, x: Word) -> Option<u8>
-    requires { slot < slots }
+fn inferior_named(w: &World, slot: Slot, job: &Job, ask: &Ask, u: Word, x: Word) -> Option<u8>
     ensures { result ≡ inferior_named (seen_by w.now slot job.now ask.now) u x }
 {
     (0..SLOTS as u8).find(|k| is_named_inferior(w, slot, *k, u, x))
 }
 
 /// Whether the job of a slot is an inferior of the caller with these names.
-fn is_named_inferior(w: &World, slot: u8, inferior: u8, u: Word, x: Word) -> bool
+fn is_named_inferior(w: &World, slot: Slot, inferior: u8, u: Word, x: Word) -> bool
     ensures { result ≡ (has_names u x (outline_at w.now inferior) && is_superior slot (outline_at w.now inferior)) }
 {
     has_names(w, inferior, u, x) && is_superior(w, slot, inferior)
@@ -104,7 +100,7 @@ fn is_named_inferior(w: &World, slot: u8, inferior: u8, u: Word, x: Word) -> boo
 
 /// Whether any job has these names.
 #[tactic(auto, unfolding(its_plain::specs::View::view, its_world::specs::World::state_of))]
-fn any_named(w: &World, slot: u8, job: &Job, ask: &Ask, u: Word, x: Word) -> bool
+fn any_named(w: &World, slot: Slot, job: &Job, ask: &Ask, u: Word, x: Word) -> bool
     ensures { result ≡ any_named (seen_by w.now slot job.now ask.now) u x }
 {
     (0..SLOTS as u8).any(|k| has_names(w, k, u, x))

@@ -1,7 +1,6 @@
 //! `.IOT` and SIOT on an inferior: whole words, from it or into it.
 ghost use Rattle.std.specs.Prelude.{◌≡◌, ◌<◌, ◌+◌, ◌^◌, [], ◌∷◌, true, slice_index_or};
 ghost use Rattle.its_word.specs.Byte.{has_size};
-ghost use Rattle.its_word.specs.Limits.{slots};
 ghost use Rattle.its_frame.specs.declared.change.Change.TheVariants.{Move, Poke};
 ghost use Rattle.its_plain.specs.Arguments.{input};
 ghost use Rattle.its_plain.specs.Transfer.{next_pointer};
@@ -17,7 +16,7 @@ use call_basic::{
 use its_bytes::load;
 use its_frame::{Change, Decision, Held, error};
 use its_records::{Ask, Job};
-use its_word::{ADDRESSES, Fault, Word};
+use its_word::{ADDRESSES, Fault, Slot, Word};
 use its_world::World;
 
 /// What `.IOT` gets at the end of an inferior's core.
@@ -33,14 +32,13 @@ fn at_end(at: u32) -> bool
 /// `.IOT` through a channel on an inferior: into it, if the channel has leave to write, else from it.
 pub fn iot_through(
     w: &World,
-    slot: u8,
+    slot: Slot,
     job: &Job,
     ask: &Ask,
     inferior: u8,
     write: bool,
     at: u32,
 ) -> Decision
-    requires slot { slot < slots }
     requires targets { Targets w.now slot job.now ask.now inferior }
     ensures { result ≡ iot_through (seen_by w.now slot job.now ask.now) (slice_index_or ask.now.outputs.items 0 0) (input ask.now 0) inferior write at }
 {
@@ -54,8 +52,7 @@ pub fn iot_through(
 /// `.IOT` from an inferior: the word at the channel's position, which is then one more; 777777000003 at the end. MPV or WRO by the word
 /// at E; IOC if the inferior's word is absent.
 #[tactic(auto, using(crate::proofs::OtherLaws::other_here), unfolding(its_plain::specs::View::view, its_world::specs::World::state_of))]
-fn iot_from(w: &World, slot: u8, job: &Job, ask: &Ask, inferior: u8, at: u32) -> Decision
-    requires slot { slot < slots }
+fn iot_from(w: &World, slot: Slot, job: &Job, ask: &Ask, inferior: u8, at: u32) -> Decision
     requires targets { Targets w.now slot job.now ask.now inferior }
     ensures { result ≡ iot_from (seen_by w.now slot job.now ask.now) (slice_index_or ask.now.outputs.items 0 0) (input ask.now 0) at }
 {
@@ -81,13 +78,12 @@ fn iot_from(w: &World, slot: u8, job: &Job, ask: &Ask, inferior: u8, at: u32) ->
 /// `.IOT` into an inferior: the word at E is stored at the channel's position, which is then one more. MPV by the word at E; IOC at the
 /// end, and if the inferior's word cannot be stored.
 #[tactic(auto, using(crate::proofs::OtherLaws::other_here), unfolding(its_plain::specs::View::view, its_world::specs::World::state_of))]
-fn iot_into(w: &World, slot: u8, job: &Job, ask: &Ask, inferior: u8, at: u32) -> Decision
-    requires slot { slot < slots }
+fn iot_into(w: &World, slot: Slot, job: &Job, ask: &Ask, inferior: u8, at: u32) -> Decision
     requires targets { Targets w.now slot job.now ask.now inferior }
     ensures { result ≡ iot_into (seen_by w.now slot job.now ask.now) (slice_index_or ask.now.outputs.items 0 0) (input ask.now 0) inferior at }
 {
     let e = ask.outputs.first().copied().unwrap_or(0);
-    let Some(word) = w.core.word(slot, e) else {
+    let Some(word) = w.core.word(slot.number(), e) else {
         return faults(job, Fault::Mpv);
     };
     if at_end(at) || !w.core.is_storable(inferior, at) {
@@ -121,14 +117,13 @@ fn poke_and_move(ask: &Ask, inferior: u8, at: u32, word: Word) -> ArrayVec<Chang
 /// SIOT through a channel on an inferior: into it, if the channel has leave to write, else from it.
 pub fn siot_through(
     w: &World,
-    slot: u8,
+    slot: Slot,
     job: &Job,
     ask: &Ask,
     inferior: u8,
     write: bool,
     at: u32,
 ) -> Decision
-    requires slot { slot < slots }
     requires targets { Targets w.now slot job.now ask.now inferior }
     ensures { result ≡ siot_through (seen_by w.now slot job.now ask.now) ask.now (input ask.now 0) inferior write at }
 {
@@ -140,8 +135,7 @@ pub fn siot_through(
 }
 
 /// SIOT from an inferior: the word at the channel's position is held, and stored by the next step. Error 16 if it is absent.
-fn siot_from(w: &World, slot: u8, job: &Job, ask: &Ask, inferior: u8, at: u32) -> Decision
-    requires slot { slot < slots }
+fn siot_from(w: &World, slot: Slot, job: &Job, ask: &Ask, inferior: u8, at: u32) -> Decision
     requires targets { Targets w.now slot job.now ask.now inferior }
     ensures { result ≡ siot_from (seen_by w.now slot job.now ask.now) ask.now (input ask.now 0) at }
 {
@@ -153,8 +147,7 @@ fn siot_from(w: &World, slot: u8, job: &Job, ask: &Ask, inferior: u8, at: u32) -
 
 /// The same if no test of its arguments stops it.
 #[tactic(auto, unfolding(its_plain::specs::View::view, its_world::specs::World::state_of))]
-fn siot_peeks(w: &World, slot: u8, job: &Job, ask: &Ask, at: u32, word: Option<Word>) -> Decision
-    requires slot { slot < slots }
+fn siot_peeks(w: &World, slot: Slot, job: &Job, ask: &Ask, at: u32, word: Option<Word>) -> Decision
     requires number { input ask.now 0 < 16 }
     requires below { at < 2 ^ 18 }
     ensures { result ≡ siot_peeks (seen_by w.now slot job.now ask.now) ask.now (next_pointer (input ask.now 1)) (input ask.now 2) (input ask.now 0) at word }
@@ -177,8 +170,7 @@ fn siot_peeks(w: &World, slot: u8, job: &Job, ask: &Ask, at: u32, word: Option<W
 
 /// SIOT into an inferior: the word is stored at the channel's position. Error 16 if it cannot be.
 #[tactic(auto, using(its_plain::proofs::SizeLaws::next_sized), unfolding(its_plain::specs::View::view, its_world::specs::World::state_of))]
-fn siot_into(w: &World, slot: u8, job: &Job, ask: &Ask, inferior: u8, at: u32) -> Decision
-    requires slot { slot < slots }
+fn siot_into(w: &World, slot: Slot, job: &Job, ask: &Ask, inferior: u8, at: u32) -> Decision
     requires targets { Targets w.now slot job.now ask.now inferior }
     ensures { result ≡ siot_into (seen_by w.now slot job.now ask.now) ask.now (input ask.now 0) inferior at }
 {
@@ -190,15 +182,14 @@ fn siot_into(w: &World, slot: u8, job: &Job, ask: &Ask, inferior: u8, at: u32) -
 
 /// The same if no test of its arguments stops it.
 #[tactic(auto, using(its_machine::proofs::StopLaws::loaded_fits, crate::proofs::OtherLaws::other_here), unfolding(its_plain::specs::View::view, its_world::specs::World::state_of))]
-fn siot_pokes(w: &World, slot: u8, job: &Job, ask: &Ask, inferior: u8, at: u32) -> Decision
-    requires slot { slot < slots }
+fn siot_pokes(w: &World, slot: Slot, job: &Job, ask: &Ask, inferior: u8, at: u32) -> Decision
     requires below { at < 2 ^ 18 }
     requires targets { Targets w.now slot job.now ask.now inferior }
     requires size { has_size (next_pointer (input ask.now 1)) ≡ true }
     ensures { result ≡ siot_pokes (seen_by w.now slot job.now ask.now) ask.now (next_pointer (input ask.now 1)) (input ask.now 2) (input ask.now 0) inferior at }
 {
     let next = next_pointer(input(ask, 1));
-    let Some(word) = w.core.word(slot, next.right()) else {
+    let Some(word) = w.core.word(slot.number(), next.right()) else {
         return faults(job, Fault::Mpv);
     };
     if !w.core.is_storable(inferior, at) {

@@ -1,6 +1,5 @@
 ghost use Rattle.std.specs.Prelude.{◌≡◌, ◌<◌, ◌^◌, true, None, Some, [], ◌∷◌, is_some, length, option_map};
 ghost use Rattle.its_word.specs.Console.{most_waiting};
-ghost use Rattle.its_word.specs.Limits.{slots};
 ghost use Rattle.its_records.specs.Links.{most_links, most_linked};
 ghost use Rattle.its_word.specs.Core.{can_store};
 ghost use Rattle.its_records.specs.Tree.{least_free};
@@ -24,13 +23,12 @@ use its_core::Full;
 use its_frame::{Change, Opened, Variable};
 use its_jobs::NoSlot;
 use its_records::{Channel, Job};
-use its_word::{INF, Word, flags_in};
+use its_word::{INF, Slot, Word, flags_in};
 use its_world::World;
 
 /// Makes the changes of a call of slot's job, in their order.
 #[tactic(auto, using(crate::proofs::ChangeLaws::next_made, crate::proofs::ChangeLaws::pages_next, crate::proofs::ChangeLaws::can_first, crate::proofs::ChangeLaws::can_next))]
-pub fn apply(w: &mut World, slot: u8, changes: &[Change])
-    requires slot { slot < slots }
+pub fn apply(w: &mut World, slot: Slot, changes: &[Change])
     requires can { CanMakeAll changes.now slot (state_of w.old) }
     requires tidy { Tidy w.old }
     ensures row { state_of w.new ≡ effects_on changes.now slot (state_of w.old) }
@@ -45,8 +43,7 @@ pub fn apply(w: &mut World, slot: u8, changes: &[Change])
 /// Makes one change.
 #[inline(never)]
 #[tactic(auto, unfolding(its_stepped::specs::Commit::effect_on, its_plain::specs::Change::effect))]
-fn apply_one(w: &mut World, slot: u8, change: &Change)
-    requires slot { slot < slots }
+fn apply_one(w: &mut World, slot: Slot, change: &Change)
     requires can { CanMake change.now slot (state_of w.old) }
     requires tidy { Tidy w.old }
     ensures row { state_of w.new ≡ effect_on change.now slot (state_of w.old) }
@@ -91,9 +88,9 @@ fn apply_one(w: &mut World, slot: u8, change: &Change)
             variable,
             value,
         } => set(w, *s, *variable, *value),
-        Change::Poke { slot: s, at, word } => poke(w, *s, *at, *word),
+        Change::Poke { slot: s, at, word } => poke(w, Slot::new(*s), *at, *word),
         Change::Make { slot: s, u, j } => make(w, slot, *s, *u, *j),
-        Change::Remove { slot: s } => remove_tree(w, *s),
+        Change::Remove { slot: s } => remove_tree(w, Slot::new(*s)),
         Change::Map { slot: s, page } => map(w, slot, *s, *page),
         Change::Unmap { slot: s, page } => unmap(w, *s, *page),
         Change::Protect {
@@ -107,8 +104,7 @@ fn apply_one(w: &mut World, slot: u8, change: &Change)
 /// Makes one change, of those that SIOT makes in place (`apply_one`).
 #[inline(always)]
 #[tactic(auto, unfolding(its_stepped::specs::Commit::effect_on, its_plain::specs::Change::effect))]
-pub fn apply_part(w: &mut World, slot: u8, change: Change)
-    requires slot { slot < slots }
+pub fn apply_part(w: &mut World, slot: Slot, change: Change)
     requires can { CanMake change slot (state_of w.old) }
     requires tidy { Tidy w.old }
     ensures row { state_of w.new ≡ effect_on change slot (state_of w.old) }
@@ -128,8 +124,7 @@ pub fn apply_part(w: &mut World, slot: u8, change: Change)
 
 /// Opens a closed channel of a slot's job on a console, a file, a new draft or another job.
 #[tactic(auto, using(crate::proofs::ChangeLaws::closed_elsewhere), unfolding(its_stepped::specs::Commit::effect_on, its_plain::specs::Change::effect))]
-fn open(w: &mut World, slot: u8, n: u8, on: Opened)
-    requires slot { slot < slots }
+fn open(w: &mut World, slot: Slot, n: u8, on: Opened)
     requires number { n < 16 }
     requires job { HasJob (state_of w.old) slot }
     requires closed { chan_in (state_of w.old) slot n ≡ Shut }
@@ -229,14 +224,13 @@ fn inform(w: &mut World, slot: u8)
 {
     if let Some(mut job) = w.jobs.job(slot).copied() {
         job.pend1 = job.pend1 | Word::new(INF);
-        w.put_registers(slot, job);
+        w.put_registers(Slot::new(slot), job);
     }
 }
 
 /// Gives a slot's job another alarm, or none.
 #[tactic(auto, using(its_world::proofs::AlarmLaws::alarm_state, crate::proofs::ChangeLaws::armed_missing, crate::proofs::ChangeLaws::armed_tidy, crate::proofs::ChangeLaws::armed_pages))]
-fn arm(w: &mut World, slot: u8, alarm: Option<(u64, u64)>)
-    requires slot { slot < slots }
+fn arm(w: &mut World, slot: Slot, alarm: Option<(u64, u64)>)
     requires tidy { Tidy w.old }
     ensures row { state_of w.new ≡ in_raw (state_of w.old) slot (with_alarm alarm) }
     ensures pages { w.new.core.frames ≡ w.old.core.frames }
@@ -249,8 +243,7 @@ fn arm(w: &mut World, slot: u8, alarm: Option<(u64, u64)>)
 
 /// Stores a word of a slot's job.
 #[tactic(auto, using(crate::proofs::TidyLaws::becomes_pages))]
-fn poke(w: &mut World, slot: u8, at: u32, word: Word)
-    requires slot { slot < slots }
+fn poke(w: &mut World, slot: Slot, at: u32, word: Word)
     requires address { at < 2 ^ 18 }
     requires can { can_store (core_of ((state_of w.old).raw.jobs slot)) at ≡ true }
     requires job { HasJob (state_of w.old) slot }
@@ -263,8 +256,7 @@ fn poke(w: &mut World, slot: u8, at: u32, word: Word)
 }
 
 /// Makes an inferior of a slot's job in the least free slot, with these names and the console of its superior.
-fn make(w: &mut World, maker: u8, slot: u8, u: Word, j: Word)
-    requires maker { maker < slots }
+fn make(w: &mut World, maker: Slot, slot: u8, u: Word, j: Word)
     requires job { HasJob (state_of w.old) maker }
     requires free { least_free (limit (state_of w.old).raw) (state_of w.old).raw.jobs ≡ Some slot }
     requires tidy { Tidy w.old }
@@ -273,17 +265,17 @@ fn make(w: &mut World, maker: u8, slot: u8, u: Word, j: Word)
     ensures tidy { Tidy w.new }
 {
     let console = console_of(w, maker);
-    match w.jobs.create(u, j, Some(maker), console) {
+    match w.jobs.create(u, j, Some(maker.number()), console) {
         Ok(_) => {}
         Err(NoSlot) => unreachable!(),
     }
 }
 
 /// The console of a slot's job.
-fn console_of(w: &World, slot: u8) -> Option<u8>
+fn console_of(w: &World, slot: Slot) -> Option<u8>
     ensures { result ≡ console_in ((state_of w.now).raw.jobs slot) }
 {
-    match w.jobs.job(slot) {
+    match w.jobs.job(slot.number()) {
         Some(job) => job.console,
         None => None,
     }
@@ -291,15 +283,14 @@ fn console_of(w: &World, slot: u8) -> Option<u8>
 
 /// The page that a slot has reserved, which is clear, becomes a page of a target.
 #[tactic(auto, using(its_world::proofs::MappedLaws::mapped_becomes, crate::proofs::ChangeLaws::page_clear, crate::proofs::ChangeLaws::page_absent, crate::proofs::ChangeLaws::never_full, crate::proofs::ChangeLaws::page_mapped))]
-fn map(w: &mut World, slot: u8, target: u8, page: u8)
-    requires slot { slot < slots }
+fn map(w: &mut World, slot: Slot, target: u8, page: u8)
     requires can { Maps (state_of w.old) slot target page }
     requires tidy { Tidy w.old }
     ensures row { state_of w.new ≡ effect_on (Map target page) slot (state_of w.old) }
     ensures pages { w.new.core.frames ≡ frames_map slot target page w.old.core.frames }
     ensures tidy { Tidy w.new }
 {
-    match w.core.map(slot, target, page) {
+    match w.core.map(slot.number(), target, page) {
         Ok(()) => {}
         Err(Full) => unreachable!(),
     }
@@ -338,7 +329,7 @@ fn set(w: &mut World, slot: u8, variable: Variable, value: Word)
     ensures tidy { Tidy w.new }
 {
     if let Some(job) = w.jobs.job(slot).copied() {
-        w.put_registers(slot, with_variable(job, variable, value));
+        w.put_registers(Slot::new(slot), with_variable(job, variable, value));
     }
 }
 

@@ -1,7 +1,6 @@
 //! The decision of a call carried out.
-ghost use Rattle.std.specs.Prelude.{◌≡◌, ◌<◌, ◌≤◌, ◌++◌, ◌∷◌, [], true, false, Some, is_some, IfSome, length, map};
+ghost use Rattle.std.specs.Prelude.{◌≡◌, ◌≤◌, ◌++◌, ◌∷◌, [], true, false, Some, is_some, IfSome, length, map};
 ghost use Rattle.its_records.specs.declared.calls.Owed.TheVariants.{Leave};
-ghost use Rattle.its_word.specs.Limits.{slots};
 ghost use Rattle.its_jobs.specs.Table.{job_at};
 ghost use Rattle.its_plain.specs.Arguments.{debts, with_new_values};
 ghost use Rattle.its_plain.specs.Decide.{call_named};
@@ -22,13 +21,12 @@ use arrayvec::ArrayVec;
 use its_calls::{Next, View};
 use its_frame::{CallName, Change, Decision, Held};
 use its_records::{Ask, Exit, Owed};
-use its_word::{Store, Word};
+use its_word::{Slot, Store, Word};
 use its_world::World;
 
 /// Carries out the decision of the call of a slot's job, which is in its frame: the changes at once, and the rest as
 /// the frame that it leaves.
-pub fn carry_out(w: &mut World, slot: u8, decision: Decision)
-    requires slot { slot < slots }
+pub fn carry_out(w: &mut World, slot: Slot, decision: Decision)
     requires job { is_some (job_at w.old.jobs slot) ≡ true }
     requires stands { is_some (standing_of (call_in w.old slot)) ≡ true }
     requires ready { IfSome (standing_of (call_in w.old slot)) (λ f. CanCommit (state_of w.old) slot f decision) }
@@ -67,13 +65,12 @@ pub fn carry_out(w: &mut World, slot: u8, decision: Decision)
 #[inline(always)]
 pub fn carry_part(
     w: &mut World,
-    slot: u8,
+    slot: Slot,
     change: Change,
     held: Option<Held>,
     next: Word,
     left: Word,
 )
-    requires slot { slot < slots }
     requires job { is_some (job_at w.old.jobs slot) ≡ true }
     requires stands { is_some (standing_of (call_in w.old slot)) ≡ true }
     requires awake { IfSome (standing_of (call_in w.old slot)) (λ f. sleeps (call_named f.ask.name) ≡ false) }
@@ -89,8 +86,7 @@ pub fn carry_part(
 
 /// The call of a slot that can be committed: what it asks for, and how many of its last arguments are pending.
 #[tactic(auto, using(crate::proofs::StandingLaws::stands_holding, crate::proofs::StandingLaws::stands_waiting))]
-pub fn standing(w: &World, slot: u8) -> (&Ask, u8)
-    requires slot { slot < slots }
+pub fn standing(w: &World, slot: Slot) -> (&Ask, u8)
     requires stands { is_some (standing_of (call_in w.now slot)) ≡ true }
     ensures { IfSome (standing_of (call_in w.now slot)) (λ f. (result.0.now ≡ f.ask) × (result.1 ≡ f.owes)) }
 {
@@ -103,8 +99,7 @@ pub fn standing(w: &World, slot: u8) -> (&Ask, u8)
 
 /// The call waits.
 #[tactic(auto, using(crate::proofs::TidyLaws::becomes_pages))]
-fn wait(w: &mut World, slot: u8)
-    requires slot { slot < slots }
+fn wait(w: &mut World, slot: Slot)
     requires stands { is_some (standing_of (call_in w.old slot)) ≡ true }
     requires tidy { Tidy w.old }
     ensures row { IfSome (standing_of (call_in w.old slot)) (λ f. FrameBecomes w.old w.new slot (Some (waiting f.site f.ask f.owes))) }
@@ -117,8 +112,7 @@ fn wait(w: &mut World, slot: u8)
 
 /// A part of the call is done: its last arguments have new values, whose stores are pending.
 #[tactic(auto, using(crate::proofs::TidyLaws::becomes_pages))]
-fn go_on(w: &mut World, slot: u8, held: Option<Held>, values: &[Word])
-    requires slot { slot < slots }
+fn go_on(w: &mut World, slot: Slot, held: Option<Held>, values: &[Word])
     requires stands { is_some (standing_of (call_in w.old slot)) ≡ true }
     requires few { length values.now ≤ 2 }
     requires tidy { Tidy w.old }
@@ -133,8 +127,7 @@ fn go_on(w: &mut World, slot: u8, held: Option<Held>, values: &[Word])
 
 /// A part of a call that is not SLEEP is done: its last two arguments have new values, whose stores are pending.
 #[inline(always)]
-fn go_on_awake(w: &mut World, slot: u8, held: Option<Held>, next: Word, left: Word)
-    requires slot { slot < slots }
+fn go_on_awake(w: &mut World, slot: Slot, held: Option<Held>, next: Word, left: Word)
     requires stands { is_some (standing_of (call_in w.old slot)) ≡ true }
     requires awake { IfSome (standing_of (call_in w.old slot)) (λ f. sleeps (call_named f.ask.name) ≡ false) }
     requires tidy { Tidy w.old }
@@ -181,8 +174,7 @@ fn is_sleep(ask: &Ask) -> bool
 
 /// The call ends: the parts of its close, its reserved page, its arguments, its stores and its registers are pending.
 #[tactic(auto, using(crate::proofs::CommittingLaws::page_reserved, crate::proofs::TidyLaws::becomes_pages))]
-fn end(w: &mut World, slot: u8, stores: &[Store], exit: Exit)
-    requires slot { slot < slots }
+fn end(w: &mut World, slot: Slot, stores: &[Store], exit: Exit)
     requires stands { is_some (standing_of (call_in w.old slot)) ≡ true }
     requires room { IfSome (standing_of (call_in w.old slot)) (λ f. Endable (state_of w.old) slot f (length stores.now)) }
     requires tidy { Tidy w.old }
@@ -191,7 +183,7 @@ fn end(w: &mut World, slot: u8, stores: &[Store], exit: Exit)
     ensures tidy { Tidy w.new }
 {
     let parts = owed_parts(w, slot);
-    let reserved = w.core.has_reserved(slot);
+    let reserved = w.core.has_reserved(slot.number());
     let (ask, owes) = standing(w, slot);
     let owed = owed_steps(&parts, reserved, ask, owes, stores, exit);
     w.end(slot, owed);
@@ -199,7 +191,7 @@ fn end(w: &mut World, slot: u8, stores: &[Store], exit: Exit)
 
 /// The pending parts of the close of a slot's call.
 #[tactic(auto, using(crate::proofs::CommittingLaws::parts_mine, crate::proofs::CommittingLaws::parts_none))]
-fn owed_parts(w: &World, slot: u8) -> ArrayVec<Owed, 3>
+fn owed_parts(w: &World, slot: Slot) -> ArrayVec<Owed, 3>
     ensures { result.items ≡ owed_parts (state_of w.now).mark slot }
 {
     if owns_mark(w, slot) {

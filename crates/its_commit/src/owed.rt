@@ -6,7 +6,7 @@ ghost use Rattle.its_stepped.specs.State.{mine};
 ghost use Rattle.its_world.specs.World.{state_of};
 
 use its_records::Ask;
-use its_word::Store;
+use its_word::{Slot, Store};
 use its_world::World;
 
 /// The first of the last n arguments of a call, all of which are words, as a store of its value.
@@ -29,11 +29,11 @@ pub fn first_owed(ask: &Ask, n: u8) -> Store
 
 /// Whether the close that is half made is that of a slot's call.
 #[tactic(auto, using(crate::proofs::OwedLaws::owner_some, crate::proofs::OwedLaws::owner_none))]
-pub fn owns_mark(w: &World, slot: u8) -> bool
+pub fn owns_mark(w: &World, slot: Slot) -> bool
     ensures { result ≡ mine (state_of w.now).mark slot }
 {
     match w.files.owner() {
-        Some(owner) => owner == slot,
+        Some(owner) => owner == slot.number(),
         None => false,
     }
 }

@@ -9,7 +9,7 @@ use super::ends::{ends, goes_on, store_at};
 use arrayvec::ArrayVec;
 use its_frame::{Change, Decision, Wait, error};
 use its_ints::{dismiss as dismissed, popped};
-use its_word::{Fault, Slot, Word};
+use its_word::{Fault, Word};
 
 /// The longest sleep, and the longest period of an alarm, in thirtieths.
 const LONGEST: u64 = 0o200000000000;
@@ -76,7 +76,7 @@ impl Caller<'_> {
         ensures { result ≡ dismiss (looks self.now) self.now.ask.now }
     {
         match self.place(0) {
-            Some(p) => match dismissed(self.seen.core, self.job, Slot::new(self.slot), p) {
+            Some(p) => match dismissed(self.seen.core, self.job, self.slot, p) {
                 Ok(exit) => ends(None, store_at(Some(p), popped(self.input(0))), exit),
                 Err(fault) => self.faults(fault),
             },
@@ -90,7 +90,7 @@ impl Caller<'_> {
         ensures { result ≡ logout (looks self.now) }
     {
         let mut changes = ArrayVec::new();
-        if let Some(superior) = self.seen.jobs.superior(self.slot) {
+        if let Some(superior) = self.seen.jobs.superior(self.slot.number()) {
             changes.push(Change::Inform { slot: superior });
         }
         Decision::Gone { changes }

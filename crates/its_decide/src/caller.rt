@@ -1,6 +1,5 @@
 //! Who calls, and what its call looks at.
-ghost use Rattle.std.specs.Prelude.{◌≡◌, ◌<◌, Some};
-ghost use Rattle.its_word.specs.Limits.{slots};
+ghost use Rattle.std.specs.Prelude.{◌≡◌, Some};
 ghost use Rattle.its_jobs.specs.Table.{job_at};
 ghost use Rattle.its_plain.specs.Decide.{target as target_of};
 ghost use Rattle.its_decide.specs.Seen.{raw_with};
@@ -12,6 +11,7 @@ use its_jobs::Jobs;
 use its_machine::SymbolTable;
 use its_pipes::Pipes;
 use its_records::{Ask, Job};
+use its_word::Slot;
 
 /// The parts of a machine, borrowed: cores, jobs, the consoles and for each of them the slot of the job that holds it, files and
 /// drafts, the clock in thirtieths, for each slot the alarm of its job if it has one (its period and its next time), the version of the
@@ -35,11 +35,10 @@ pub struct Seen<'a> {
 #[derive(Drop)]
 pub struct Caller<'a> {
     pub seen: &'a Seen<'a>,
-    pub slot: u8,
+    pub slot: Slot,
     pub job: &'a Job,
     pub ask: &'a Ask,
     pub target: Option<u8>,
-    ghost below: { slot < slots },
     ghost stands: { job_at seen.now.jobs.now slot ≡ Some job.now },
     ghost reaches: { target ≡ target_of (raw_with seen.now slot job.now) ask.now },
 }

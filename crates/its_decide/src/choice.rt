@@ -1,6 +1,5 @@
 //! Which call decides: by its name, and for the calls that devices share by the device, or by what the channel is on.
 ghost use Rattle.std.specs.Prelude.{◌≡◌, ◌<◌, ◌∷◌, [], Some};
-ghost use Rattle.its_word.specs.Limits.{slots};
 ghost use Rattle.its_frame.specs.declared.change.Change.TheVariants.{Shut};
 ghost use Rattle.its_frame.specs.declared.decision.Decision.TheVariants.{Ends};
 ghost use Rattle.its_frame.specs.declared.name.CallName.TheVariants.{Iot, Siot};
@@ -21,14 +20,14 @@ use super::directory::DSK;
 use super::links::LNK;
 use its_frame::{CallName, Change, Decision, Wait, error};
 use its_records::{Ask, Channel, Job};
+use its_word::Slot;
 
 /// The device of jobs, in SIXBIT.
 const USR: u64 = 0o656362000000;
 
 /// The decision of the call of a slot's job, which has these registers.
 #[tactic(auto, unfolding(its_plain::specs::CallStep::decision))]
-pub fn decide(seen: &Seen<'_>, slot: u8, job: &Job, ask: &Ask) -> Decision
-    requires slot { slot < slots }
+pub fn decide(seen: &Seen<'_>, slot: Slot, job: &Job, ask: &Ask) -> Decision
     requires job { job_at seen.now.jobs.now slot ≡ Some job.now }
     requires fits { SeenFits seen.now }
     requires clock { seen.now.clock < clock_end }
@@ -47,7 +46,7 @@ pub fn decide(seen: &Seen<'_>, slot: u8, job: &Job, ask: &Ask) -> Decision
 
 /// The slot of the job into which the call of a slot's job reaches, through an open channel on it.
 #[tactic(auto, using(its_machine::proofs::NumberLaws::under), unfolding(its_plain::specs::Decide::target))]
-pub(crate) fn target(seen: &Seen<'_>, slot: u8, job: &Job, ask: &Ask) -> Option<u8>
+pub(crate) fn target(seen: &Seen<'_>, slot: Slot, job: &Job, ask: &Ask) -> Option<u8>
     ensures { result ≡ target (raw_with seen.now slot job.now) ask.now }
 {
     if ask.fail != 0 {

@@ -77,7 +77,7 @@ impl Caller<'_> {
         ensures { result ≡ is_other self.now.slot ((looks self.now).holders (view_console (looks self.now))) }
     {
         match self.holder() {
-            Some(h) => h != self.slot,
+            Some(h) => h != self.slot.number(),
             None => false,
         }
     }
@@ -150,7 +150,7 @@ impl Caller<'_> {
     {
         let party = self.input(0);
         if is_oneself(party) {
-            return self.lands(self.can_take(), error::NOT_INFERIOR, self.slot);
+            return self.lands(self.can_take(), error::NOT_INFERIOR, self.slot.number());
         }
         match self.channel(party) {
             Channel::Closed => self.fails(error::BAD_CHANNEL),
@@ -165,7 +165,7 @@ impl Caller<'_> {
         ensures { result ≡ can_take (looks self.now) ((looks self.now).holders (view_console (looks self.now))) }
     {
         match self.holder() {
-            Some(h) => h == self.slot || self.is_superior_of(h),
+            Some(h) => h == self.slot.number() || self.is_superior_of(h),
             None => true,
         }
     }
@@ -176,7 +176,7 @@ impl Caller<'_> {
         ensures { result ≡ is_superior self.now.slot ((looks self.now).outlines slot) }
     {
         match self.seen.jobs.job(slot) {
-            Some(_) => self.seen.jobs.superior(slot) == Some(self.slot),
+            Some(_) => self.seen.jobs.superior(slot) == Some(self.slot.number()),
             None => false,
         }
     }
@@ -187,7 +187,7 @@ impl Caller<'_> {
         ensures { result ≡ is_holder (looks self.now) ((looks self.now).holders (view_console (looks self.now))) }
     {
         match self.holder() {
-            Some(h) => h == self.slot,
+            Some(h) => h == self.slot.number(),
             None => false,
         }
     }
@@ -260,7 +260,7 @@ impl Caller<'_> {
     pub(crate) fn iot_out(&self) -> Decision
         ensures { result ≡ iot_out (looks self.now) (slice_index_or self.now.ask.now.outputs.items 0 0) (view_console (looks self.now)) }
     {
-        let Some(word) = self.seen.core.word(self.slot, self.address()) else {
+        let Some(word) = self.seen.core.word(self.slot.number(), self.address()) else {
             return self.faults(Fault::Mpv);
         };
         let console = self.console();
@@ -321,7 +321,7 @@ impl Caller<'_> {
         requires { has_size next ≡ true }
         ensures { outcome (looks self.now) self.now.ask.now result ≡ siot_out (looks self.now) self.now.ask.now next (input self.now.ask.now 2) (view_console (looks self.now)) }
     {
-        let Some(word) = self.seen.core.word(self.slot, next.right()) else {
+        let Some(word) = self.seen.core.word(self.slot.number(), next.right()) else {
             return Err(Halt::Bit(Fault::Mpv));
         };
         let console = self.console();

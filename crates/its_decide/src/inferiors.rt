@@ -115,7 +115,7 @@ impl Caller<'_> {
         ensures { result ≡ is_superior self.now.slot ((looks self.now).outlines slot) }
     {
         match self.seen.jobs.job(slot) {
-            Some(_) => self.seen.jobs.superior(slot) == Some(self.slot),
+            Some(_) => self.seen.jobs.superior(slot) == Some(self.slot.number()),
             None => false,
         }
     }
@@ -162,7 +162,7 @@ impl Caller<'_> {
         requires { Targets self.now (input self.now.ask.now 0) inferior }
         ensures { result ≡ iot_into (looks self.now) (slice_index_or self.now.ask.now.outputs.items 0 0) (input self.now.ask.now 0) inferior at }
     {
-        let Some(word) = self.seen.core.word(self.slot, self.address()) else {
+        let Some(word) = self.seen.core.word(self.slot.number(), self.address()) else {
             return self.faults(Fault::Mpv);
         };
         if at >= ADDRESSES || !self.seen.core.is_storable(inferior, at) {
@@ -253,7 +253,7 @@ impl Caller<'_> {
         requires size { has_size next ≡ true }
         ensures { result ≡ siot_pokes (looks self.now) self.now.ask.now next (input self.now.ask.now 2) (input self.now.ask.now 0) inferior at }
     {
-        let Some(word) = self.seen.core.word(self.slot, next.right()) else {
+        let Some(word) = self.seen.core.word(self.slot.number(), next.right()) else {
             return self.faults(Fault::Mpv);
         };
         if !self.seen.core.is_storable(inferior, at) {

@@ -1,6 +1,5 @@
 //! What SIOT moves next, as a small value: a decision is made of it only if one is wanted.
-ghost use Rattle.std.specs.Prelude.{◌≡◌, ◌<◌, ◌-◌, [], None, Some, IfSome};
-ghost use Rattle.its_word.specs.Limits.{slots};
+ghost use Rattle.std.specs.Prelude.{◌≡◌, ◌-◌, [], None, Some, IfSome};
 ghost use Rattle.its_frame.specs.declared.name.CallName.TheVariants.{Siot};
 ghost use Rattle.its_jobs.specs.Table.{job_at};
 ghost use Rattle.its_plain.specs.CallDevice.{siot_call};
@@ -17,7 +16,7 @@ use super::ends::goes_with;
 use arrayvec::ArrayVec;
 use its_frame::{CallName, Change, Decision, Held, Wait};
 use its_records::{Ask, Channel, Job};
-use its_word::{Fault, Word};
+use its_word::{Fault, Slot, Word};
 
 /// A byte or word that SIOT moves: what changes, what is held until it is stored, and pointer and count of the rest.
 #[derive(Clone, Copy, Debug, PartialEq, Eq)]
@@ -114,8 +113,7 @@ impl Caller<'_> {
 /// What the call of a slot's job, which has these registers, moves next, if it is SIOT and reaches no other job. Then its decision is
 /// this, and disturbs nobody. None says nothing.
 #[tactic(auto, unfolding(its_plain::specs::CallStep::decision, its_plain::specs::Decide::decided, its_plain::specs::Decide::reach))]
-pub fn next_move(seen: &Seen<'_>, slot: u8, job: &Job, ask: &Ask) -> Option<Moved>
-    requires slot { slot < slots }
+pub fn next_move(seen: &Seen<'_>, slot: Slot, job: &Job, ask: &Ask) -> Option<Moved>
     requires job { job_at seen.now.jobs.now slot ≡ Some job.now }
     requires fits { SeenFits seen.now }
     ensures moves { IfSome result (λ m. moving m ≡ decision (machine_seen seen.now) slot (raw_with seen.now slot job.now) ask.now) }

@@ -1,6 +1,5 @@
 //! CORBLK.
-ghost use Rattle.std.specs.Prelude.{◌≡◌, ◌<◌, Some};
-ghost use Rattle.its_word.specs.Limits.{slots};
+ghost use Rattle.std.specs.Prelude.{◌≡◌, Some};
 ghost use Rattle.its_core.specs.Cores.{core_at};
 ghost use Rattle.its_frame.specs.declared.name.CallName.TheVariants.{Corblk};
 ghost use Rattle.its_plain.specs.Arguments.{input};
@@ -15,7 +14,7 @@ use super::arguments::is_oneself;
 use super::caller::Caller;
 use its_frame::{Change, Decision, error};
 use its_records::Channel;
-use its_word::MAPPED_PAGES;
+use its_word::{MAPPED_PAGES, Slot};
 
 /// The operation that drops a page.
 const DROP: u64 = 0;
@@ -67,13 +66,12 @@ impl Caller<'_> {
         requires fits { SeenFits self.now.seen.now }
         ensures { result ≡ pages_of (looks self.now) self.now.ask.now (input self.now.ask.now 0) inferior (other_core (looks self.now)) (input self.now.ask.now 2) }
     {
-        self.pages_of(inferior)
+        self.pages_of(Slot::new(inferior))
     }
 
     /// The operation on a page of the job of a slot.
     #[tactic(auto, using(crate::proofs::PageLaws::seen_pages), unfolding(its_plain::specs::View::view))]
-    fn pages_of(&self, target: u8) -> Decision
-        requires target { target < slots }
+    fn pages_of(&self, target: Slot) -> Decision
         requires fits { SeenFits self.now.seen.now }
         ensures { result ≡ pages_of (looks self.now) self.now.ask.now (input self.now.ask.now 0) target (core_at self.now.seen.now.core.now target) (input self.now.ask.now 2) }
     {
@@ -82,14 +80,14 @@ impl Caller<'_> {
             return self.fails(error::OUT_OF_RANGE);
         }
         let page = page as u8;
-        let is_there = self.seen.core.page(target, page).is_some();
+        let is_there = self.seen.core.page(target.number(), page).is_some();
         if is_there == (operation == MAKE) {
             return self.fails(error::BAD_PAGE);
         }
         if operation == MAKE && self.seen.core.mapped() >= MAPPED_PAGES {
             return self.fails(error::NO_CORE);
         }
-        self.finishes_with(page_changed(operation, target, page))
+        self.finishes_with(page_changed(operation, target.number(), page))
     }
 }
 

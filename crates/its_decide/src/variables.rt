@@ -1,6 +1,5 @@
 //! USRVAR: the variables of jobs.
-ghost use Rattle.std.specs.Prelude.{if◌then◌else◌, ◌≡◌, ◌<◌, Some, None};
-ghost use Rattle.its_word.specs.Limits.{slots};
+ghost use Rattle.std.specs.Prelude.{if◌then◌else◌, ◌≡◌, Some, None};
 ghost use Rattle.its_plain.specs.Arguments.{input};
 ghost use Rattle.its_frame.specs.Variables.{variable_named};
 ghost use Rattle.its_plain.specs.CallBasic.{by_oneself, by_superior, other_variable, own_variable, usrvar, value_of_other};
@@ -13,7 +12,7 @@ use super::caller::{Caller, Seen};
 use super::ends::ends;
 use its_frame::{Change, Decision, Exit, Variable, error};
 use its_records::{Channel, Job};
-use its_word::Word;
+use its_word::{Slot, Word};
 
 impl Caller<'_> {
     /// USRVAR job, name, optional new value: the output gets the value before, and then the new value is set. Errors 4 if the channel
@@ -42,7 +41,13 @@ impl Caller<'_> {
         let Some(variable) = Variable::named(self.input(1)) else {
             return self.fails(error::OUT_OF_RANGE);
         };
-        let stores = self.output(variable_of(self.seen, self.slot, self.slot, self.job, variable));
+        let stores = self.output(variable_of(
+            self.seen,
+            self.slot.number(),
+            self.slot,
+            self.job,
+            variable,
+        ));
         if !self.has_input(2) {
             return self.finishes(stores);
         }
@@ -102,7 +107,7 @@ impl Caller<'_> {
             return Word::ZERO;
         };
         match self.seen.jobs.job(target) {
-            Some(job) => variable_of(self.seen, inferior, target, job, variable),
+            Some(job) => variable_of(self.seen, inferior, Slot::new(target), job, variable),
             None => Word::ZERO,
         }
     }
@@ -120,9 +125,8 @@ fn by_superior(variable: Variable) -> bool
 }
 
 /// The value of a variable of the job of a slot, which says that its slot is `index`.
-fn variable_of(seen: &Seen<'_>, index: u8, slot: u8, job: &Job, variable: Variable) -> Word
-    requires { slot < slots }
+fn variable_of(seen: &Seen<'_>, index: u8, slot: Slot, job: &Job, variable: Variable) -> Word
     ensures { result ≡ variable_of index (raw_with seen.now slot job.now) variable }
 {
-    its_machine::variable_of(seen.core, seen.jobs, index, slot, job, variable)
+    its_machine::variable_of(seen.core, seen.jobs, index, slot.number(), job, variable)
 }

@@ -2,7 +2,7 @@
 ghost use Rattle.std.specs.Prelude.{◌≡◌, ◌==◌, ◌<◌, ◌≤◌, ◌+◌, ◌-◌, ◌*◌, ◌%◌, ◌^◌, [], ◌∷◌, None, Ok, length, nat_lt, IfOk};
 ghost use Rattle.std.specs.List.{list_all, list_any};
 ghost use Rattle.its_core.specs.Cores.{core_at};
-ghost use Rattle.its_word.specs.Limits.{budget, slots};
+ghost use Rattle.its_word.specs.Limits.{budget};
 ghost use Rattle.its_plain.specs.Decode.{argument as argument_of, argument_at, argument_words, arguments, ask, block_at, error_by, exceeds, has_bit_0, iot_ask, is_legal, kind_of, parsed, row_named, type_of, words_of};
 ghost use Rattle.its_plain.specs.Footprint.{SiteFits};
 ghost use Rattle.its_plain.specs.Traced.{word as word_of};
@@ -14,7 +14,7 @@ use arrayvec::ArrayVec;
 use its_core::Core;
 use its_frame::{CallName, CallRow, error};
 use its_records::{Arg, Ask, Block, Operand, Placed, Site, Source};
-use its_word::{ADDRESSES, Fault, Location, Word};
+use its_word::{ADDRESSES, Fault, Location, Slot, Word};
 
 /// How many argument words of a block are read.
 const ARGUMENTS: u32 = 8;
@@ -26,8 +26,7 @@ impl Plain {
     /// What a call at a site of a slot's core asks for, or the fault of its decoding: its block, then its arguments one by one; each
     /// address and each value is taken when the definition takes it.
     #[tactic(auto, unfolding(its_plain::specs::Decode::ask))]
-    pub fn ask(&self, slot: u8, site: &Site) -> Result<Ask, Fault>
-        requires slot { slot < slots }
+    pub fn ask(&self, slot: Slot, site: &Site) -> Result<Ask, Fault>
         requires fits { SiteFits site.now }
         ensures { result ≡ ask (core_at self.now.core slot) site.now }
     {
@@ -74,8 +73,7 @@ fn site_places(site: &Site) -> Places
 }
 
 /// What a call by a block asks for.
-fn block_ask(core: &Core, slot: u8, site: &Site) -> Result<Ask, Fault>
-    requires slot { slot < slots }
+fn block_ask(core: &Core, slot: Slot, site: &Site) -> Result<Ask, Fault>
     requires fits { SiteFits site.now }
     requires channel { site.now.channel ≡ None }
     ensures { result ≡ ask (core_at core.now slot) site.now }
@@ -92,15 +90,14 @@ fn block_ask(core: &Core, slot: u8, site: &Site) -> Result<Ask, Fault>
 
 /// The word at an address modulo 2^18, whose place is noted; Mpv if it is absent.
 #[tactic(auto, unfolding(its_plain::specs::Traced::word, its_plain::specs::UnitPlan::read_of))]
-fn word(core: &Core, slot: u8, a: u32, decode: &mut Places) -> Result<Word, Fault>
-    requires slot { slot < slots }
+fn word(core: &Core, slot: Slot, a: u32, decode: &mut Places) -> Result<Word, Fault>
     requires room { length decode.old.items < 160 }
     ensures reads { Reads (word_of (core_at core.now slot) (a % 2 ^ 18)) result decode.old.items decode.new.items }
     ensures more { length decode.new.items ≡ length decode.old.items + 1 }
 {
     let place = a % ADDRESSES;
     decode.push(place);
-    match core.get(slot, place) {
+    match core.get(slot.number(), place) {
         Ok(w) => Ok(w),
         Err(_) => Err(Fault::Mpv),
     }
@@ -109,12 +106,11 @@ fn word(core: &Core, slot: u8, a: u32, decode: &mut Places) -> Result<Word, Faul
 /// A block with its argument words, from an address on, up to the first with bit 0 on, at most 8.
 fn argument_words(
     core: &Core,
-    slot: u8,
+    slot: Slot,
     a: u32,
     mut block: Block,
     decode: &mut Places,
 ) -> Result<Block, Fault>
-    requires slot { slot < slots }
     requires address { a < 2 ^ 19 }
     requires words { length block.items ≡ 2 }
     requires room { length decode.old.items ≤ 150 }
@@ -137,8 +133,7 @@ fn argument_words(
 }
 
 /// The block at an address, whole; then Ilo if bit 0 of its first word is off, or an argument has no type.
-fn legal_block(core: &Core, slot: u8, e: u32, decode: &mut Places) -> Result<Block, Fault>
-    requires slot { slot < slots }
+fn legal_block(core: &Core, slot: Slot, e: u32, decode: &mut Places) -> Result<Block, Fault>
     requires address { e < 2 ^ 18 }
     requires room { length decode.old.items ≤ 148 }
     ensures reads { Reads (parsed (core_at core.now slot) e) result decode.old.items decode.new.items }
@@ -158,8 +153,7 @@ fn legal_block(core: &Core, slot: u8, e: u32, decode: &mut Places) -> Result<Blo
 }
 
 /// The block at an address; Mpv if one of its words is absent.
-fn read_block(core: &Core, slot: u8, e: u32, decode: &mut Places) -> Result<Block, Fault>
-    requires slot { slot < slots }
+fn read_block(core: &Core, slot: Slot, e: u32, decode: &mut Places) -> Result<Block, Fault>
     requires address { e < 2 ^ 18 }
     requires room { length decode.old.items ≤ 148 }
     ensures reads { Reads (block_at (core_at core.now slot) e) result decode.old.items decode.new.items }
@@ -219,12 +213,11 @@ fn have_types(words: &[Word]) -> bool
 /// The arguments of a block, found one by one and sorted; the first fault ends it.
 fn sort_block(
     core: &Core,
-    slot: u8,
+    slot: Slot,
     block: &Block,
     used: u32,
     decode: &mut Places,
 ) -> Result<Parts, Fault>
-    requires slot { slot < slots }
     requires words { (2 ≤ length block.now.items) × (length block.now.items ≤ 10) }
     requires used { used ≤ budget }
     requires room { length decode.old.items ≤ 2 * used + 12 }
@@ -236,12 +229,11 @@ fn sort_block(
 /// The arguments of argument words.
 fn sort_arguments(
     core: &Core,
-    slot: u8,
+    slot: Slot,
     words: &[Word],
     used: u32,
     decode: &mut Places,
 ) -> Result<Parts, Fault>
-    requires slot { slot < slots }
     requires words { length words.now ≤ 8 }
     requires used { used ≤ budget }
     requires room { length decode.old.items ≤ 2 * used + 12 }
@@ -262,8 +254,13 @@ fn sort_arguments(
 }
 
 /// The argument of an argument word, when so much of the budget of 64 indirect words is used.
-fn argument(core: &Core, slot: u8, w: Word, used: u32, decode: &mut Places) -> Result<Placed, Fault>
-    requires slot { slot < slots }
+fn argument(
+    core: &Core,
+    slot: Slot,
+    w: Word,
+    used: u32,
+    decode: &mut Places,
+) -> Result<Placed, Fault>
     requires used { used ≤ budget }
     requires room { length decode.old.items + (129 - 2 * used) ≤ 160 }
     ensures reads { Reads (argument_of (core_at core.now slot) w used) result decode.old.items decode.new.items }
@@ -271,7 +268,7 @@ fn argument(core: &Core, slot: u8, w: Word, used: u32, decode: &mut Places) -> R
     ensures few { IfOk result (λ x. length decode.new.items + 2 * used ≤ length decode.old.items + 2 * x.used + 1) }
 {
     let mut after = used;
-    match core.address(slot, w, &mut after, decode) {
+    match core.address(slot.number(), w, &mut after, decode) {
         Ok(a) => match placed(core, slot, w, a.e) {
             Ok(argument) => Ok(Placed {
                 argument,
@@ -285,26 +282,25 @@ fn argument(core: &Core, slot: u8, w: Word, used: u32, decode: &mut Places) -> R
 
 /// What an argument word names whose address is found.
 #[tactic(auto, unfolding(its_plain::specs::Decode::kind_of, its_plain::specs::Decode::argument_at, its_plain::specs::Decode::held, its_plain::specs::Decode::storable, its_plain::specs::Traced::also))]
-fn placed(core: &Core, slot: u8, w: Word, e: u32) -> Result<Arg, Fault>
-    requires slot { slot < slots }
+fn placed(core: &Core, slot: Slot, w: Word, e: u32) -> Result<Arg, Fault>
     requires address { e < 2 ^ 18 }
     ensures { result ≡ (argument_at (kind_of w) (core_at core.now slot) e).answer }
 {
     match argument_type(w) {
-        0 => match core.get(slot, e) {
+        0 => match core.get(slot.number(), e) {
             Ok(_) => Ok(Arg::Input(Source::Held(Location::new(e)))),
             Err(_) => Err(Fault::Mpv),
         },
         1 => Ok(Arg::Input(Source::Immediate(Word::pair(0, e)))),
-        2 => match core.refusal(slot, e) {
+        2 => match core.refusal(slot.number(), e) {
             None => Ok(Arg::Output(Location::new(e))),
             Some(f) => Err(f),
         },
-        3 => match core.refusal(slot, e) {
+        3 => match core.refusal(slot.number(), e) {
             None => Ok(Arg::ErrorAt(Location::new(e))),
             Some(f) => Err(f),
         },
-        4 => match core.get(slot, e) {
+        4 => match core.get(slot.number(), e) {
             Ok(_) => Ok(Arg::Control(Source::Held(Location::new(e)))),
             Err(_) => Err(Fault::Mpv),
         },

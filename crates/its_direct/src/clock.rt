@@ -12,7 +12,7 @@ ghost use Rattle.its_direct.specs.Clock.{Clocks, Periods, RangAt, RangBelow};
 use super::plain::Plain;
 use its_machine::{time_after, with_alr};
 use its_records::Refusal;
-use its_word::SLOTS;
+use its_word::{SLOTS, Slot};
 
 /// The clock stays below this many thirtieths.
 const CLOCK_END: u64 = 0o200000000000;
@@ -57,14 +57,13 @@ impl Plain {
         ensures tidy { Tidy self.new }
     {
         for slot in 0..SLOTS as u8 {
-            self.ring(slot, clock);
+            self.ring(Slot::new(slot), clock);
         }
     }
 
     /// The alarm of a slot's job goes, if it is due at a clock.
     #[tactic(auto, using(crate::proofs::ClockLaws::still_none, crate::proofs::ClockLaws::still_some))]
-    fn ring(&mut self, slot: u8, clock: u64)
-        requires slot { slot < slots }
+    fn ring(&mut self, slot: Slot, clock: u64)
         requires below { clock < clock_end }
         requires periods { Periods self.old }
         requires tidy { Tidy self.old }
@@ -80,16 +79,14 @@ impl Plain {
     }
 
     /// The alarm of a slot's job.
-    fn alarm(&self, slot: u8) -> Option<(u64, u64)>
-        requires slot { slot < slots }
+    fn alarm(&self, slot: Slot) -> Option<(u64, u64)>
         ensures { result ≡ alarm_at self.now.alarms.items slot }
     {
-        self.alarms[usize::from(slot)]
+        self.alarms[slot.index()]
     }
 
     /// The alarm of a slot's job goes: ALR is set in the job, the alarm gets its next time, and the slot is touched.
-    fn go_off(&mut self, slot: u8, period: u64, next: u64, clock: u64)
-        requires slot { slot < slots }
+    fn go_off(&mut self, slot: Slot, period: u64, next: u64, clock: u64)
         requires alarm { Some (period, next) ≡ alarm_at self.old.alarms.items slot }
         requires below { clock < clock_end }
         requires due { next ≤ clock }

@@ -2,7 +2,7 @@
 ghost use Rattle.std.specs.Prelude.{◌≡◌, ◌<◌, ◌^◌, ◌∷◌, [], None, Some, length};
 ghost use Rattle.its_word.specs.Console.{most_waiting};
 ghost use Rattle.its_word.specs.Core.{page_of, pages_mapped, with_page, zero_page};
-ghost use Rattle.its_word.specs.Limits.{slots, most_pages};
+ghost use Rattle.its_word.specs.Limits.{most_pages};
 ghost use Rattle.its_word.specs.Only.{Only};
 ghost use Rattle.its_records.specs.Tree.{least_free};
 ghost use Rattle.its_word.specs.Stores.{first_fault, stored};
@@ -24,24 +24,22 @@ use its_core::{Core, Full};
 use its_frame::Variable;
 use its_jobs::NoSlot;
 use its_records::{Exit, Job};
-use its_word::{INF, Store, Word, flags_in};
+use its_word::{INF, Slot, Store, Word, flags_in};
 
 impl Plain {
     /// Makes stores into the core of a slot's job, in their order.
     #[tactic(auto, using(crate::proofs::EffectLaws::can_here))]
-    fn make_stores(&mut self, slot: u8, stores: &[Store])
-        requires slot { slot < slots }
+    fn make_stores(&mut self, slot: Slot, stores: &[Store])
         requires can { first_fault (core_of ((machine_of self.old).jobs slot)) stores.now ≡ None }
         requires tidy { Tidy self.old }
         ensures { CoreBecomes self.old self.new slot (stored (core_at self.old.core slot) stores.now) }
     {
-        self.core.make_all(slot, stores);
+        self.core.make_all(slot.number(), stores);
     }
 
     /// The same, of a slot that has a job.
     #[tactic(auto, using(crate::proofs::EffectLaws::stores_made))]
-    pub(crate) fn store(&mut self, slot: u8, stores: &[Store])
-        requires slot { slot < slots }
+    pub(crate) fn store(&mut self, slot: Slot, stores: &[Store])
         requires job { HasJob (machine_of self.old) slot }
         requires can { first_fault (core_of ((machine_of self.old).jobs slot)) stores.now ≡ None }
         requires tidy { Tidy self.old }
@@ -53,7 +51,7 @@ impl Plain {
 
     /// Stores a word of a slot's job.
     #[tactic(auto, using(crate::proofs::EffectLaws::poke_can))]
-    pub(crate) fn poke(&mut self, slot: u8, at: u32, word: Word)
+    pub(crate) fn poke(&mut self, slot: Slot, at: u32, word: Word)
         requires can { Pokes (machine_of self.old) slot at }
         requires tidy { Tidy self.old }
         ensures row { Becomes self.old self.new (in_job (machine_of self.old) slot (with_stores (poke at word ∷ []))) }
@@ -63,8 +61,7 @@ impl Plain {
     }
 
     /// Leaves a slot's job with these registers.
-    pub(crate) fn leave(&mut self, slot: u8, exit: Exit)
-        requires slot { slot < slots }
+    pub(crate) fn leave(&mut self, slot: Slot, exit: Exit)
         requires job { HasJob (machine_of self.old) slot }
         requires pc { exit.pc < 2 ^ 18 }
         requires tidy { Tidy self.old }
@@ -77,8 +74,7 @@ impl Plain {
     }
 
     /// Sets a variable of a slot's job, if it has one.
-    pub(crate) fn set(&mut self, slot: u8, variable: Variable, value: Word)
-        requires slot { slot < slots }
+    pub(crate) fn set(&mut self, slot: Slot, variable: Variable, value: Word)
         requires tidy { Tidy self.old }
         ensures row { Becomes self.old self.new (in_job (machine_of self.old) slot (with_registers (with_variable variable value))) }
         ensures tidy { Tidy self.new }
@@ -89,8 +85,7 @@ impl Plain {
     }
 
     /// Sets INF in a slot's job, if it has one.
-    pub(crate) fn tell(&mut self, slot: u8)
-        requires slot { slot < slots }
+    pub(crate) fn tell(&mut self, slot: Slot)
         requires tidy { Tidy self.old }
         ensures row { Becomes self.old self.new (in_job (machine_of self.old) slot with_inf) }
         ensures tidy { Tidy self.new }
@@ -154,8 +149,7 @@ impl Plain {
     }
 
     /// Gives a slot's job another alarm, or none.
-    pub(crate) fn arm(&mut self, slot: u8, alarm: Option<(u64, u64)>)
-        requires slot { slot < slots }
+    pub(crate) fn arm(&mut self, slot: Slot, alarm: Option<(u64, u64)>)
         requires tidy { Tidy self.old }
         ensures row { Becomes self.old self.new (in_job (machine_of self.old) slot (with_alarm alarm)) }
         ensures tidy { Tidy self.new }
@@ -167,16 +161,14 @@ impl Plain {
 
     /// Writes the alarm of a slot.
     #[tactic(auto, using(its_machine::proofs::OpenLaws::alarm_only))]
-    pub(crate) fn put_alarm(&mut self, slot: u8, alarm: Option<(u64, u64)>)
-        requires { slot < slots }
+    pub(crate) fn put_alarm(&mut self, slot: Slot, alarm: Option<(u64, u64)>)
         ensures { AlarmBecomes self.old self.new slot alarm }
     {
-        self.alarms[usize::from(slot)] = alarm;
+        self.alarms[slot.index()] = alarm;
     }
 
     /// Makes an inferior of a slot's job in the least free slot, with these names and the console of its superior.
-    pub(crate) fn make_inferior(&mut self, maker: u8, slot: u8, u: Word, j: Word)
-        requires maker { maker < slots }
+    pub(crate) fn make_inferior(&mut self, maker: Slot, slot: u8, u: Word, j: Word)
         requires job { HasJob (machine_of self.old) maker }
         requires free { least_free (limit (machine_of self.old)) (machine_of self.old).jobs ≡ Some slot }
         requires tidy { Tidy self.old }
@@ -184,15 +176,14 @@ impl Plain {
         ensures tidy { Tidy self.new }
     {
         let console = self.console_of(maker);
-        match self.jobs.create(u, j, Some(maker), console) {
+        match self.jobs.create(u, j, Some(maker.number()), console) {
             Ok(_) => {}
             Err(NoSlot) => unreachable!(),
         }
     }
 
     /// The console of a slot's job.
-    fn console_of(&self, slot: u8) -> Option<u8>
-        requires { slot < slots }
+    fn console_of(&self, slot: Slot) -> Option<u8>
         ensures { result ≡ console_of (job_at self.now.jobs slot) }
     {
         match self.job(slot) {
@@ -203,7 +194,7 @@ impl Plain {
 
     /// Makes a page of zeros of a slot's job, which can be stored to: it is reserved, cleared and mapped in one piece.
     #[tactic(auto, using(crate::proofs::EffectLaws::page_made, crate::proofs::EffectLaws::page_absent, crate::proofs::EffectLaws::page_room, crate::proofs::EffectLaws::made_tidied))]
-    pub(crate) fn map(&mut self, slot: u8, page: u8)
+    pub(crate) fn map(&mut self, slot: Slot, page: u8)
         requires can { Maps (machine_of self.old) slot page }
         requires tidy { Tidy self.old }
         ensures row { Becomes self.old self.new (in_job (machine_of self.old) slot (with_page_at page (Some zero_page))) }
@@ -214,15 +205,15 @@ impl Plain {
 
     /// Reserves a page, clears it and maps it; its place is empty, and there is room.
     #[tactic(auto, using(crate::proofs::EffectLaws::never_full))]
-    fn new_page(&mut self, slot: u8, page: u8)
-        requires slot { slot < slots }
+    fn new_page(&mut self, slot: Slot, page: u8)
         requires none { clear_at self.old.core slot ≡ None }
         requires absent { page_of (core_at self.old.core slot) page ≡ None }
         requires room { pages_mapped (core_at self.old.core) < most_pages }
         ensures { CoreBecomes self.old self.new slot (with_page (core_at self.old.core slot) page (Some zero_page)) }
     {
         reserve_clear(&mut self.core, slot);
-        match self.core.map(slot, slot, page) {
+        let number = slot.number();
+        match self.core.map(number, number, page) {
             Ok(()) => {}
             Err(Full) => unreachable!(),
         }
@@ -230,49 +221,47 @@ impl Plain {
 
     /// Drops a page of a slot's job.
     #[tactic(auto, using(crate::proofs::EffectLaws::page_there))]
-    pub(crate) fn unmap(&mut self, slot: u8, page: u8)
+    pub(crate) fn unmap(&mut self, slot: Slot, page: u8)
         requires can { HasPage (machine_of self.old) slot page }
         requires tidy { Tidy self.old }
         ensures row { Becomes self.old self.new (in_job (machine_of self.old) slot (with_page_at page None)) }
         ensures tidy { Tidy self.new }
     {
-        self.core.unmap(slot, page);
+        self.core.unmap(slot.number(), page);
     }
 
     /// Makes a page of a slot's job writable or read only.
     #[tactic(auto, using(crate::proofs::EffectLaws::page_there))]
-    pub(crate) fn protect(&mut self, slot: u8, page: u8, writable: bool)
+    pub(crate) fn protect(&mut self, slot: Slot, page: u8, writable: bool)
         requires can { HasPage (machine_of self.old) slot page }
         requires tidy { Tidy self.old }
         ensures row { Becomes self.old self.new (in_job (machine_of self.old) slot (with_protection page writable)) }
         ensures tidy { Tidy self.new }
     {
-        self.core.protect(slot, page, writable);
+        self.core.protect(slot.number(), page, writable);
     }
 }
 
 /// Reserves a page of zeros for a slot, which has reserved none.
 #[tactic(auto, using(crate::proofs::EffectLaws::none_reserved, crate::proofs::EffectLaws::reserved_clear))]
-fn reserve_clear(core: &mut Core, slot: u8)
-    requires slot { slot < slots }
+fn reserve_clear(core: &mut Core, slot: Slot)
     requires none { clear_at core.old slot ≡ None }
     ensures quarters { Only (clear_at core.old) (clear_at core.new) slot (Some 4) }
     ensures cores { core.new.cores ≡ core.old.cores }
 {
-    core.reserve(slot);
+    core.reserve(slot.number());
     clear_quarters(core, slot);
 }
 
 /// Clears the page that a slot has reserved, of which no quarter is clear.
 #[tactic(auto, using(crate::proofs::EffectLaws::clearing_begins, crate::proofs::EffectLaws::clearing_allows, crate::proofs::EffectLaws::clearing_next, crate::proofs::EffectLaws::clearing_ends))]
-fn clear_quarters(core: &mut Core, slot: u8)
-    requires slot { slot < slots }
+fn clear_quarters(core: &mut Core, slot: Slot)
     requires some { clear_at core.old slot ≡ Some 0 }
     ensures quarters { Only (clear_at core.old) (clear_at core.new) slot (Some 4) }
     ensures cores { core.new.cores ≡ core.old.cores }
 {
     for q in 0..4 {
-        core.clear_quarter(slot, q);
+        core.clear_quarter(slot.number(), q);
     }
 }
 

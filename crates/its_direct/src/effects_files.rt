@@ -1,6 +1,5 @@
 //! What calls change in channels and files: channels opened, set and closed, words of drafts, and files.
 ghost use Rattle.std.specs.Prelude.{◌≡◌, ◌<◌, true, false, slice_set};
-ghost use Rattle.its_word.specs.Limits.{slots};
 ghost use Rattle.its_plain.specs.CallFile.{has_file};
 ghost use Rattle.its_plain.specs.Change.{files_after_close, in_job, with_new_names, without_file};
 ghost use Rattle.its_plain.specs.Machine.{Shut};
@@ -12,19 +11,18 @@ ghost use Rattle.its_machine.specs.Parts.{chan_of};
 ghost use Rattle.its_direct.specs.Effects.{Becomes, ChannelBecomes};
 ghost use Rattle.its_direct.specs.Plain.{machine_of, Tidy};
 
-use super::plain::Plain;
+use super::plain::{Plain, within};
 use its_frame::Opened;
 use its_records::{Channel, Job};
-use its_word::Word;
+use its_word::{Slot, Word};
 
 impl Plain {
     /// What a channel of a slot's job is on; closed if the slot is empty.
-    fn channel(&self, slot: u8, n: u8) -> Channel
-        requires slot { slot < slots }
+    fn channel(&self, slot: Slot, n: u8) -> Channel
         requires channel { n < 16 }
         ensures { result ≡ channel_at self.now.jobs slot n }
     {
-        match self.jobs.job(slot) {
+        match self.jobs.job(slot.number()) {
             Some(job) => job.channels[usize::from(n)],
             None => Channel::Closed,
         }
@@ -32,8 +30,7 @@ impl Plain {
 
     /// Writes a channel of a slot's job, if it has one.
     #[tactic(auto, using(crate::proofs::ChannelLaws::channel_missing))]
-    fn set_channel(&mut self, slot: u8, n: u8, channel: Channel)
-        requires slot { slot < slots }
+    fn set_channel(&mut self, slot: Slot, n: u8, channel: Channel)
         requires channel { n < 16 }
         ensures { ChannelBecomes self.old self.new slot n channel self.old.files }
     {
@@ -43,8 +40,7 @@ impl Plain {
     }
 
     /// Sets a channel that is on no file and no draft to what is on none either.
-    pub(crate) fn put_channel(&mut self, slot: u8, n: u8, channel: Channel)
-        requires slot { slot < slots }
+    pub(crate) fn put_channel(&mut self, slot: Slot, n: u8, channel: Channel)
         requires channel { n < 16 }
         requires old { IsElsewhere (channel_at self.old.jobs slot n) }
         requires new { IsElsewhere channel }
@@ -52,13 +48,13 @@ impl Plain {
         ensures row { Becomes self.old self.new (in_job (machine_of self.old) slot (on_channel n (λ c. chan_of self.old.files channel))) }
         ensures tidy { Tidy self.new }
     {
+        within(slot);
         self.set_channel(slot, n, channel);
     }
 
     /// Opens a closed channel of a slot's job on a console, a file, a new draft or another job.
     #[tactic(auto, using(crate::proofs::ChannelLaws::closed_elsewhere))]
-    pub(crate) fn open_channel(&mut self, slot: u8, n: u8, on: Opened)
-        requires slot { slot < slots }
+    pub(crate) fn open_channel(&mut self, slot: Slot, n: u8, on: Opened)
         requires channel { n < 16 }
         requires job { HasJob (machine_of self.old) slot }
         requires closed { chan_in (machine_of self.old) slot n ≡ Shut }
@@ -84,8 +80,7 @@ impl Plain {
     }
 
     /// Opens a closed channel on a file, at its first word.
-    fn open_file(&mut self, slot: u8, n: u8, d: Word, x: Word, y: Word)
-        requires slot { slot < slots }
+    fn open_file(&mut self, slot: Slot, n: u8, d: Word, x: Word, y: Word)
         requires channel { n < 16 }
         requires job { HasJob (machine_of self.old) slot }
         requires closed { chan_in (machine_of self.old) slot n ≡ Shut }
@@ -94,6 +89,7 @@ impl Plain {
         ensures row { Becomes self.old self.new (in_job (machine_of self.old) slot (on_channel n (λ c. opened_on (Reads d x y)))) }
         ensures tidy { Tidy self.new }
     {
+        within(slot);
         if let Some(file) = self.files.find(d, x, y) {
             self.files.open_read(file);
             self.set_channel(slot, n, Channel::Reading { file, at: 0 });
@@ -101,8 +97,7 @@ impl Plain {
     }
 
     /// Opens a closed channel on a draft of no words.
-    fn open_draft(&mut self, slot: u8, n: u8, d: Word, x: Word, y: Word)
-        requires slot { slot < slots }
+    fn open_draft(&mut self, slot: Slot, n: u8, d: Word, x: Word, y: Word)
         requires channel { n < 16 }
         requires job { HasJob (machine_of self.old) slot }
         requires closed { chan_in (machine_of self.old) slot n ≡ Shut }
@@ -110,19 +105,20 @@ impl Plain {
         ensures row { Becomes self.old self.new (in_job (machine_of self.old) slot (on_channel n (λ c. opened_on (Writes d x y)))) }
         ensures tidy { Tidy self.new }
     {
+        within(slot);
         let draft = self.files.draft(d, x, y);
         self.set_channel(slot, n, Channel::Writing { draft });
     }
 
     /// Closes a channel. A draft on it is dropped.
-    pub(crate) fn shut(&mut self, slot: u8, n: u8)
-        requires slot { slot < slots }
+    pub(crate) fn shut(&mut self, slot: Slot, n: u8)
         requires channel { n < 16 }
         requires tidy { Tidy self.old }
         ensures row { Becomes self.old self.new (in_job (machine_of self.old) slot (on_channel n (λ c. Shut))) }
         ensures superiors { self.new.jobs.superiors ≡ self.old.jobs.superiors }
         ensures tidy { Tidy self.new }
     {
+        within(slot);
         match self.channel(slot, n) {
             Channel::Writing { draft } => {
                 self.files.discard(draft);
@@ -137,13 +133,13 @@ impl Plain {
     }
 
     /// Sets the position of a channel, in words.
-    pub(crate) fn move_to(&mut self, slot: u8, n: u8, at: u32)
-        requires slot { slot < slots }
+    pub(crate) fn move_to(&mut self, slot: Slot, n: u8, at: u32)
         requires channel { n < 16 }
         requires tidy { Tidy self.old }
         ensures row { Becomes self.old self.new (in_job (machine_of self.old) slot (on_channel n (at_position at))) }
         ensures tidy { Tidy self.new }
     {
+        within(slot);
         match self.channel(slot, n) {
             Channel::Reading { file, .. } => {
                 self.set_channel(slot, n, Channel::Reading { file, at });
@@ -156,14 +152,14 @@ impl Plain {
     }
 
     /// Appends a word to the draft of a channel, which has room for it.
-    pub(crate) fn append(&mut self, slot: u8, n: u8, word: Word)
-        requires slot { slot < slots }
+    pub(crate) fn append(&mut self, slot: Slot, n: u8, word: Word)
         requires channel { n < 16 }
         requires room { HasRoom (machine_of self.old) (chan_in (machine_of self.old) slot n) }
         requires tidy { Tidy self.old }
         ensures row { Becomes self.old self.new (in_job (machine_of self.old) slot (on_channel n (with_word word))) }
         ensures tidy { Tidy self.new }
     {
+        within(slot);
         self.files.seen();
         if let Channel::Writing { draft } = self.channel(slot, n) {
             match self.files.append(draft, word) {
@@ -174,8 +170,7 @@ impl Plain {
     }
 
     /// Closes a channel on a draft, which becomes a file: all parts of the close are made at once.
-    pub(crate) fn close(&mut self, slot: u8, n: u8)
-        requires slot { slot < slots }
+    pub(crate) fn close(&mut self, slot: Slot, n: u8)
         requires channel { n < 16 }
         requires closes { CanClose (machine_of self.old) (chan_in (machine_of self.old) slot n) }
         requires tidy { Tidy self.old }
@@ -184,7 +179,7 @@ impl Plain {
     {
         self.files.seen();
         if let Channel::Writing { draft } = self.channel(slot, n) {
-            match self.files.begin_close(draft, slot) {
+            match self.files.begin_close(draft, slot.number()) {
                 Ok(()) => {}
                 Err(_) => unreachable!(),
             }

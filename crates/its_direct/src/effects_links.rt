@@ -1,6 +1,5 @@
 //! What calls change in links between jobs: ends opened and closed, and words sent and received.
 ghost use Rattle.std.specs.Prelude.{◌≡◌, ◌<◌, true, Some, is_some, length, option_map};
-ghost use Rattle.its_word.specs.Limits.{slots};
 ghost use Rattle.its_records.specs.Links.{most_links, most_linked};
 ghost use Rattle.its_frame.specs.declared.change.Change.TheVariants.{Join, Part};
 ghost use Rattle.its_plain.specs.CallLink.{words_in};
@@ -13,13 +12,12 @@ ghost use Rattle.its_direct.specs.Plain.{machine_of, Tidy};
 
 use super::plain::Plain;
 use its_records::Channel;
-use its_word::Word;
+use its_word::{Slot, Word};
 
 impl Plain {
     /// Opens an end of a link on a closed channel of a slot's job, which is made with these names if the number has none.
     #[tactic(auto, using(crate::proofs::LinkLaws::still_closed, crate::proofs::LinkLaws::joined_row))]
-    pub(crate) fn join(&mut self, slot: u8, n: u8, link: u8, write: bool, x: Word, y: Word)
-        requires slot { slot < slots }
+    pub(crate) fn join(&mut self, slot: Slot, n: u8, link: u8, write: bool, x: Word, y: Word)
         requires channel { n < 16 }
         requires link { link < most_links }
         requires job { HasJob (machine_of self.old) slot }
@@ -33,17 +31,16 @@ impl Plain {
     }
 
     /// Opens the end alone.
-    fn open_end(&mut self, slot: u8, n: u8, link: u8, write: bool, x: Word, y: Word)
+    fn open_end(&mut self, slot: Slot, n: u8, link: u8, write: bool, x: Word, y: Word)
         requires { link < most_links }
         ensures { LinkBecomes self.old self.new link (Some (with_end_opened write slot n (link_or_new x y (piped self.old.pipes link)))) }
     {
-        self.pipes.join(link, write, slot, n, x, y);
+        self.pipes.join(link, write, slot.number(), n, x, y);
     }
 
     /// Closes a channel of a slot's job that is on an end of a link, and the end with it.
     #[tactic(auto, using(crate::proofs::LinkLaws::still_linked, crate::proofs::LinkLaws::parted_row))]
-    pub(crate) fn part(&mut self, slot: u8, n: u8, link: u8, write: bool)
-        requires slot { slot < slots }
+    pub(crate) fn part(&mut self, slot: Slot, n: u8, link: u8, write: bool)
         requires channel { n < 16 }
         requires link { link < most_links }
         requires on { chan_in (machine_of self.old) slot n ≡ Linked link write }

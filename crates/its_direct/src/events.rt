@@ -69,14 +69,14 @@ impl Plain {
             Event::TypeIn { c, bytes } => self.tell_type(*c, bytes),
             Event::Drain { c, n } => self.tell_drain(*c, *n),
             Event::Clock { n } => answered(self.advance(*n)),
-            Event::Int { s, v, w } => answered(self.interrupt(s.number(), *v, *w)),
-            Event::Exam { s, a, n } => answered(self.exam(s.number(), *a, *n)),
-            Event::List { s, a, n } => answered(self.exam(s.number(), *a, *n)),
-            Event::State { s } => answered(self.state(s.number())),
-            Event::Deposit { s, a, w } => answered(self.deposit(s.number(), *a, *w)),
-            Event::Stop { s } => answered(self.stop(s.number())),
-            Event::Cont { s } => answered(self.cont(s.number())),
-            Event::Peek { s } => answered(self.peek(s.number())),
+            Event::Int { s, v, w } => answered(self.interrupt(*s, *v, *w)),
+            Event::Exam { s, a, n } => answered(self.exam(*s, *a, *n)),
+            Event::List { s, a, n } => answered(self.exam(*s, *a, *n)),
+            Event::State { s } => answered(self.state(*s)),
+            Event::Deposit { s, a, w } => answered(self.deposit(*s, *a, *w)),
+            Event::Stop { s } => answered(self.stop(*s)),
+            Event::Cont { s } => answered(self.cont(*s)),
+            Event::Peek { s } => answered(self.peek(*s)),
             Event::Dir { d } => self.tell_dir(*d),
             Event::Show { d, x, y } => self.tell_show(*d, *x, *y),
             Event::Tick { .. } => unreachable!(),
@@ -109,7 +109,7 @@ impl Plain {
         ensures tidy { Tidy self.new }
     {
         let slot = self.block_slot();
-        answered(self.load_words(slot.number(), a, words.as_slice()))
+        answered(self.load_words(slot, a, words.as_slice()))
     }
 
     /// RO.
@@ -122,7 +122,7 @@ impl Plain {
         ensures tidy { Tidy self.new }
     {
         let slot = self.block_slot();
-        answered(self.read_only(slot.number(), page))
+        answered(self.read_only(slot, page))
     }
 
     /// SYM.
@@ -135,7 +135,7 @@ impl Plain {
         ensures tidy { Tidy self.new }
     {
         let slot = self.block_slot();
-        answered(self.symbol(slot.number(), name, a))
+        answered(self.symbol(slot, name, a))
     }
 
     /// Words of a FILE block.
@@ -159,7 +159,7 @@ impl Plain {
         ensures tidy { Tidy self.new }
     {
         match self.load(u, j, console) {
-            Ok(slot) => Ok(Answer::Slot(Slot::new(slot))),
+            Ok(slot) => Ok(Answer::Slot(slot)),
             Err(e) => Err(e),
         }
     }
@@ -199,7 +199,7 @@ impl Plain {
         ensures tidy { Tidy self.new }
     {
         let slot = self.block_slot();
-        match self.go(slot.number(), a) {
+        match self.go(slot, a) {
             Ok(()) => {
                 self.set_place(Spot::Plain);
                 Ok(Answer::Nothing)
@@ -267,7 +267,7 @@ impl Plain {
         ensures place { self.now.place ≡ spots.Load result }
     {
         match self.place {
-            Spot::Load { slot } => Slot::new(slot),
+            Spot::Load { slot } => slot,
             Spot::Plain => unreachable!(),
             Spot::File { .. } => unreachable!(),
         }

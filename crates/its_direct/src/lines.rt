@@ -1,6 +1,5 @@
 //! The operator's lines on one job: GO, STOP, CONT, INT, EXAM, STATE and DEPOSIT.
 ghost use Rattle.std.specs.Prelude.{◌≡◌, ◌<◌, ◌≤◌, ◌^◌, Some, Err, OnOk, OnErr, IfErr, is_some};
-ghost use Rattle.its_word.specs.Limits.{slots};
 ghost use Rattle.its_core.specs.Cores.{core_at};
 ghost use Rattle.its_jobs.specs.Table.{job_at};
 ghost use Rattle.its_plain.specs.Machine.{words_at};
@@ -10,15 +9,14 @@ ghost use Rattle.its_direct.specs.Plain.{machine_of, Tidy};
 ghost use Rattle.its_records.specs.Refusals.{reason_of};
 ghost use Rattle.its_direct.specs.Lines.{one_slot, Operates, Looks, Rewritten};
 
-use super::plain::Plain;
+use super::plain::{Plain, within};
 use its_records::{Job, Refusal};
-use its_word::{ADDRESSES, FATAL, NoAccess, Word};
+use its_word::{ADDRESSES, FATAL, NoAccess, Slot, Word};
 
 impl Plain {
     /// GO: the job of a slot runs from an address, with no flags. NoJob if the slot is empty.
     #[tactic(auto, using(crate::proofs::LineLaws::go_done, crate::proofs::LineLaws::registers_refused, crate::proofs::LineLaws::kept_placed))]
-    pub fn go(&mut self, slot: u8, a: u32) -> Result<(), Refusal>
-        requires slot { slot < slots }
+    pub fn go(&mut self, slot: Slot, a: u32) -> Result<(), Refusal>
         requires address { a < 2 ^ 18 }
         requires tidy { Tidy self.old }
         ensures done { OnOk result (Operates self.old self.new slot (on_registers (machine_of self.old) slot (after_go a))) }
@@ -36,8 +34,7 @@ impl Plain {
 
     /// STOP: the job of a slot is stopped. NoJob if the slot is empty.
     #[tactic(auto, using(crate::proofs::LineLaws::stop_done, crate::proofs::LineLaws::registers_refused, crate::proofs::LineLaws::kept_placed))]
-    pub fn stop(&mut self, slot: u8) -> Result<(), Refusal>
-        requires slot { slot < slots }
+    pub fn stop(&mut self, slot: Slot) -> Result<(), Refusal>
         requires tidy { Tidy self.old }
         ensures done { OnOk result (Operates self.old self.new slot (on_registers (machine_of self.old) slot after_stop)) }
         ensures refused { IfErr result (λ e. on_registers (machine_of self.old) slot after_stop ≡ Err (reason_of e)) }
@@ -54,8 +51,7 @@ impl Plain {
 
     /// CONT: the job of a slot runs, with no fatal bit pending. NoJob if the slot is empty.
     #[tactic(auto, using(crate::proofs::LineLaws::cont_done, crate::proofs::LineLaws::registers_refused, crate::proofs::LineLaws::kept_placed))]
-    pub fn cont(&mut self, slot: u8) -> Result<(), Refusal>
-        requires slot { slot < slots }
+    pub fn cont(&mut self, slot: Slot) -> Result<(), Refusal>
         requires tidy { Tidy self.old }
         ensures done { OnOk result (Operates self.old self.new slot (on_registers (machine_of self.old) slot after_cont)) }
         ensures refused { IfErr result (λ e. on_registers (machine_of self.old) slot after_cont ≡ Err (reason_of e)) }
@@ -72,8 +68,7 @@ impl Plain {
 
     /// INT: bits are pending in the job of a slot, in addition to those that were. NoJob if the slot is empty.
     #[tactic(auto, using(crate::proofs::LineLaws::interrupt_done, crate::proofs::LineLaws::registers_refused, crate::proofs::LineLaws::kept_placed))]
-    pub fn interrupt(&mut self, slot: u8, v: Word, w: Word) -> Result<(), Refusal>
-        requires slot { slot < slots }
+    pub fn interrupt(&mut self, slot: Slot, v: Word, w: Word) -> Result<(), Refusal>
         requires tidy { Tidy self.old }
         ensures done { OnOk result (Operates self.old self.new slot (on_registers (machine_of self.old) slot (after_int v w))) }
         ensures refused { IfErr result (λ e. on_registers (machine_of self.old) slot (after_int v w) ≡ Err (reason_of e)) }
@@ -90,14 +85,14 @@ impl Plain {
 
     /// STATE: whether the job of a slot can be shown. NoJob if the slot is empty.
     #[tactic(auto, using(crate::proofs::LineLaws::state_done, crate::proofs::LineLaws::state_refused, crate::proofs::SlotLaws::touched_tidy))]
-    pub fn state(&mut self, slot: u8) -> Result<(), Refusal>
-        requires slot { slot < slots }
+    pub fn state(&mut self, slot: Slot) -> Result<(), Refusal>
         requires tidy { Tidy self.old }
         ensures done { OnOk result (Looks self.old self.new slot (state_shown (machine_of self.old) slot)) }
         ensures refused { IfErr result (λ e. state_shown (machine_of self.old) slot ≡ Err (reason_of e)) }
         ensures same { OnErr result (self.new ≡ self.old) }
         ensures tidy { Tidy self.new }
     {
+        within(slot);
         let Some(_job) = self.job(slot) else {
             return Err(Refusal::NoJob);
         };
@@ -108,8 +103,7 @@ impl Plain {
     /// EXAM and LIST: whether n words of a slot, from an address on, can be shown. NoJob if the slot is empty, NoPage if one of their
     /// pages is absent.
     #[tactic(auto, using(crate::proofs::LineLaws::exam_done, crate::proofs::LineLaws::exam_absent, crate::proofs::LineLaws::exam_refused, crate::proofs::SlotLaws::touched_tidy))]
-    pub fn exam(&mut self, slot: u8, a: u32, n: u32) -> Result<(), Refusal>
-        requires slot { slot < slots }
+    pub fn exam(&mut self, slot: Slot, a: u32, n: u32) -> Result<(), Refusal>
         requires address { a < 2 ^ 18 }
         requires number { n ≤ 2 ^ 18 }
         requires tidy { Tidy self.old }
@@ -118,6 +112,7 @@ impl Plain {
         ensures same { OnErr result (self.new ≡ self.old) }
         ensures tidy { Tidy self.new }
     {
+        within(slot);
         let Some(_job) = self.job(slot) else {
             return Err(Refusal::NoJob);
         };
@@ -132,8 +127,7 @@ impl Plain {
     /// DEPOSIT: stores a word of a slot. NoJob if the slot is empty; NoPage if the page is absent, ReadOnly if it is
     /// read only.
     #[tactic(auto, using(crate::proofs::LineLaws::deposit_done, crate::proofs::LineLaws::deposit_barred, crate::proofs::LineLaws::deposit_refused, crate::proofs::LineLaws::deposit_tidy, crate::proofs::SlotLaws::core_becomes))]
-    pub fn deposit(&mut self, slot: u8, a: u32, w: Word) -> Result<(), Refusal>
-        requires slot { slot < slots }
+    pub fn deposit(&mut self, slot: Slot, a: u32, w: Word) -> Result<(), Refusal>
         requires address { a < 2 ^ 18 }
         requires tidy { Tidy self.old }
         ensures done { OnOk result (Operates self.old self.new slot (after_deposit (machine_of self.old) slot a w)) }
@@ -144,7 +138,7 @@ impl Plain {
         let Some(_job) = self.job(slot) else {
             return Err(Refusal::NoJob);
         };
-        match self.core.put(slot, a, w) {
+        match self.core.put(slot.number(), a, w) {
             Ok(()) => {
                 self.touch_only(slot);
                 Ok(())
@@ -155,8 +149,7 @@ impl Plain {
 
     /// Writes the registers of a slot's job, with the channels that it has. The slot is touched.
     #[tactic(auto, using(crate::proofs::LineLaws::rewritten, crate::proofs::LineLaws::rewritten_tidy))]
-    fn rewrite(&mut self, slot: u8, was: &Job, now: Job)
-        requires slot { slot < slots }
+    fn rewrite(&mut self, slot: Slot, was: &Job, now: Job)
         requires job { job_at self.old.jobs slot ≡ Some was.now }
         requires channels { now.channels ≡ was.now.channels }
         requires pc { now.pc < 2 ^ 18 }
@@ -164,13 +157,13 @@ impl Plain {
         ensures done { Rewritten self.old self.new slot now }
         ensures tidy { Tidy self.new }
     {
+        within(slot);
         self.put_job(slot, now);
         self.touch_only(slot);
     }
 
     /// A slot is touched, and no other.
-    pub(crate) fn touch_only(&mut self, slot: u8)
-        requires { slot < slots }
+    pub(crate) fn touch_only(&mut self, slot: Slot)
         ensures { self.new ≡ record self.old { touched = one_slot slot } }
     {
         self.touch_none();
@@ -179,14 +172,13 @@ impl Plain {
 
     /// Whether the pages of n words of a slot, from an address on, are present.
     #[tactic(auto, using(crate::proofs::WordLaws::seen_start, crate::proofs::WordLaws::seen_none, crate::proofs::WordLaws::seen_more, crate::proofs::WordLaws::seen_end))]
-    fn has_words(&self, slot: u8, a: u32, n: u32) -> bool
-        requires slot { slot < slots }
+    fn has_words(&self, slot: Slot, a: u32, n: u32) -> bool
         requires address { a < 2 ^ 18 }
         requires number { n ≤ 2 ^ 18 }
         ensures { result ≡ is_some (words_at (core_at self.now.core slot) a n) }
     {
         for k in 0..n {
-            if self.core.word(slot, (a + k) % ADDRESSES).is_none() {
+            if self.core.word(slot.number(), (a + k) % ADDRESSES).is_none() {
                 return false;
             }
         }

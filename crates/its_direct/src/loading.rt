@@ -1,6 +1,5 @@
 //! LOAD: a new job, and its console.
 ghost use Rattle.std.specs.Prelude.{◌≡◌, ◌<◌, Some, None, Ok, Err, IfOk, IfSome, IfErr, OnErr, length, slice_set};
-ghost use Rattle.its_word.specs.Limits.{slots};
 ghost use Rattle.its_records.specs.Tree.{least_free};
 ghost use Rattle.its_plain.specs.Machine.{limit, with_new};
 ghost use Rattle.its_plain.specs.OperatorJobs.{after_load, new_job, with_holder};
@@ -9,19 +8,18 @@ ghost use Rattle.its_direct.specs.Plain.{machine_of, Tidy};
 ghost use Rattle.its_records.specs.Refusals.{reason_of};
 ghost use Rattle.its_direct.specs.Lines.{Loads};
 
-use super::plain::{Plain, Spot};
+use super::plain::{Plain, Spot, within};
 use its_jobs::NoSlot;
 use its_records::Refusal;
-use its_word::Word;
+use its_word::{Slot, Word};
 
 impl Plain {
     /// LOAD: makes a stopped job with these names and this console in the least empty slot, which it answers and whose LOAD block
     /// begins. It becomes the holder of its console, if that has none. Full if all slots below the limit have a job.
     #[tactic(auto, using(crate::proofs::LoadLaws::load_full))]
-    pub fn load(&mut self, u: Word, j: Word, console: Option<u8>) -> Result<u8, Refusal>
+    pub fn load(&mut self, u: Word, j: Word, console: Option<u8>) -> Result<Slot, Refusal>
         requires console { IfSome console (λ c. c < 8) }
         requires tidy { Tidy self.old }
-        ensures slot { IfOk result (λ s. s < slots) }
         ensures done { IfOk result (λ s. Loads self.old self.new s (after_load (machine_of self.old) u j console)) }
         ensures refused { IfErr result (λ e. after_load (machine_of self.old) u j console ≡ Err (reason_of e)) }
         ensures same { OnErr result (self.new ≡ self.old) }
@@ -29,6 +27,7 @@ impl Plain {
     {
         match self.make(u, j, console) {
             Ok(slot) => {
+                within(slot);
                 self.hold_console(slot, console);
                 self.set_place(Spot::Load { slot });
                 self.touch_only(slot);
@@ -39,23 +38,23 @@ impl Plain {
     }
 
     /// Makes a job without superior in the least free slot.
-    fn make(&mut self, u: Word, j: Word, console: Option<u8>) -> Result<u8, NoSlot>
+    fn make(&mut self, u: Word, j: Word, console: Option<u8>) -> Result<Slot, NoSlot>
         requires tidy { Tidy self.old }
-        ensures slot { IfOk result (λ s. (least_free (limit (machine_of self.old)) (machine_of self.old).jobs ≡ Some s) × (s < slots)) }
+        ensures slot { IfOk result (λ s. least_free (limit (machine_of self.old)) (machine_of self.old).jobs ≡ Some s) }
         ensures made { IfOk result (λ s. machine_of self.new ≡ with_new (machine_of self.old) s (new_job u j console)) }
         ensures full { OnErr result (least_free (limit (machine_of self.old)) (machine_of self.old).jobs ≡ None) }
         ensures same { OnErr result (self.new ≡ self.old) }
         ensures tidy { Tidy self.new }
     {
         match self.jobs.create(u, j, None, console) {
-            Ok(slot) => Ok(slot),
+            Ok(slot) => Ok(Slot::new(slot)),
             Err(NoSlot) => Err(NoSlot),
         }
     }
 
     /// Makes the job of a slot the holder of its console, if that has none.
     #[tactic(auto, using(crate::proofs::LoadLaws::console_some, crate::proofs::LoadLaws::console_none))]
-    fn hold_console(&mut self, slot: u8, console: Option<u8>)
+    fn hold_console(&mut self, slot: Slot, console: Option<u8>)
         requires console { IfSome console (λ c. c < 8) }
         requires tidy { Tidy self.old }
         ensures row { machine_of self.new ≡ with_holder (machine_of self.old) slot console }
@@ -69,7 +68,7 @@ impl Plain {
 
     /// The same of this console.
     #[tactic(auto, using(crate::proofs::LoadLaws::held_keeps, crate::proofs::LoadLaws::held_given, crate::proofs::LoadLaws::holder_tidy))]
-    fn hold(&mut self, slot: u8, c: u8)
+    fn hold(&mut self, slot: Slot, c: u8)
         requires console { c < 8 }
         requires tidy { Tidy self.old }
         ensures row { machine_of self.new ≡ with_holder (machine_of self.old) slot (Some c) }
@@ -77,7 +76,7 @@ impl Plain {
     {
         match self.holder(c) {
             Some(_) => {}
-            None => self.put_holder(slot, c),
+            None => self.put_holder(slot.number(), c),
         }
     }
 

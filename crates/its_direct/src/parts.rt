@@ -1,6 +1,5 @@
 //! Parts of one call of a job, one after another: the call is decoded once for all of them.
 ghost use Rattle.std.specs.Prelude.{◌≡◌, ◌<◌, ◌≤◌, ◌∷◌, [], IfSome, length};
-ghost use Rattle.its_word.specs.Limits.{slots};
 ghost use Rattle.its_plain.specs.Arguments.{with_new_values};
 ghost use Rattle.its_decide.specs.Moving.{moving};
 ghost use Rattle.pdp_exec.specs.Near.{near_site};
@@ -22,8 +21,7 @@ impl Plain {
     /// many. If the call has no such part, or its word is not all that is read on the way to it, none is taken, and nothing changes. No
     /// block of lines may be open.
     #[tactic(auto, using(crate::proofs::PartLaws::no_parts))]
-    pub fn parts(&mut self, slot: u8, n: u32) -> u32
-        requires slot { slot < slots }
+    pub fn parts(&mut self, slot: Slot, n: u32) -> u32
         requires outside { self.old.place ≡ Spot.Plain }
         requires kept { Kept self.old }
         ensures few { result ≤ n }
@@ -42,12 +40,11 @@ impl Plain {
 
     /// What the call at the PC of a slot's job asks for, if the job is at one.
     #[tactic(auto, using(crate::proofs::PartLaws::at_call, crate::proofs::PartLaws::site_here, crate::proofs::SlotLaws::placed_at))]
-    fn call_here(&self, slot: u8) -> Option<Ask>
-        requires slot { slot < slots }
+    fn call_here(&self, slot: Slot) -> Option<Ask>
         requires kept { Kept self.now }
         ensures { IfSome result (λ a. AtCall (machine_of self.now) slot a) }
     {
-        let Some(job) = self.jobs.job(slot) else {
+        let Some(job) = self.jobs.job(slot.number()) else {
             return None;
         };
         if job.stopped {
@@ -56,7 +53,7 @@ impl Plain {
         if deliverable(job) {
             return None;
         }
-        match call_at_hand(&self.core, Slot::new(slot), job) {
+        match call_at_hand(&self.core, slot, job) {
             Some(near) => match self.ask(slot, &near_site(job.pc, near)) {
                 Ok(ask) => Some(ask),
                 Err(_) => None,
@@ -68,8 +65,7 @@ impl Plain {
     /// The same, for a call that asks for this.
     #[inline(never)]
     #[tactic(auto, using(crate::proofs::PartLaws::no_parts, crate::proofs::PartLaws::parts_more, crate::proofs::PartLaws::parts_at, crate::proofs::PartLaws::parts_end, crate::proofs::PartLaws::parts_all))]
-    fn take_parts(&mut self, slot: u8, ask: Ask, n: u32) -> u32
-        requires slot { slot < slots }
+    fn take_parts(&mut self, slot: Slot, ask: Ask, n: u32) -> u32
         requires outside { self.old.place ≡ Spot.Plain }
         requires kept { Kept self.old }
         requires at { AtCall (machine_of self.old) slot ask }
@@ -89,8 +85,7 @@ impl Plain {
 
     /// Takes the next part of a call of a slot's job that asks for this, if it moves a byte or word, disturbs nobody and makes no job. Then
     /// the call goes on, and asks for what it asks with its new values. Else nothing changes.
-    fn next_part(&mut self, slot: u8, ask: &mut Ask) -> bool
-        requires slot { slot < slots }
+    fn next_part(&mut self, slot: Slot, ask: &mut Ask) -> bool
         requires outside { self.old.place ≡ Spot.Plain }
         requires kept { Kept self.old }
         requires at { AtCall (machine_of self.old) slot ask.old }
@@ -106,21 +101,19 @@ impl Plain {
 
     /// What a call of a slot's job moves next that asks for this, if it reaches no other job.
     #[tactic(auto, using(crate::proofs::PartLaws::decides))]
-    fn next_move(&self, slot: u8, ask: &Ask) -> Option<Moved>
-        requires slot { slot < slots }
+    fn next_move(&self, slot: Slot, ask: &Ask) -> Option<Moved>
         requires kept { Kept self.now }
         requires at { AtCall (machine_of self.now) slot ask.now }
         ensures { IfSome result (λ m. Decides (machine_of self.now) slot ask.now (moving m)) }
     {
-        match self.jobs.job(slot) {
+        match self.jobs.job(slot.number()) {
             Some(job) => next_move(&self.seen(), slot, job, ask),
             None => None,
         }
     }
 
     /// Moves a byte or word as a call has decided, if that makes no job and the call has three inputs.
-    fn move_alone(&mut self, slot: u8, ask: &mut Ask, moved: &Moved) -> bool
-        requires slot { slot < slots }
+    fn move_alone(&mut self, slot: Slot, ask: &mut Ask, moved: &Moved) -> bool
         requires outside { self.old.place ≡ Spot.Plain }
         requires kept { Kept self.old }
         requires at { AtCall (machine_of self.old) slot ask.old }

@@ -8,7 +8,7 @@ use its_jobs::Jobs;
 use its_machine::{SymbolTable, no_alarms, no_symbols, quiet_consoles};
 use its_pipes::Pipes;
 use its_records::Job;
-use its_word::{NoMemory, SLOTS, Word};
+use its_word::{NoMemory, SLOTS, Slot, Word};
 use std::alloc::Global;
 
 /// How many consoles there are.
@@ -19,8 +19,15 @@ const CONSOLES: usize = 8;
 #[derive(Clone, Copy, Debug, PartialEq, Eq)]
 pub enum Spot {
     Plain,
-    Load { slot: u8 },
+    Load { slot: Slot },
     File { names: [Word; 3] },
+}
+
+/// Does nothing: what is true of a slot at any time.
+pub(crate) fn within(slot: Slot)
+    ensures { slot < slots }
+{
+    let _ = slot.number();
 }
 
 /// The plain machine: cores, jobs, the consoles and for each of them the slot of the job that holds it, files and drafts, the clock in
@@ -87,21 +94,19 @@ impl Plain {
     }
 
     /// The registers of a slot's job.
-    pub fn job(&self, slot: u8) -> Option<Job>
-        requires { slot < slots }
+    pub fn job(&self, slot: Slot) -> Option<Job>
         ensures { result ≡ job_at self.now.jobs slot }
     {
-        self.jobs.job(slot).copied()
+        self.jobs.job(slot.number()).copied()
     }
 
     /// Writes the registers of a slot's job.
     #[tactic(auto, using(crate::proofs::SlotLaws::job_becomes))]
-    pub(crate) fn put_job(&mut self, slot: u8, job: Job)
-        requires slot { slot < slots }
+    pub(crate) fn put_job(&mut self, slot: Slot, job: Job)
         requires some { is_some (job_at self.old.jobs slot) ≡ true }
         ensures { JobBecomes self.old self.new slot job }
     {
-        if let Some(j) = self.jobs.job_mut(slot) {
+        if let Some(j) = self.jobs.job_mut(slot.number()) {
             *j = job;
         }
     }
@@ -115,10 +120,9 @@ impl Plain {
     }
 
     /// A slot is touched too.
-    pub(crate) fn touch(&mut self, slot: u8)
-        requires { slot < slots }
+    pub(crate) fn touch(&mut self, slot: Slot)
         ensures { self.new ≡ record self.old { touched = slice_set self.old.touched slot true } }
     {
-        self.touched[usize::from(slot)] = true;
+        self.touched[slot.index()] = true;
     }
 }

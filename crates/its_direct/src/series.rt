@@ -1,6 +1,5 @@
 //! Units of one job, one after another.
 ghost use Rattle.std.specs.Prelude.{◌≡◌, ◌≢◌, ◌<◌, ◌≤◌, ◌^◌, ℕ, false, Some, None, is_some};
-ghost use Rattle.its_word.specs.Limits.{slots};
 ghost use Rattle.its_core.specs.Cores.{core_at};
 ghost use Rattle.its_jobs.specs.Table.{job_at};
 ghost use Rattle.pdp_exec.specs.Units.{after_unit, left};
@@ -18,8 +17,7 @@ impl Plain {
     /// their number. Each is a step of the job alone, and if they are fewer than n, no other is due. None is executed
     /// if the slot is empty or its job is stopped; then nothing changes. No block of lines may be open.
     #[tactic(auto, using(crate::proofs::SlotLaws::placed_at, crate::proofs::SeriesLaws::series_kept, crate::proofs::SeriesLaws::due_absent, crate::proofs::SeriesLaws::due_stopped))]
-    pub fn steps(&mut self, slot: u8, n: u32) -> u32
-        requires slot { slot < slots }
+    pub fn steps(&mut self, slot: Slot, n: u32) -> u32
         requires outside { self.old.place ≡ Spot.Plain }
         requires kept { Kept self.old }
         ensures few { result ≤ n }
@@ -42,8 +40,7 @@ impl Plain {
 
     /// Executes up to n units of the running job of a slot, whose registers these are, as long as no interrupt is deliverable and none
     /// is a call; how many were executed. If none was, nothing changes.
-    pub(crate) fn units(&mut self, slot: u8, job: Job, n: u32) -> u32
-        requires slot { slot < slots }
+    pub(crate) fn units(&mut self, slot: Slot, job: Job, n: u32) -> u32
         requires job { job_at self.old.jobs slot ≡ Some job }
         requires runs { job.stopped ≡ false }
         requires pc { job.pc < 2 ^ 18 }
@@ -59,7 +56,7 @@ impl Plain {
         ensures tidy { Tidy self.new }
     {
         let mut after = job;
-        let made = run_units(&mut self.core, Slot::new(slot), &mut after, n);
+        let made = run_units(&mut self.core, slot, &mut after, n);
         if made == 0 {
             return 0;
         }

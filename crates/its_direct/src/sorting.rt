@@ -2,14 +2,13 @@
 ghost use Rattle.std.specs.Prelude.{◌≡◌, ◌<◌, ◌+◌, ◌++◌, [], length};
 ghost use Rattle.std.specs.List.{cons_option};
 ghost use Rattle.its_core.specs.Cores.{core_at};
-ghost use Rattle.its_word.specs.Limits.{slots};
 ghost use Rattle.its_plain.specs.Decode.{held_place, value_of};
 ghost use Rattle.its_direct.specs.Asking.{first_error, no_parts, with_argument};
 
 use arrayvec::ArrayVec;
 use its_core::Core;
 use its_records::{Arg, Operand, Source};
-use its_word::Word;
+use its_word::{Slot, Word};
 
 /// Arguments by what they are: inputs and outputs, how many error addresses and controls there are and the first of each, and
 /// the places of the words of inputs and controls.
@@ -41,8 +40,7 @@ impl Parts {
     }
 
     /// One argument more.
-    pub fn add(&mut self, core: &Core, slot: u8, a: &Arg)
-        requires slot { slot < slots }
+    pub fn add(&mut self, core: &Core, slot: Slot, a: &Arg)
         requires inputs { length self.old.inputs.items < 8 }
         requires outputs { length self.old.outputs.items < 8 }
         requires errors { self.old.errors < 8 }
@@ -103,12 +101,11 @@ fn first_word(first: Option<Word>, next: Word) -> Option<Word>
 }
 
 /// The value that a source has.
-fn value(core: &Core, slot: u8, s: &Source) -> Word
-    requires { slot < slots }
+fn value(core: &Core, slot: Slot, s: &Source) -> Word
     ensures { result ≡ value_of (core_at core.now slot) s.now }
 {
     match s {
-        Source::Held(p) => core.get(slot, p.number()).unwrap_or(Word::ZERO),
+        Source::Held(p) => core.get(slot.number(), p.number()).unwrap_or(Word::ZERO),
         Source::Immediate(v) => *v,
     }
 }

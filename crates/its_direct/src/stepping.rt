@@ -1,6 +1,5 @@
 //! What a call decides, carried out: its changes in their order, then its stores, then its registers.
 ghost use Rattle.std.specs.Prelude.{◌≡◌, ◌<◌, ◌^◌, ◌∷◌, None};
-ghost use Rattle.its_word.specs.Limits.{slots};
 ghost use Rattle.its_word.specs.Stores.{first_fault};
 ghost use Rattle.its_frame.specs.declared.change.Change.TheVariants.{Remove};
 ghost use Rattle.its_plain.specs.CallStep.{after_end};
@@ -14,13 +13,12 @@ ghost use Rattle.its_direct.specs.Plain.{machine_of, Tidy};
 use super::plain::Plain;
 use its_frame::Change;
 use its_records::Exit;
-use its_word::Store;
+use its_word::{Slot, Store};
 
 impl Plain {
     /// Makes the changes of a call of slot's job, in their order.
     #[tactic(auto, using(crate::proofs::ActLaws::applying_start, crate::proofs::ActLaws::applying_can, crate::proofs::ActLaws::applying_end))]
-    pub(crate) fn apply(&mut self, slot: u8, changes: &[Change])
-        requires slot { slot < slots }
+    pub(crate) fn apply(&mut self, slot: Slot, changes: &[Change])
         requires can { CanMakeAll changes.now slot (machine_of self.old) }
         requires tidy { Tidy self.old }
         ensures row { Becomes self.old self.new (effects changes.now slot (machine_of self.old)) }
@@ -33,8 +31,7 @@ impl Plain {
 
     /// Makes one change of a call of slot's job.
     #[tactic(auto, unfolding(its_plain::specs::Change::effect))]
-    fn make_change(&mut self, slot: u8, change: &Change)
-        requires slot { slot < slots }
+    fn make_change(&mut self, slot: Slot, change: &Change)
         requires can { CanMake change.now slot (machine_of self.old) }
         requires tidy { Tidy self.old }
         ensures row { Becomes self.old self.new (effect change.now slot (machine_of self.old)) }
@@ -49,22 +46,22 @@ impl Plain {
             Change::Take { console } => self.take(*console),
             Change::Put { console, byte } => self.put(*console, *byte),
             Change::Hold { console, slot: s } => self.give(*console, *s),
-            Change::Poke { slot: s, at, word } => self.poke(*s, *at, *word),
+            Change::Poke { slot: s, at, word } => self.poke(Slot::new(*s), *at, *word),
             Change::Set {
                 slot: s,
                 variable,
                 value,
-            } => self.set(*s, *variable, *value),
-            Change::Map { slot: s, page } => self.map(*s, *page),
-            Change::Unmap { slot: s, page } => self.unmap(*s, *page),
+            } => self.set(Slot::new(*s), *variable, *value),
+            Change::Map { slot: s, page } => self.map(Slot::new(*s), *page),
+            Change::Unmap { slot: s, page } => self.unmap(Slot::new(*s), *page),
             Change::Protect {
                 slot: s,
                 page,
                 writable,
-            } => self.protect(*s, *page, *writable),
+            } => self.protect(Slot::new(*s), *page, *writable),
             Change::Make { slot: s, u, j } => self.make_inferior(slot, *s, *u, *j),
-            Change::Remove { slot: s } => self.remove(*s),
-            Change::Inform { slot: s } => self.tell(*s),
+            Change::Remove { slot: s } => self.remove(Slot::new(*s)),
+            Change::Inform { slot: s } => self.tell(Slot::new(*s)),
             Change::Arm { alarm } => self.arm(slot, *alarm),
             Change::Join {
                 channel,
@@ -92,8 +89,7 @@ impl Plain {
     }
 
     /// Carries out the end of a call of slot's job: its changes, then stores into its own core, then its registers.
-    pub(crate) fn finish(&mut self, slot: u8, changes: &[Change], stores: &[Store], exit: Exit)
-        requires slot { slot < slots }
+    pub(crate) fn finish(&mut self, slot: Slot, changes: &[Change], stores: &[Store], exit: Exit)
         requires can { CanMakeAll changes.now slot (machine_of self.old) }
         requires job { HasJob (effects changes.now slot (machine_of self.old)) slot }
         requires stores { first_fault (core_of ((effects changes.now slot (machine_of self.old)).jobs slot)) stores.now ≡ None }
@@ -108,8 +104,7 @@ impl Plain {
     }
 
     /// Carries out the removal of the caller, with all jobs below it; then these changes.
-    pub(crate) fn depart(&mut self, slot: u8, changes: &[Change])
-        requires slot { slot < slots }
+    pub(crate) fn depart(&mut self, slot: Slot, changes: &[Change])
         requires can { CanMakeAll changes.now slot (effect (Remove slot) slot (machine_of self.old)) }
         requires tidy { Tidy self.old }
         ensures row { Becomes self.old self.new (effects (Remove slot ∷ changes.now) slot (machine_of self.old)) }

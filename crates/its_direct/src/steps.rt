@@ -21,7 +21,7 @@ ghost use Rattle.its_direct.specs.Plain.{machine_of, is_touched, Tidy};
 ghost use Rattle.its_direct.specs.Ready.{Carries, GoesOn, HeldFits, CanCarryOut, core_behind};
 ghost use Rattle.its_direct.specs.Steps.{Acts, CallsAt, Lent, LosesOnly, Makes, Steps, marked_by, is_making, makes_job, own_of};
 
-use super::plain::{Plain, Spot};
+use super::plain::{Plain, Spot, within};
 use super::users::Begun;
 use arrayvec::ArrayVec;
 use its_bytes::deposit;
@@ -29,7 +29,7 @@ use its_core::Core;
 use its_decide::{Disturbed, Seen, decide, disturbed_by, disturbs};
 use its_frame::{Change, Decision, Held};
 use its_records::{Ask, Job, Site};
-use its_word::{Fault, SLOTS, Store, Word};
+use its_word::{Fault, SLOTS, Slot, Store, Word};
 
 /// For each slot whether something holds.
 type Marks = [bool; 96];
@@ -37,8 +37,7 @@ type Marks = [bool; 96];
 impl Plain {
     /// Whether a slot's job runs.
     #[tactic(auto, using(crate::proofs::CallStepLaws::running, crate::proofs::CallStepLaws::idle))]
-    pub fn runs(&self, slot: u8) -> bool
-        requires { slot < slots }
+    pub fn runs(&self, slot: Slot) -> bool
         ensures { result ≡ is_running ((machine_of self.now).jobs slot) }
     {
         match self.job(slot) {
@@ -51,8 +50,7 @@ impl Plain {
     /// because the slot is empty, its job is stopped, or its call waits, nothing changes. No block of lines may be
     /// open.
     #[tactic(auto, using(crate::proofs::CallStepLaws::loses_only, crate::proofs::CallStepLaws::place_stays, crate::proofs::CallStepLaws::kept_after))]
-    pub fn step(&mut self, slot: u8) -> bool
-        requires slot { slot < slots }
+    pub fn step(&mut self, slot: Slot) -> bool
         requires outside { self.old.place ≡ Spot.Plain }
         requires kept { Kept self.old }
         ensures row { Makes result (transition (machine_of self.old) slot) self.old self.new }
@@ -64,8 +62,7 @@ impl Plain {
     }
 
     /// Performs the step of a slot's job, if there is one.
-    fn make_step(&mut self, slot: u8) -> bool
-        requires slot { slot < slots }
+    fn make_step(&mut self, slot: Slot) -> bool
         requires kept { Kept self.old }
         ensures row { Makes result (transition (machine_of self.old) slot) self.old self.new }
         ensures tidy { Tidy self.new }
@@ -78,8 +75,7 @@ impl Plain {
     }
 
     /// The step of the call of a slot's job at a site: the fault of its decoding, or what it decides.
-    fn call(&mut self, slot: u8, site: &Site) -> bool
-        requires slot { slot < slots }
+    fn call(&mut self, slot: Slot, site: &Site) -> bool
         requires calls { CallsAt (machine_of self.old) slot site.now (transition (machine_of self.old) slot) }
         requires kept { Kept self.old }
         ensures row { Makes result (transition (machine_of self.old) slot) self.old self.new }
@@ -98,8 +94,7 @@ impl Plain {
     }
 
     /// The decoding of a call of a slot's job, which has these registers, faults: the bit of the fault is set in the job.
-    fn fault(&mut self, slot: u8, job: Job, fault: Fault)
-        requires slot { slot < slots }
+    fn fault(&mut self, slot: Slot, job: Job, fault: Fault)
         requires job { job_at self.old.jobs slot ≡ Some job }
         requires tidy { Tidy self.old }
         ensures row { Steps self.old self.new (quiet_step (in_job (machine_of self.old) slot (with_fault fault))) }
@@ -114,8 +109,7 @@ impl Plain {
     }
 
     /// Decides what a call of a slot's job asks for, which has these registers, and carries it out. A call that waits takes no step.
-    fn act(&mut self, slot: u8, job: &Job, ask: &Ask) -> bool
-        requires slot { slot < slots }
+    fn act(&mut self, slot: Slot, job: &Job, ask: &Ask) -> bool
         requires job { job_at self.old.jobs slot ≡ Some job.now }
         requires ready { CanCarryOut (machine_of self.old) slot ask.now (decision (machine_of self.old) slot (own_of self.old slot job.now) ask.now) }
         requires kept { Kept self.old }
@@ -130,8 +124,7 @@ impl Plain {
     }
 
     /// Carries out what a call of a slot's job has decided that disturbs at most one other job.
-    fn act_on(&mut self, slot: u8, target: Option<u8>, ask: &Ask, decision: Decision) -> bool
-        requires slot { slot < slots }
+    fn act_on(&mut self, slot: Slot, target: Option<u8>, ask: &Ask, decision: Decision) -> bool
         requires target { IfSome target (λ t. t < slots) }
         requires ready { CanCarryOut (machine_of self.old) slot ask.now decision }
         requires tidy { Tidy self.old }
@@ -150,8 +143,13 @@ impl Plain {
 
     /// Carries out what a call of a slot's job has decided, and looks at each slot: whether its job is disturbed, or made.
     #[inline(never)]
-    fn act_widely(&mut self, slot: u8, disturbed: Disturbed, ask: &Ask, decision: Decision) -> bool
-        requires slot { slot < slots }
+    fn act_widely(
+        &mut self,
+        slot: Slot,
+        disturbed: Disturbed,
+        ask: &Ask,
+        decision: Decision,
+    ) -> bool
         requires few { (k : ℕ) → slots ≤ k → among k (slots_of disturbed (machine_of self.old) slot (superior_at self.old.jobs slot)) ≡ false }
         requires ready { CanCarryOut (machine_of self.old) slot ask.now decision }
         requires tidy { Tidy self.old }
@@ -186,8 +184,7 @@ impl Plain {
     }
 
     /// The decision of a call of a slot's job, which has these registers.
-    fn decided(&self, slot: u8, job: &Job, ask: &Ask) -> Decision
-        requires slot { slot < slots }
+    fn decided(&self, slot: Slot, job: &Job, ask: &Ask) -> Decision
         requires job { job_at self.now.jobs slot ≡ Some job.now }
         requires kept { Kept self.now }
         ensures { result ≡ decision (machine_of self.now) slot (own_of self.now slot job.now) ask.now }
@@ -196,16 +193,14 @@ impl Plain {
     }
 
     /// Whom the commit of a call of a slot's job disturbs, which has these registers.
-    fn disturbed(&self, slot: u8, job: &Job, ask: &Ask) -> Disturbed
-        requires slot { slot < slots }
+    fn disturbed(&self, slot: Slot, job: &Job, ask: &Ask) -> Disturbed
         ensures { slots_of result (machine_of self.now) slot (superior_at self.now.jobs slot) ≡ reach (machine_of self.now) slot (own_of self.now slot job.now) ask.now }
     {
         disturbed_by(&self.seen(), slot, job, ask)
     }
 
     /// For each slot whether its job is one of those that a call of a slot's job disturbs.
-    fn marks_of(&self, slot: u8, disturbed: Disturbed) -> Marks
-        requires slot { slot < slots }
+    fn marks_of(&self, slot: Slot, disturbed: Disturbed) -> Marks
         requires few { (k : ℕ) → slots ≤ k → among k (slots_of disturbed (machine_of self.now) slot (superior_at self.now.jobs slot)) ≡ false }
         ensures { (k : ℕ) → slice_index_or result k false ≡ among k (slots_of disturbed (machine_of self.now) slot (superior_at self.now.jobs slot)) }
     {
@@ -243,14 +238,13 @@ impl Plain {
     {
         self.touch_none();
         if let Some(t) = target {
-            self.touch(t);
+            self.touch(Slot::new(t));
         }
     }
 
     /// Carries out what a call of a slot's job has decided.
     #[tactic(auto, unfolding(its_plain::specs::CallStep::acted))]
-    fn carry_out(&mut self, slot: u8, ask: &Ask, decision: Decision) -> bool
-        requires slot { slot < slots }
+    fn carry_out(&mut self, slot: Slot, ask: &Ask, decision: Decision) -> bool
         requires ready { CanCarryOut (machine_of self.old) slot ask.now decision }
         requires tidy { Tidy self.old }
         ensures row { Acts result (acted (machine_of self.old) slot ask.now [] decision) self.old self.new }
@@ -277,13 +271,12 @@ impl Plain {
     /// arguments.
     pub(crate) fn go_on(
         &mut self,
-        slot: u8,
+        slot: Slot,
         changes: &[Change],
         ask: &Ask,
         held: Option<Held>,
         values: &[Word],
     )
-        requires slot { slot < slots }
         requires carries { Carries (machine_of self.old) slot changes.now }
         requires part { GoesOn (core_behind (machine_of self.old) slot changes.now) ask.now held values.now }
         requires tidy { Tidy self.old }
@@ -296,14 +289,14 @@ impl Plain {
     }
 
     /// Deposits the byte that a call of slot's job holds in its word, by the pointer that the call then has.
-    fn put_held(&mut self, slot: u8, ask: &Ask, held: Option<Held>, values: &[Word])
-        requires slot { slot < slots }
+    fn put_held(&mut self, slot: Slot, ask: &Ask, held: Option<Held>, values: &[Word])
         requires job { HasJob (machine_of self.old) slot }
         requires fits { IfSome held (HeldFits (core_of ((machine_of self.old).jobs slot)) (with_new_values ask.now values.now)) }
         requires tidy { Tidy self.old }
         ensures row { Becomes self.old self.new (in_job (machine_of self.old) slot (with_held (with_new_values ask.now values.now) held)) }
         ensures tidy { Tidy self.new }
     {
+        within(slot);
         if let Some(h) = held {
             let pointer = new_input(ask, values, 1);
             let store = deposited(&self.core, slot, pointer, h);
@@ -313,14 +306,13 @@ impl Plain {
 }
 
 /// For each slot whether its job is one of those that a call of a slot's job disturbs, in a machine whose parts are lent.
-fn marks_of(seen: &Seen<'_>, slot: u8, disturbed: Disturbed) -> Marks
-    requires slot { slot < slots }
+fn marks_of(seen: &Seen<'_>, slot: Slot, disturbed: Disturbed) -> Marks
     requires few { (k : ℕ) → slots ≤ k → among k (slots_of disturbed (machine_seen seen.now) slot (superior_at seen.now.jobs.now slot)) ≡ false }
     ensures { (k : ℕ) → slice_index_or result k false ≡ among k (slots_of disturbed (machine_seen seen.now) slot (superior_at seen.now.jobs.now slot)) }
 {
     let mut marks = [false; SLOTS];
     for k in 0..SLOTS {
-        marks[k] = disturbs(seen, slot, disturbed, k as u8);
+        marks[k] = disturbs(seen, slot, disturbed, Slot::new(k as u8));
     }
     marks
 }
@@ -352,12 +344,11 @@ pub(crate) fn is_making(change: &Change) -> bool
 }
 
 /// The store of a byte that is held, by a pointer, into its word of a slot's core.
-fn deposited(core: &Core, slot: u8, pointer: Word, held: Held) -> Store
-    requires slot { slot < slots }
+fn deposited(core: &Core, slot: Slot, pointer: Word, held: Held) -> Store
     requires size { IsTrue (has_size pointer) }
     ensures { result ≡ deposited (core_at core.now slot) pointer held }
 {
-    let word = core.word(slot, held.place).unwrap_or(Word::ZERO);
+    let word = core.word(slot.number(), held.place).unwrap_or(Word::ZERO);
     Store {
         at: held.place,
         word: deposit(pointer, word, held.byte.value()),

@@ -1,6 +1,5 @@
 //! The step of a job in user mode: the delivery of an interrupt, else a unit.
 ghost use Rattle.std.specs.Prelude.{◌≡◌, ◌<◌, ◌^◌, ℕ, true, false, Some, is_some, slice_set};
-ghost use Rattle.its_word.specs.Limits.{slots};
 ghost use Rattle.its_jobs.specs.Table.{job_at, superior_at};
 ghost use Rattle.its_plain.specs.CallStep.{among, informs, informed_slots, transition};
 ghost use Rattle.its_plain.specs.Change.{effects, in_job, with_inf};
@@ -29,8 +28,7 @@ pub enum Begun {
 impl Plain {
     /// Performs the step of a slot's job, if that is a delivery or a unit. If it is a call, or if there is none, nothing changes.
     #[tactic(auto, using(crate::proofs::UserLaws::absent, crate::proofs::UserLaws::stopped, crate::proofs::SlotLaws::placed_at))]
-    pub fn begin(&mut self, slot: u8) -> Begun
-        requires slot { slot < slots }
+    pub fn begin(&mut self, slot: Slot) -> Begun
         requires tidy { Tidy self.old }
         ensures row { StepBegins result (transition (machine_of self.old) slot) self.old self.new slot }
         ensures tidy { Tidy self.new }
@@ -50,8 +48,7 @@ impl Plain {
 
     /// The unit of a slot's job that has these registers, unless it is a call.
     #[tactic(auto, using(crate::proofs::SeriesLaws::one_stepped, crate::proofs::SeriesLaws::none_called))]
-    fn make_unit(&mut self, slot: u8, job: Job) -> Begun
-        requires slot { slot < slots }
+    fn make_unit(&mut self, slot: Slot, job: Job) -> Begun
         requires job { job_at self.old.jobs slot ≡ Some job }
         requires runs { job.stopped ≡ false }
         requires quiet { deliverable job ≡ false }
@@ -63,14 +60,13 @@ impl Plain {
         if self.units(slot, job, 1) == 1 {
             Begun::Stepped
         } else {
-            Begun::Calls(site(&self.core, Slot::new(slot), &job))
+            Begun::Calls(site(&self.core, slot, &job))
         }
     }
 
     /// The delivery of an interrupt to a slot's job that has these registers. If a fatal bit stops the job, INF is set in its superior,
     /// if it has one.
-    fn deliver(&mut self, slot: u8, job: Job)
-        requires slot { slot < slots }
+    fn deliver(&mut self, slot: Slot, job: Job)
         requires job { job_at self.old.jobs slot ≡ Some job }
         requires runs { job.stopped ≡ false }
         requires due { deliverable job ≡ true }
@@ -80,7 +76,7 @@ impl Plain {
     {
         self.jobs.tree();
         let mut after = job;
-        let stops = deliver(&mut self.core, Slot::new(slot), &mut after);
+        let stops = deliver(&mut self.core, slot, &mut after);
         self.put_job(slot, after);
         self.touch_none();
         if stops {
@@ -89,8 +85,7 @@ impl Plain {
     }
 
     /// Sets INF in the superior of a slot's job, if it has one, which is then also touched.
-    fn inform_superior(&mut self, slot: u8)
-        requires slot { slot < slots }
+    fn inform_superior(&mut self, slot: Slot)
         requires touched { self.old.touched ≡ no_slots }
         requires tidy { Tidy self.old }
         ensures row { machine_of self.new ≡ effects (informs true (superior_at self.old.jobs slot)) slot (machine_of self.old) }
@@ -98,14 +93,13 @@ impl Plain {
         ensures place { self.new.place ≡ self.old.place }
         ensures tidy { Tidy self.new }
     {
-        if let Some(superior) = self.jobs.superior(slot) {
-            self.inform(superior);
+        if let Some(superior) = self.jobs.superior(slot.number()) {
+            self.inform(Slot::new(superior));
         }
     }
 
     /// Sets INF in a slot's job.
-    fn inform(&mut self, slot: u8)
-        requires slot { slot < slots }
+    fn inform(&mut self, slot: Slot)
         requires job { is_some (job_at self.old.jobs slot) ≡ true }
         requires tidy { Tidy self.old }
         ensures row { machine_of self.new ≡ in_job (machine_of self.old) slot with_inf }

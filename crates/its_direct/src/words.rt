@@ -1,7 +1,7 @@
 //! The words of a LOAD block.
 ghost use Rattle.std.specs.Prelude.{◌≡◌, ◌<◌, ◌≤◌, ◌+◌, ◌-◌, ◌/◌, ◌^◌, true, false, Some, None, Ok, Err, OnOk, OnErr, IsOk, IfErr, is_some, length};
 ghost use Rattle.its_word.specs.Core.{can_store, page_of, pages_mapped, put as put_at, store, with_page, zero_page};
-ghost use Rattle.its_word.specs.Limits.{most_pages, slots};
+ghost use Rattle.its_word.specs.Limits.{most_pages};
 ghost use Rattle.its_word.specs.Only.{Only, Same};
 ghost use Rattle.its_core.specs.Cores.{clear_at, core_at};
 ghost use Rattle.its_jobs.specs.Table.{job_at};
@@ -10,17 +10,16 @@ ghost use Rattle.its_direct.specs.Plain.{machine_of, CoreBecomes, Tidy};
 ghost use Rattle.its_records.specs.Refusals.{reason_of};
 ghost use Rattle.its_direct.specs.Lines.{Operates, pages_absent, pages_made};
 
-use super::plain::Plain;
+use super::plain::{Plain, within};
 use its_core::Core;
 use its_records::Refusal;
-use its_word::{MAPPED_PAGES, NoAccess, Word};
+use its_word::{MAPPED_PAGES, NoAccess, Slot, Word};
 
 impl Plain {
     /// The words of an a/ line of the job of a slot, from an address on: absent pages are made, writable and of zeros. NoJob if the
     /// slot is empty; ReadOnly if a word is on a read-only page; Full if more than 1024 pages would be mapped. A line that is refused
     /// stores none of its words.
-    pub fn load_words(&mut self, slot: u8, a: u32, words: &[Word]) -> Result<(), Refusal>
-        requires slot { slot < slots }
+    pub fn load_words(&mut self, slot: Slot, a: u32, words: &[Word]) -> Result<(), Refusal>
         requires some { 1 ≤ length words.now }
         requires end { a + length words.now ≤ 2 ^ 18 }
         requires tidy { Tidy self.old }
@@ -29,6 +28,7 @@ impl Plain {
         ensures same { OnErr result (self.new ≡ self.old) }
         ensures tidy { Tidy self.new }
     {
+        within(slot);
         let n = words.len() as u32;
         let Some(_job) = self.job(slot) else {
             return Err(Refusal::NoJob);
@@ -46,8 +46,7 @@ impl Plain {
 
     /// Stores words of a slot that has a job, from an address on, in their order, if there is room for the pages that they make.
     #[tactic(auto, using(crate::proofs::LoadedLaws::storing_starts, crate::proofs::LoadedLaws::storing_ends))]
-    fn store_words(&mut self, slot: u8, a: u32, words: &[Word])
-        requires slot { slot < slots }
+    fn store_words(&mut self, slot: Slot, a: u32, words: &[Word])
         requires end { a + length words.now ≤ 2 ^ 18 }
         requires job { is_some (job_at self.old.jobs slot) ≡ true }
         requires room { IsOk (with_words_stored (machine_of self.old) slot a words.now) }
@@ -62,8 +61,7 @@ impl Plain {
     }
 
     /// One word of an a/ line of a slot that has a job, if there is room for it: an absent page is made, writable and of zeros.
-    fn load_word(&mut self, slot: u8, a: u32, w: Word)
-        requires slot { slot < slots }
+    fn load_word(&mut self, slot: Slot, a: u32, w: Word)
         requires address { a < 2 ^ 18 }
         requires job { is_some (job_at self.old.jobs slot) ≡ true }
         requires room { IsOk (with_word_loaded (machine_of self.old) slot a w) }
@@ -82,8 +80,7 @@ impl Plain {
 
     /// Stores a word of a slot, unless its page is absent or read only.
     #[tactic(auto, using(crate::proofs::SlotLaws::core_becomes))]
-    fn put_word(&mut self, slot: u8, a: u32, w: Word) -> Result<(), NoAccess>
-        requires slot { slot < slots }
+    fn put_word(&mut self, slot: Slot, a: u32, w: Word) -> Result<(), NoAccess>
         requires address { a < 2 ^ 18 }
         ensures stored { OnOk result (CoreBecomes self.old self.new slot (store (core_at self.old.core slot) a w)) }
         ensures allowed { OnOk result (can_store (core_at self.old.core slot) a ≡ true) }
@@ -91,15 +88,14 @@ impl Plain {
         ensures absent { result ≡ Err NoAccess.Absent → (16 ≤ a) × (page_of (core_at self.old.core slot) (a / 1024) ≡ None) }
         ensures same { OnErr result (self.new ≡ self.old) }
     {
-        match self.core.put(slot, a, w) {
+        match self.core.put(slot.number(), a, w) {
             Ok(()) => Ok(()),
             Err(e) => Err(e),
         }
     }
 
     /// Makes the page of an address of a slot, and stores a word there.
-    fn load_page(&mut self, slot: u8, a: u32, w: Word)
-        requires slot { slot < slots }
+    fn load_page(&mut self, slot: Slot, a: u32, w: Word)
         requires page { 16 ≤ a }
         requires address { a < 2 ^ 18 }
         requires absent { page_of (core_at self.old.core slot) (a / 1024) ≡ None }
@@ -113,8 +109,7 @@ impl Plain {
 
 /// Whether any of n words of a slot from an address on is on a read-only page.
 #[tactic(auto, using(its_plain::proofs::BarredLaws::any_start, its_plain::proofs::BarredLaws::any_here, its_plain::proofs::BarredLaws::any_next, its_plain::proofs::BarredLaws::any_end))]
-fn any_barred(core: &Core, slot: u8, a: u32, n: u32) -> bool
-    requires slot { slot < slots }
+fn any_barred(core: &Core, slot: Slot, a: u32, n: u32) -> bool
     requires end { a + n ≤ 2 ^ 18 }
     ensures { result ≡ any_barred (core_at core.now slot) a n }
 {
@@ -127,17 +122,15 @@ fn any_barred(core: &Core, slot: u8, a: u32, n: u32) -> bool
 }
 
 /// Whether the word of a slot at an address is on a read-only page.
-fn is_barred(core: &Core, slot: u8, a: u32) -> bool
-    requires slot { slot < slots }
+fn is_barred(core: &Core, slot: Slot, a: u32) -> bool
     ensures { result ≡ is_barred (core_at core.now slot) a }
 {
-    core.word(slot, a).is_some() && !core.is_storable(slot, a)
+    core.word(slot.number(), a).is_some() && !core.is_storable(slot.number(), a)
 }
 
 /// How many pages are made for n words of a slot from an address on: those that are absent.
 #[tactic(auto, using(crate::proofs::RoomLaws::made_accs, crate::proofs::RoomLaws::made_on_pages))]
-fn pages_made(core: &Core, slot: u8, a: u32, n: u32) -> u32
-    requires slot { slot < slots }
+fn pages_made(core: &Core, slot: Slot, a: u32, n: u32) -> u32
     requires some { 1 ≤ n }
     requires end { a + n ≤ 2 ^ 18 }
     ensures number { result ≡ pages_made (core_at core.now slot) a n }
@@ -152,8 +145,7 @@ fn pages_made(core: &Core, slot: u8, a: u32, n: u32) -> u32
 
 /// How many of n pages of a slot, from a page on, are absent.
 #[tactic(auto, using(crate::proofs::RoomLaws::counting_starts))]
-fn pages_absent(core: &Core, slot: u8, first: u32, n: u32) -> u32
-    requires slot { slot < slots }
+fn pages_absent(core: &Core, slot: Slot, first: u32, n: u32) -> u32
     requires end { first + n ≤ 256 }
     ensures number { result ≡ pages_absent (core_at core.now slot) first n }
     ensures few { result ≤ n }
@@ -169,17 +161,15 @@ fn pages_absent(core: &Core, slot: u8, first: u32, n: u32) -> u32
 
 /// Whether a page of a slot is present.
 #[tactic(auto, using(crate::proofs::RoomLaws::some_marked))]
-fn has_page(core: &Core, slot: u8, page: u8) -> bool
-    requires { slot < slots }
+fn has_page(core: &Core, slot: Slot, page: u8) -> bool
     ensures { result ≡ is_some (page_of (core_at core.now slot) page) }
 {
-    core.page(slot, page).is_some()
+    core.page(slot.number(), page).is_some()
 }
 
 /// Makes the page of an address of a slot, of zeros, and stores a word there.
 #[tactic(auto, using(its_word::proofs::PageLaws::zero_stores))]
-fn lay_word(core: &mut Core, slot: u8, a: u32, w: Word)
-    requires slot { slot < slots }
+fn lay_word(core: &mut Core, slot: Slot, a: u32, w: Word)
     requires page { 16 ≤ a }
     requires address { a < 2 ^ 18 }
     requires absent { page_of (core_at core.old slot) (a / 1024) ≡ None }
@@ -188,6 +178,6 @@ fn lay_word(core: &mut Core, slot: u8, a: u32, w: Word)
     ensures core { Only (core_at core.old) (core_at core.new) slot (store (with_page (core_at core.old slot) (a / 1024) (Some zero_page)) a w) }
     ensures reserved { Same (clear_at core.old) (clear_at core.new) }
 {
-    core.map_zeros(slot, (a / 1024) as u8);
-    let _ = core.put(slot, a, w);
+    core.map_zeros(slot.number(), (a / 1024) as u8);
+    let _ = core.put(slot.number(), a, w);
 }

@@ -1,8 +1,6 @@
 //! The plain machine in running form: the lines of the operator, and the beginnings of steps.
 
-ghost use Rattle.its_word.specs.Limits.{slots};
 ghost use Rattle.its_direct.specs.Plain.{Tidy};
-ghost use Rattle.std.specs.Prelude.{◌<◌};
 
 use its_direct::{Begun, Plain, Spot};
 use its_machine::{MOST_SYMBOLS, SymbolTable};
@@ -35,8 +33,7 @@ enum Came {
 }
 
 /// Makes a line of a slot.
-fn run_line(rt: &impl Abort, p: &mut Plain, slot: u8, line: Line) -> Result<Came, Refusal>
-    requires slot { slot < slots }
+fn run_line(rt: &impl Abort, p: &mut Plain, slot: Slot, line: Line) -> Result<Came, Refusal>
     requires tidy { Tidy p.old }
     ensures { Tidy p.new }
 {
@@ -77,17 +74,26 @@ fn run_line(rt: &impl Abort, p: &mut Plain, slot: u8, line: Line) -> Result<Came
 #[test]
 fn lines_and_steps(rt: HostRuntime) -> Result<(), Fail> {
     let mut p = Plain::open(rt.alloc())?;
-    assert_eq!(&rt; run_line(&rt, &mut p, 0, Line::State), Err(Refusal::NoJob));
+    assert_eq!(&rt;
+        run_line(&rt, &mut p, Slot::FIRST, Line::State),
+        Err(Refusal::NoJob)
+    );
     p.version(2);
     assert_eq!(&rt; p.version, 2);
     p.version(1);
     assert_eq!(&rt; p.version, 1);
-    assert_eq!(&rt; p.load(Word::new(0o42), Word::new(0o43), Some(3)), Ok(0));
+    assert_eq!(&rt;
+        p.load(Word::new(0o42), Word::new(0o43), Some(3)),
+        Ok(Slot::FIRST)
+    );
     assert_eq!(&rt;
         (p.place, p.holders[3], p.touched[0], p.touched[1]),
-        (Spot::Load { slot: 0 }, Some(0), true, false)
+        (Spot::Load { slot: Slot::FIRST }, Some(0), true, false)
     );
-    assert_eq!(&rt; p.load(Word::new(0o42), Word::new(0o44), Some(3)), Ok(1));
+    assert_eq!(&rt;
+        p.load(Word::new(0o42), Word::new(0o44), Some(3)),
+        Ok(Slot::new(1))
+    );
     assert_eq!(&rt;
         (p.holders[3], p.touched[0], p.touched[1]),
         (Some(0), false, true)
@@ -111,18 +117,21 @@ fn lines_and_steps(rt: HostRuntime) -> Result<(), Fail> {
         (Line::Deposit(3, 0), Ok(Came::Done)),
         (Line::Step, Ok(Came::Done)),
     ] {
-        assert_eq!(&rt; run_line(&rt, &mut p, 0, line), came, "{line:?}");
+        assert_eq!(&rt; run_line(&rt, &mut p, Slot::FIRST, line), came, "{line:?}");
     }
     assert_eq!(&rt; p.type_in(3, b"AB"), 0);
     assert_eq!(&rt; p.consoles[3].waiting(), (2, 0));
     assert_eq!(&rt; p.drain(3, 64).len(), 0);
-    assert_eq!(&rt; p.symbol(0, Word::new(0o123), 2), Ok(()));
-    assert_eq!(&rt; (p.peek(1), p.peek(2)), (Ok(()), Err(Refusal::NoJob)));
-    assert_eq!(&rt; p.read_only(0, 2), Err(Refusal::NoPage));
-    if let Ok(words) = p.words(0, 0o1777, 2) {
+    assert_eq!(&rt; p.symbol(Slot::FIRST, Word::new(0o123), 2), Ok(()));
+    assert_eq!(&rt;
+        (p.peek(Slot::new(1)), p.peek(Slot::new(2))),
+        (Ok(()), Err(Refusal::NoJob))
+    );
+    assert_eq!(&rt; p.read_only(Slot::FIRST, 2), Err(Refusal::NoPage));
+    if let Ok(words) = p.words(Slot::FIRST, 0o1777, 2) {
         assert_eq!(&rt; words.as_slice().first(), Some(&Word::new(1)));
     }
-    if let Ok(show) = p.shown(0) {
+    if let Ok(show) = p.shown(Slot::FIRST) {
         assert_eq!(&rt;
             (show.symbol, show.con),
             (Some((Word::new(0o123), 1)), Some(3))

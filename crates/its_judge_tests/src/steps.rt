@@ -64,7 +64,17 @@ fn steps(rt: HostRuntime) -> Result<(), Fail> {
             },
         );
     }
-    assert_eq!(&rt; (p.step(0), p.step(0), p.step(0)), (true, true, false));
-    assert_eq!(&rt; (p.runs(0), p.runs(1), p.touched[0]), (true, false, false));
+    assert_eq!(&rt;
+        (
+            p.step(Slot::FIRST),
+            p.step(Slot::FIRST),
+            p.step(Slot::FIRST)
+        ),
+        (true, true, false)
+    );
+    assert_eq!(&rt;
+        (p.runs(Slot::FIRST), p.runs(Slot::new(1)), p.touched[0]),
+        (true, false, false)
+    );
     Ok(())
 }

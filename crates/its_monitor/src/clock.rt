@@ -74,7 +74,7 @@ fn unwind_due(w: &mut World, clock: u64)
     for slot in 0..SLOTS as u8 {
         let slot = Slot::new(slot);
         if is_due(w, slot, clock) {
-            unwind(w, slot.number());
+            unwind(w, slot);
         }
     }
 }
@@ -83,7 +83,7 @@ fn unwind_due(w: &mut World, clock: u64)
 fn is_due(w: &World, slot: Slot, clock: u64) -> bool
     ensures { result ≡ is_due clock (alarm_at w.now.alarms.items slot) }
 {
-    match w.alarm(slot.number()) {
+    match w.alarm(slot) {
         Some((_, next)) => next <= clock,
         None => false,
     }
@@ -129,7 +129,7 @@ fn ring_slot(w: &mut World, slot: Slot, clock: u64)
     ensures pages { w.new.core.frames ≡ w.old.core.frames }
     ensures tidy { Tidy w.new }
 {
-    if let Some((period, next)) = w.alarm(slot.number()) {
+    if let Some((period, next)) = w.alarm(slot) {
         if next <= clock {
             go_off(w, slot, period, next, clock);
         }
@@ -151,10 +151,7 @@ fn go_off(w: &mut World, slot: Slot, period: u64, next: u64, clock: u64)
     ensures tidy { Tidy w.new }
 {
     set_alr(w, slot);
-    w.put_alarm(
-        slot.number(),
-        Some((period, time_after(period, next, clock))),
-    );
+    w.put_alarm(slot, Some((period, time_after(period, next, clock))));
 }
 
 /// ALR is set in a slot's job, which is there as it has an alarm.
@@ -168,8 +165,8 @@ fn set_alr(w: &mut World, slot: Slot)
     ensures pages { w.new.core.frames ≡ w.old.core.frames }
     ensures tidy { Tidy w.new }
 {
-    match w.registers(slot.number()) {
-        Some(job) => w.put_registers(slot.number(), with_alr(job)),
+    match w.registers(slot) {
+        Some(job) => w.put_registers(slot, with_alr(job)),
         None => unreachable!(),
     }
 }

@@ -50,7 +50,7 @@ impl Monitor {
         ensures ring { InRing self.old.world slot → (result ≡ Pace.Wait) × (self.new.world ≡ self.old.world) }
         ensures waits { is_waiting (call_in self.old.world slot) ≡ true → ((result ≡ Pace.Wait) ↔ Blocked self.old.world slot) }
     {
-        its_tick::tick(&mut self.world, slot.number())
+        its_tick::tick(&mut self.world, slot)
     }
 
     /// As many units of a slot's job as can be made in user mode while nothing else is due, or as many bytes as can be moved by SIOT, n at
@@ -64,7 +64,7 @@ impl Monitor {
         ensures pages { self.new.world.core.frames ≡ self.old.world.core.frames }
         ensures kept { Kept self.new.world }
     {
-        its_tick::steps(&mut self.world, slot.number(), n)
+        its_tick::steps(&mut self.world, slot, n)
     }
 
     /// Whether the call of a slot was found not ready, and the slot is on a wait list. Then each of its ticks is `w`, and none changes anything.
@@ -75,7 +75,7 @@ impl Monitor {
         ensures state { IsTrue result → (n : ℕ) → after_ticks (state_of self.now.world) slot n ≡ state_of self.now.world }
         ensures no { result ≡ false → InRing self.now.world slot → ⊥ }
     {
-        its_tick::waits_on(&self.world, slot.number())
+        its_tick::waits_on(&self.world, slot)
     }
 
     /// Whether a slot has a job that is not stopped. It disturbs nobody: nothing changes.
@@ -83,6 +83,6 @@ impl Monitor {
         ensures raw { result ≡ runs (state_of self.now.world).raw slot }
         ensures plain { result ≡ runs (plain_of self.now.world) slot }
     {
-        its_tick::running(&self.world, slot.number())
+        its_tick::running(&self.world, slot)
     }
 }

@@ -29,7 +29,7 @@ impl Monitor {
         ensures refused { IfErr result (λ e. (e ≡ Refusal.NoJob) × ((state_of self.now.world).raw.jobs slot ≡ None) × ((plain_of self.now.world).jobs slot ≡ None)) }
     {
         let world = &self.world;
-        if world.registers(slot.number()).is_none() {
+        if world.registers(slot).is_none() {
             return Err(Refusal::NoJob);
         }
         let call = &world.frames[slot.index()];

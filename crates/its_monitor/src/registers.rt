@@ -33,7 +33,7 @@ impl Monitor {
         job.pc = a;
         job.flags = 0;
         job.stopped = false;
-        world.put_registers(slot.number(), job);
+        world.put_registers(slot, job);
         Ok(())
     }
 
@@ -51,7 +51,7 @@ impl Monitor {
         let world = &mut self.world;
         let mut job = calmed(world, slot)?;
         job.stopped = true;
-        world.put_registers(slot.number(), job);
+        world.put_registers(slot, job);
         Ok(())
     }
 
@@ -68,7 +68,7 @@ impl Monitor {
     {
         let world = &mut self.world;
         let job = calmed(world, slot)?;
-        world.put_registers(slot.number(), continued(job));
+        world.put_registers(slot, continued(job));
         Ok(())
     }
 
@@ -85,7 +85,7 @@ impl Monitor {
     {
         let world = &mut self.world;
         let job = calmed(world, slot)?;
-        world.put_registers(slot.number(), interrupted(job, v, w));
+        world.put_registers(slot, interrupted(job, v, w));
         Ok(())
     }
 
@@ -119,11 +119,11 @@ fn calmed(w: &mut World, slot: Slot) -> Result<Job, Refusal>
     ensures refused { IfErr result (λ e. (e ≡ Refusal.NoJob) × (job_at w.old.jobs slot ≡ None)) }
     ensures same { OnErr result (w.new ≡ w.old) }
 {
-    if w.registers(slot.number()).is_none() {
+    if w.registers(slot).is_none() {
         return Err(Refusal::NoJob);
     }
-    unwind(w, slot.number());
-    match w.registers(slot.number()) {
+    unwind(w, slot);
+    match w.registers(slot) {
         Some(job) => Ok(job),
         None => unreachable!(),
     }

@@ -46,7 +46,7 @@ impl Monitor {
         let world = &mut self.world;
         present(world, slot)?;
         if has_room(world, slot) {
-            world.keep_symbol(slot.number(), name, a);
+            world.keep_symbol(slot, name, a);
             Ok(())
         } else {
             Err(Refusal::Full)

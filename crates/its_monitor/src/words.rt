@@ -67,7 +67,7 @@ impl Monitor {
             Some(e) => return Err(e),
         }
         calm(world, slot);
-        world.store(slot.number(), a, w);
+        world.store(slot, a, w);
         Ok(())
     }
 
@@ -91,7 +91,7 @@ impl Monitor {
             Some(e) => return Err(e),
         }
         calm(world, slot);
-        match world.put_word(slot.number(), a, w) {
+        match world.put_word(slot, a, w) {
             Ok(()) => Ok(()),
             Err(NoAccess::ReadOnly) => unreachable!(),
             Err(NoAccess::Absent) => {
@@ -145,7 +145,7 @@ fn load_page(w: &mut World, slot: Slot, a: u32, word: Word)
     ensures frames { w.new.core.frames ≡ frames_map slot slot (a / 1024) (frames_reserve slot w.old.core.frames) }
 {
     make_page(w, slot, (a / 1024) as u8);
-    w.store(slot.number(), a, word);
+    w.store(slot, a, word);
 }
 
 /// Makes a page of zeros of a slot.
@@ -167,7 +167,7 @@ pub fn calm(w: &mut World, slot: Slot)
     requires kept { Kept w.old }
     ensures { Calmed w.old w.new slot }
 {
-    unwind(w, slot.number());
+    unwind(w, slot);
 }
 
 /// NoJob if a slot is empty.
@@ -175,7 +175,7 @@ pub fn present(w: &World, slot: Slot) -> Result<(), Refusal>
     ensures refused { IfErr result (λ e. (e ≡ Refusal.NoJob) × (job_at w.now.jobs slot ≡ None)) }
     ensures some { OnOk result (is_some (job_at w.now.jobs slot) ≡ true) }
 {
-    if w.registers(slot.number()).is_none() {
+    if w.registers(slot).is_none() {
         return Err(Refusal::NoJob);
     }
     Ok(())

@@ -1,6 +1,5 @@
 //! The jobs below one, unwound.
-ghost use Rattle.std.specs.Prelude.{◌≡◌, ◌<◌};
-ghost use Rattle.its_word.specs.Limits.{slots};
+ghost use Rattle.std.specs.Prelude.{◌≡◌};
 ghost use Rattle.its_records.specs.Tree.{slots_below};
 ghost use Rattle.its_plain.specs.Change.{superiors};
 ghost use Rattle.its_stepped.specs.Sound.{Sound};
@@ -13,11 +12,11 @@ ghost use Rattle.its_pclsr.specs.Pages.{pages_unwound};
 mod tests;
 
 use super::unwinding::unwind;
+use its_word::Slot;
 use its_world::World;
 
 /// Unwinds every job below that of a slot, by slot number.
-pub fn unwind_below(w: &mut World, slot: u8)
-    requires slot { slot < slots }
+pub fn unwind_below(w: &mut World, slot: Slot)
     requires sound { Sound (state_of w.old) }
     requires tidy { Tidy w.old }
     ensures unwinds { state_of w.new ≡ all_unwound (slots_below (superiors (state_of w.old).raw) slot) (state_of w.old) }
@@ -27,8 +26,8 @@ pub fn unwind_below(w: &mut World, slot: u8)
     ensures tidy { Tidy w.new }
 {
     let mut k = 0;
-    while let Some(inferior) = w.jobs.below(slot, k) {
-        unwind(w, inferior);
+    while let Some(inferior) = w.jobs.below(slot.number(), k) {
+        unwind(w, Slot::new(inferior));
         k += 1;
     }
 }

@@ -1,5 +1,4 @@
-ghost use Rattle.std.specs.Prelude.{◌≡◌, ◌≢◌, ◌<◌, ◌≤◌, ◌+◌, ◌∷◌, [], ℕ, true, Some, None, is_some, IfSome, option_map};
-ghost use Rattle.its_word.specs.Limits.{slots};
+ghost use Rattle.std.specs.Prelude.{◌≡◌, ◌≢◌, ◌≤◌, ◌+◌, ◌∷◌, [], ℕ, true, Some, None, is_some, IfSome, option_map};
 ghost use Rattle.its_core.specs.Cores.{core_at, clear_at};
 ghost use Rattle.its_jobs.specs.Table.{job_at};
 ghost use Rattle.its_plain.specs.Arguments.{input};
@@ -24,14 +23,13 @@ use its_calls::{Next, View};
 use its_commit::{first_owed, owns_mark};
 use its_core::Core;
 use its_records::{Ask, Exit, Job, Owed};
-use its_word::{ADDRESSES, Store, Word};
+use its_word::{ADDRESSES, Slot, Store, Word};
 use its_world::World;
 
 /// One step of unwinding of a slot's job, which is inside a call: at most one word of core, one page's
 /// place, one part of a close or the registers change, and the plain machine does not.
 #[tactic(auto, using(crate::proofs::UnwindingLaws::one_fewer, crate::proofs::UnwindingLaws::one_changes, crate::proofs::UnwindingLaws::one_same, crate::proofs::UnwindingLaws::unwind_keeps, crate::proofs::UnwindingLaws::one_pages))]
-pub fn unwind_one(w: &mut World, slot: u8)
-    requires slot { slot < slots }
+pub fn unwind_one(w: &mut World, slot: Slot)
     requires frame { is_some (call_in w.old slot) ≡ true }
     requires sound { Sound (state_of w.old) }
     requires tidy { Tidy w.old }
@@ -50,8 +48,7 @@ pub fn unwind_one(w: &mut World, slot: u8)
 /// The row of a frame.
 #[inline(always)]
 #[tactic(auto, using(crate::proofs::ApartLaws::off_one, crate::proofs::ApartLaws::off_same))]
-fn step(w: &mut World, slot: u8)
-    requires slot { slot < slots }
+fn step(w: &mut World, slot: Slot)
     requires frame { is_some (call_in w.old slot) ≡ true }
     requires sound { Sound (state_of w.old) }
     requires tidy { Tidy w.old }
@@ -102,8 +99,7 @@ fn step(w: &mut World, slot: u8)
 
 /// A call gives back the page that it has reserved, and is as before it was prepared.
 #[tactic(auto, using(crate::proofs::ApartLaws::off_back))]
-fn back(w: &mut World, slot: u8)
-    requires slot { slot < slots }
+fn back(w: &mut World, slot: Slot)
     requires request { is_some (request_in (call_in w.old slot)) ≡ true }
     requires page { is_some (clear_at w.old.core slot) ≡ true }
     requires tidy { Tidy w.old }
@@ -118,8 +114,7 @@ fn back(w: &mut World, slot: u8)
 /// A store is performed for a call, and the call goes on.
 #[inline(always)]
 #[tactic(auto, using(crate::proofs::ApartLaws::off_one))]
-fn pay(w: &mut World, slot: u8, store: Store, next: Next)
-    requires slot { slot < slots }
+fn pay(w: &mut World, slot: Slot, store: Store, next: Next)
     requires job { is_some (job_at w.old.jobs slot) ≡ true }
     requires request { is_some (request_in (call_in w.old slot)) ≡ true }
     requires can { can_store (core_at w.old.core slot) (place store) ≡ true }
@@ -133,8 +128,7 @@ fn pay(w: &mut World, slot: u8, store: Store, next: Next)
 }
 
 /// A store is performed for a call, which then holds no page, and of which this many arguments are pending.
-fn pay_held(w: &mut World, slot: u8, store: Store, owes: u8)
-    requires slot { slot < slots }
+fn pay_held(w: &mut World, slot: Slot, store: Store, owes: u8)
     requires job { is_some (job_at w.old.jobs slot) ≡ true }
     requires request { is_some (request_in (call_in w.old slot)) ≡ true }
     requires can { can_store (core_at w.old.core slot) (place store) ≡ true }
@@ -148,8 +142,7 @@ fn pay_held(w: &mut World, slot: u8, store: Store, owes: u8)
 
 /// Makes a store that can be made. Its address is taken modulo 1000000 (octal).
 #[tactic(auto, using(its_commit::proofs::OwedLaws::one_stored))]
-fn make(w: &mut World, slot: u8, store: Store)
-    requires slot { slot < slots }
+fn make(w: &mut World, slot: Slot, store: Store)
     requires can { can_store (core_at w.old.core slot) (place store) ≡ true }
     ensures { CoreBecomes w.old w.new slot (stored (core_at w.old.core slot) (store ∷ [])) }
 {
@@ -157,13 +150,12 @@ fn make(w: &mut World, slot: u8, store: Store)
 }
 
 /// A held byte in its word, as a store.
-fn held_store(core: &Core, slot: u8, ask: &Ask, at: u32, byte: Word) -> Store
-    requires slot { slot < slots }
+fn held_store(core: &Core, slot: Slot, ask: &Ask, at: u32, byte: Word) -> Store
     requires pays { MovingPays (core_at core.now slot) (clear_at core.now slot) ask.now at }
     ensures { result ≡ deposited (core_at core.now slot) (input ask.now 1) (held_at at byte) }
 {
     let pointer = ask.inputs[1].value;
-    match core.get(slot, at) {
+    match core.get(slot.number(), at) {
         Ok(word) => Store {
             at,
             word: deposit(pointer, word, byte.value()),
@@ -174,8 +166,7 @@ fn held_store(core: &Core, slot: u8, ask: &Ask, at: u32, byte: Word) -> Store
 
 /// The first step that is still pending of a call that has ended is performed.
 #[tactic(auto, using(crate::proofs::ApartLaws::off_one, crate::proofs::ApartLaws::off_back, crate::proofs::ApartLaws::off_alike, crate::proofs::ApartLaws::off_then))]
-fn unwind_ending(w: &mut World, slot: u8)
-    requires slot { slot < slots }
+fn unwind_ending(w: &mut World, slot: Slot)
     requires ending { is_some (ending_in (call_in w.old slot)) ≡ true }
     requires sound { Sound (state_of w.old) }
     requires tidy { Tidy w.old }
@@ -197,8 +188,7 @@ fn unwind_ending(w: &mut World, slot: u8)
 }
 
 /// Takes the first step that is still pending.
-fn take_step(w: &mut World, slot: u8) -> Owed
-    requires slot { slot < slots }
+fn take_step(w: &mut World, slot: Slot) -> Owed
     requires ending { is_some (ending_in (call_in w.old slot)) ≡ true }
     requires sound { Sound (state_of w.old) }
     requires tidy { Tidy w.old }
@@ -244,8 +234,7 @@ fn free(w: &mut World)
 
 /// A job gets the registers that it leaves a call with.
 #[tactic(auto, using(crate::proofs::ApartLaws::off_one, crate::proofs::ApartLaws::off_same))]
-fn leave(w: &mut World, slot: u8, e: Exit)
-    requires slot { slot < slots }
+fn leave(w: &mut World, slot: Slot, e: Exit)
     requires job { is_some (job_at w.old.jobs slot) ≡ true }
     requires tidy { Tidy w.old }
     ensures made { IfSome (job_at w.old.jobs slot) (λ j. JobBecomes w.old w.new slot (after_exit e j)) }
@@ -279,8 +268,7 @@ fn left_with(job: Job, e: &Exit) -> Job
 /// at the call (unstarted); then with the words of its last arguments stored, so that the call does the rest
 /// when it is made again; once the call has ended with all of it done (finished).
 #[tactic(auto, using(crate::proofs::UnwindingLaws::all_same, crate::proofs::UnwindingLaws::all_keeps, crate::proofs::UnwindingLaws::all_none, crate::proofs::UnwindingLaws::all_others, crate::proofs::UnwindingLaws::all_few, crate::proofs::UnwindingLaws::all_left, crate::proofs::UnwindingLaws::all_pages))]
-pub fn unwind(w: &mut World, slot: u8)
-    requires slot { slot < slots }
+pub fn unwind(w: &mut World, slot: Slot)
     requires sound { Sound (state_of w.old) }
     requires tidy { Tidy w.old }
     ensures unwinds { state_of w.new ≡ unwound (state_of w.old) slot }
@@ -299,8 +287,7 @@ pub fn unwind(w: &mut World, slot: u8)
 
 /// Step after step, until the slot has no frame.
 #[tactic(auto, using(crate::proofs::ApartLaws::off_same, crate::proofs::ApartLaws::off_then))]
-fn run(w: &mut World, slot: u8)
-    requires slot { slot < slots }
+fn run(w: &mut World, slot: Slot)
     requires sound { Sound (state_of w.old) }
     requires tidy { Tidy w.old }
     ensures row { state_of w.new ≡ unwound (state_of w.old) slot }

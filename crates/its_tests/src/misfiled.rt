@@ -76,7 +76,7 @@ fn put_in(rings: &mut Links, slot: Slot)
 fn waits(w: &World, slot: Slot) -> bool
     ensures { IsTrue result → is_waiting (call_in w.now slot) ≡ true }
 {
-    matches!(w.frame(slot.number()), View::Waiting { .. })
+    matches!(w.frame(slot), View::Waiting { .. })
 }
 
 /// Puts a slot back into the list of those that wait for input of console 0; whether its call was found not ready.

@@ -1,7 +1,6 @@
 -- In which frames the pages are after each step of a tick.
-use Rattle.std.specs.Prelude.{if◌then◌else◌, ◌≡◌, ◌≤◌, ℕ, Bool, true, false, Option, Some, None, IfSome, List, [], ◌∷◌, ◌++◌, is_some, length, nat_lt, slice_index_or, refl}
+use Rattle.std.specs.Prelude.{if◌then◌else◌, ◌≡◌, ℕ, Bool, true, false, Option, Some, None, IfSome, List, [], ◌∷◌, ◌++◌, is_some, nat_lt, slice_index_or, refl}
 use Rattle.std.proofs.Common.{sym, ◌∙◌, ap, subst}
-use Rattle.std.proofs.lemmas.List.{get_or_past}
 use Rattle.its_records.specs.declared.calls.Ask.{Ask}
 use Rattle.its_records.specs.declared.jobs.Job.{Job}
 use Rattle.its_word.specs.Core.{Core}
@@ -45,9 +44,6 @@ none_back (Some n) s f h = cc
 
 user_pages : (w : World) (s : ℕ) → Sound (state_of w) → (state_of w).frames s ≡ None → w.core.frames ≡ frames_after ((state_of w).reserved s) None s w.core.frames
 user_pages w s sound e = none_back ((state_of w).reserved s) s w.core.frames (user_page ((state_of w).raw.jobs s) ((state_of w).frames s) ((state_of w).reserved s) e (sound.each s).by)
-
-pub past_pages : (w : World) (s : ℕ) → Sound (state_of w) → length w.frames.items ≤ s → w.core.frames ≡ frames_after ((state_of w).reserved s) None s w.core.frames
-past_pages w s sound h = user_pages w s sound (frame_is w s ∙ get_or_past w.frames.items s None h)
 
 pub still_pages : (w : World) (s : ℕ) → Sound (state_of w) → is_some (frame_at w.frames.items s) ≡ false → w.core.frames ≡ frames_after ((state_of w).reserved s) None s w.core.frames
 still_pages w s sound h = user_pages w s sound (frame_is w s ∙ none_is (frame_at w.frames.items s) h)

@@ -1,7 +1,6 @@
 -- Unwinding the jobs that a call reaches.
-use Rattle.std.specs.Prelude.{◌≡◌, ◌≤◌, ℕ, false, Option, Some, None, is_some, List, [], ◌∷◌, ◌++◌, refl, length}
+use Rattle.std.specs.Prelude.{◌≡◌, ℕ, false, Option, Some, None, is_some, List, [], ◌∷◌, ◌++◌, refl}
 use Rattle.std.proofs.Common.{sym, ◌∙◌, ap}
-use Rattle.std.proofs.lemmas.List.{get_or_past}
 use Rattle.its_records.specs.Tree.{slots_below}
 use Rattle.its_plain.specs.Change.{superiors}
 use Rattle.its_plain.specs.Decide.{listed}
@@ -12,9 +11,6 @@ use Rattle.its_world.specs.World.{state_of, raw_at, frame_at}
 use Rattle.its_world.specs.declared.world.World.{World}
 use Rattle.its_world.proofs.StorageLaws.{frame_is}
 use Rattle.its_records.proofs.FreeLaws.{none_is}
-
-pub calm_past : (w : World) (s : ℕ) → length w.frames.items ≤ s → state_of w ≡ unwound (state_of w) s
-calm_past w s h = sym (unwound_still (state_of w) s (frame_is w s ∙ get_or_past w.frames.items s None h))
 
 pub calm_still : (w : World) (s : ℕ) → is_some (frame_at w.frames.items s) ≡ false → state_of w ≡ unwound (state_of w) s
 calm_still w s h = sym (unwound_still (state_of w) s (frame_is w s ∙ none_is (frame_at w.frames.items s) h))

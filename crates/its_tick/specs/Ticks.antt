@@ -1,7 +1,6 @@
 -- What the parts of a tick do to a world.
 -- No promise rests on this.
 use Rattle.std.specs.Prelude.{if◌then◌else◌, ◌≡◌, ◌==◌, ◌<◌, ℕ, Bool, true, false, Option, Some, None, IfSome, Result, Ok, Err, List, [], ◌∷◌, ◌++◌}
-use Rattle.its_word.specs.Limits.{slots}
 use Rattle.its_records.specs.Tree.{slots_below}
 use Rattle.its_word.specs.declared.access.Fault.{Fault}
 use Rattle.its_records.specs.declared.jobs.Channel.{Channel}
@@ -114,11 +113,6 @@ slots_in Nobody m j superior = []
 slots_in (OneJob s) m j superior = s ∷ []
 slots_in (Branch s) m j superior = with_below m (Some s)
 slots_in Tree m j superior = slots_below (superiors m) j ++ listed superior
-
--- the root of a branch has one of the slots that there are
-abbrev pub RootFits : Reach → Type 0
-RootFits (Branch s) = s < slots
-RootFits _ = Unit {0}
 
 -- the call that is asked for; none if its decoding gave an error
 abbrev pub call_asked : Ask → Option CallName

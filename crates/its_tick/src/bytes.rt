@@ -1,6 +1,5 @@
 //! Bytes that SIOT moves, one after another.
-ghost use Rattle.std.specs.Prelude.{◌≡◌, ◌<◌, ◌≤◌, true, IfSome, is_some};
-ghost use Rattle.its_word.specs.Limits.{slots};
+ghost use Rattle.std.specs.Prelude.{◌≡◌, ◌≤◌, true, IfSome, is_some};
 ghost use Rattle.its_commit.specs.Carried.{standing_of};
 ghost use Rattle.its_stepped.specs.Duty.{IsTried};
 ghost use Rattle.its_world.specs.World.{call_in};
@@ -11,13 +10,13 @@ use call_basic::change_of;
 use call_core::{is_siot, part};
 use its_calls::View;
 use its_commit::{carry_part, standing};
+use its_word::Slot;
 use its_world::World;
 
 /// As many bytes of SIOT as can be moved one after another, n at most; how many. Each is moved by a tick with the letter `*`. None is moved if the
 /// call of the slot is another one, or if its next tick does anything else.
 #[inline(always)]
-pub fn bytes(w: &mut World, slot: u8, n: u32) -> u32
-    requires slot { slot < slots }
+pub fn bytes(w: &mut World, slot: Slot, n: u32) -> u32
     requires kept { Kept w.old }
     requires frame { is_some (call_in w.old slot) ≡ true }
     ensures few { result ≤ n }
@@ -31,8 +30,7 @@ pub fn bytes(w: &mut World, slot: u8, n: u32) -> u32
 
 /// The same, whatever the call is: the loop.
 #[inline(never)]
-fn run_bytes(w: &mut World, slot: u8, n: u32) -> u32
-    requires slot { slot < slots }
+fn run_bytes(w: &mut World, slot: Slot, n: u32) -> u32
     requires kept { Kept w.old }
     requires frame { is_some (call_in w.old slot) ≡ true }
     ensures few { result ≤ n }
@@ -47,12 +45,11 @@ fn run_bytes(w: &mut World, slot: u8, n: u32) -> u32
 }
 
 /// A tick that moves a byte of SIOT, if the next tick of a slot's job does that by one change; whether it does. If not, nothing changes.
-fn makes_byte(w: &mut World, slot: u8) -> bool
-    requires slot { slot < slots }
+fn makes_byte(w: &mut World, slot: Slot) -> bool
     requires kept { Kept w.old }
     ensures { ByteMadeIf result w.old w.new slot }
 {
-    let Some(job) = w.jobs.job(slot) else {
+    let Some(job) = w.jobs.job(slot.number()) else {
         return false;
     };
     if job.stopped {
@@ -66,8 +63,7 @@ fn makes_byte(w: &mut World, slot: u8) -> bool
 
 /// Whether the call of a slot is SIOT, and is held without a page.
 #[inline(always)]
-fn is_moving(w: &World, slot: u8) -> bool
-    requires slot { slot < slots }
+fn is_moving(w: &World, slot: Slot) -> bool
     ensures stands { result ≡ true → is_some (standing_of (call_in w.now slot)) ≡ true }
     ensures clear { result ≡ true → IfSome (standing_of (call_in w.now slot)) (λ f. IsTried f.page) }
 {
@@ -84,8 +80,7 @@ fn is_moving(w: &World, slot: u8) -> bool
 /// Moves the next byte of SIOT, if there is one that is moved by one change; whether it did. It needs neither a world that is made ready nor a
 /// decision as a value.
 #[tactic(auto, using(crate::proofs::TrialLaws::stands_job))]
-fn moves(w: &mut World, slot: u8) -> bool
-    requires slot { slot < slots }
+fn moves(w: &mut World, slot: Slot) -> bool
     requires kept { Kept w.old }
     requires stands { is_some (standing_of (call_in w.old slot)) ≡ true }
     requires clear { IfSome (standing_of (call_in w.old slot)) (λ f. IsTried f.page) }

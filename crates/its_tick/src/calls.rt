@@ -1,7 +1,6 @@
 //! Ticks of a job inside a call: its decoding in two steps, its preparation, its trials, and its pending steps. The frame stays in its
 //! place: a tick reads what it needs, and writes what it changes.
 ghost use Rattle.std.specs.Prelude.{if◌then◌else◌, ◌≡◌, ◌<◌, ◌+◌, Some, None, IfSome, IfErr, is_some, true, false, length};
-ghost use Rattle.its_word.specs.Limits.{slots};
 ghost use Rattle.its_calls.specs.Calls.{entered_in, parsed_in};
 ghost use Rattle.its_core.specs.Cores.{clear_at};
 ghost use Rattle.its_jobs.specs.Table.{job_at};
@@ -26,7 +25,7 @@ use its_commit::{carry_out, standing};
 use its_frame::Decision;
 use its_pclsr::unwind_one;
 use its_records::Pace;
-use its_word::Fault;
+use its_word::{Fault, Slot};
 use its_world::World;
 
 /// The quarters of a page.
@@ -34,8 +33,7 @@ const QUARTERS: u8 = 4;
 
 /// A tick of a slot's job that is inside a call.
 #[inline(never)]
-pub fn in_call(w: &mut World, slot: u8) -> Pace
-    requires slot { slot < slots }
+pub fn in_call(w: &mut World, slot: Slot) -> Pace
     requires kept { Kept w.old }
     requires running { IfSome (job_at w.old.jobs slot) (λ j. j.stopped ≡ false) }
     requires frame { is_some (call_in w.old slot) ≡ true }
@@ -64,8 +62,7 @@ pub fn in_call(w: &mut World, slot: u8) -> Pace
 /// One of the pending steps of a call.
 #[inline(never)]
 #[tactic(auto, using(crate::proofs::CallLaws::tidy_of))]
-fn pay(w: &mut World, slot: u8) -> Pace
-    requires slot { slot < slots }
+fn pay(w: &mut World, slot: Slot) -> Pace
     requires kept { Kept w.old }
     requires frame { is_some (call_in w.old slot) ≡ true }
     ensures row { state_of w.new ≡ unwind_one_of (state_of w.old) slot }
@@ -79,8 +76,7 @@ fn pay(w: &mut World, slot: u8) -> Pace
 
 /// The block of a call is read.
 #[inline(never)]
-fn parse(w: &mut World, slot: u8) -> Pace
-    requires slot { slot < slots }
+fn parse(w: &mut World, slot: Slot) -> Pace
     requires kept { Kept w.old }
     requires frame { is_some (entered_in (call_in w.old slot)) ≡ true }
     ensures row { IfSome (raw_in w.old slot) (λ q. tick_in (state_of w.old) slot q (call_in w.old slot) ≡ ticked (state_of w.new) result) }
@@ -93,8 +89,7 @@ fn parse(w: &mut World, slot: u8) -> Pace
 
 /// The addresses and values of a call's arguments are found.
 #[inline(never)]
-fn fetch(w: &mut World, slot: u8) -> Pace
-    requires slot { slot < slots }
+fn fetch(w: &mut World, slot: Slot) -> Pace
     requires kept { Kept w.old }
     requires frame { is_some (parsed_in (call_in w.old slot)) ≡ true }
     ensures row { IfSome (raw_in w.old slot) (λ q. tick_in (state_of w.old) slot q (call_in w.old slot) ≡ ticked (state_of w.new) result) }
@@ -107,8 +102,7 @@ fn fetch(w: &mut World, slot: u8) -> Pace
 
 /// The letter of a step of the decoding. At a fault the job, which is in user mode again, gets its bit.
 #[inline]
-fn decoded(w: &mut World, slot: u8, answer: Result<(), Fault>) -> Pace
-    requires slot { slot < slots }
+fn decoded(w: &mut World, slot: Slot, answer: Result<(), Fault>) -> Pace
     requires job { is_some (job_at w.old.jobs slot) ≡ true }
     requires frame { IfErr answer (λ f. call_in w.old slot ≡ None) }
     requires tidy { Tidy w.old }
@@ -129,8 +123,7 @@ fn decoded(w: &mut World, slot: u8, answer: Result<(), Fault>) -> Pace
 /// Sets the bit of a fault in a slot's job.
 #[inline(never)]
 #[tactic(auto, using(its_commit::proofs::TidyLaws::becomes_pages, crate::proofs::CallLaws::fault_set))]
-fn set_fault(w: &mut World, slot: u8, fault: Fault)
-    requires slot { slot < slots }
+fn set_fault(w: &mut World, slot: Slot, fault: Fault)
     requires job { is_some (job_at w.old.jobs slot) ≡ true }
     requires frame { call_in w.old slot ≡ None }
     requires tidy { Tidy w.old }
@@ -146,8 +139,7 @@ fn set_fault(w: &mut World, slot: u8, fault: Fault)
 
 /// Prepares the call to be tried: one that makes a page reserves it.
 #[inline(never)]
-fn prepare(w: &mut World, slot: u8, page: bool) -> Pace
-    requires slot { slot < slots }
+fn prepare(w: &mut World, slot: Slot, page: bool) -> Pace
     requires kept { Kept w.old }
     requires frame { is_some (asked_in (call_in w.old slot)) ≡ true }
     requires page { IfSome (asked_in (call_in w.old slot)) (λ a. page ≡ reserves a) }
@@ -178,18 +170,16 @@ fn prepare(w: &mut World, slot: u8, page: bool) -> Pace
 
 /// Reserves a page for a slot, none of whose quarters is clear.
 #[tactic(auto, using(its_core::proofs::ZeroLaws::clear_unreserved))]
-fn reserve(w: &mut World, slot: u8)
-    requires slot { slot < slots }
+fn reserve(w: &mut World, slot: Slot)
     requires none { clear_at w.old.core slot ≡ None }
     ensures { PageBecomes w.old w.new slot (Some 0) }
 {
-    w.core.reserve(slot);
+    w.core.reserve(slot.number());
 }
 
 /// Clears the next quarter of the page that the call of a slot has reserved.
 #[inline(never)]
-fn clear_next(w: &mut World, slot: u8, clear: u8, owes: u8) -> Pace
-    requires slot { slot < slots }
+fn clear_next(w: &mut World, slot: Slot, clear: u8, owes: u8) -> Pace
     requires kept { Kept w.old }
     requires quarter { clear < 4 }
     requires holds { IsClearing (call_in w.old slot) clear owes }
@@ -210,20 +200,18 @@ fn clear_next(w: &mut World, slot: u8, clear: u8, owes: u8) -> Pace
 
 /// Clears the next quarter of the page that a slot has reserved.
 #[tactic(auto, using(its_world::proofs::WorldLaws::reserved_some, crate::proofs::PageLaws::quarter_cleared))]
-fn clear_quarter(w: &mut World, slot: u8, q: u8)
-    requires slot { slot < slots }
+fn clear_quarter(w: &mut World, slot: Slot, q: u8)
     requires quarter { q < 4 }
     requires page { clear_at w.old.core slot ≡ Some q }
     ensures { PageBecomes w.old w.new slot (Some (q + 1)) }
 {
-    w.core.clear_quarter(slot, q);
+    w.core.clear_quarter(slot.number(), q);
 }
 
 /// A call that is held is tried. If it is SIOT, most trials move one byte, and need neither a world that is made ready nor a decision as a
 /// value.
 #[inline]
-fn attempt_held(w: &mut World, slot: u8) -> Pace
-    requires slot { slot < slots }
+fn attempt_held(w: &mut World, slot: Slot) -> Pace
     requires kept { Kept w.old }
     requires running { IfSome (job_at w.old.jobs slot) (λ j. j.stopped ≡ false) }
     requires stands { is_some (standing_of (call_in w.old slot)) ≡ true }
@@ -241,8 +229,7 @@ fn attempt_held(w: &mut World, slot: u8) -> Pace
 
 /// A call is tried: the world is made ready for it, it is decided, and that is carried out.
 #[inline(never)]
-fn attempt(w: &mut World, slot: u8) -> Pace
-    requires slot { slot < slots }
+fn attempt(w: &mut World, slot: Slot) -> Pace
     requires kept { Kept w.old }
     requires stands { is_some (standing_of (call_in w.old slot)) ≡ true }
     requires clear { IfSome (standing_of (call_in w.old slot)) (λ f. IsTried f.page) }
@@ -258,8 +245,7 @@ fn attempt(w: &mut World, slot: u8) -> Pace
 }
 
 /// The decision of the call in the frame of a slot.
-fn decide_in(w: &World, slot: u8) -> Decision
-    requires slot { slot < slots }
+fn decide_in(w: &World, slot: Slot) -> Decision
     requires job { is_some (job_at w.now.jobs slot) ≡ true }
     requires stands { is_some (standing_of (call_in w.now slot)) ≡ true }
     requires tidy { Tidy w.now }

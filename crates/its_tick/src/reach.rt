@@ -1,6 +1,5 @@
 //! The jobs that the commit of a call disturbs, beside its caller.
-ghost use Rattle.std.specs.Prelude.{◌≡◌, ◌<◌, Some, None, IfSome, is_some, true, false};
-ghost use Rattle.its_word.specs.Limits.{slots};
+ghost use Rattle.std.specs.Prelude.{◌≡◌, Some, None, IfSome, is_some, true, false};
 ghost use Rattle.its_jobs.specs.Table.{job_at, superior_at};
 ghost use Rattle.its_world.specs.Tidy.{Tidy};
 ghost use Rattle.its_pclsr.specs.Pages.{pages_unwound};
@@ -9,13 +8,13 @@ ghost use Rattle.its_stepped.specs.Forest.{Forest};
 ghost use Rattle.its_stepped.specs.Sound.{Sound};
 ghost use Rattle.its_stepped.specs.Unwind.{all_unwound, unwound};
 ghost use Rattle.its_world.specs.World.{frames_after, state_of, raw_in};
-ghost use Rattle.its_tick.specs.Ticks.{call_asked, closes_job, logs_out, slots_in, RootFits};
+ghost use Rattle.its_tick.specs.Ticks.{call_asked, closes_job, logs_out, slots_in};
 
 use call_basic::target_of;
 use its_frame::CallName;
 use its_pclsr::{unwind, unwind_below};
 use its_records::Ask;
-use its_word::SLOTS;
+use its_word::Slot;
 use its_world::World;
 
 /// The jobs that a call reaches: the one that its argument names, of UCLOSE with all jobs below it; or of LOGOUT all jobs
@@ -23,16 +22,14 @@ use its_world::World;
 #[derive(Clone, Copy, Debug, PartialEq, Eq)]
 pub enum Reach {
     Nobody,
-    Job(u8),
-    Branch(u8),
+    Job(Slot),
+    Branch(Slot),
     Tree,
 }
 
 /// Unwinds the jobs that a call of a slot's job reaches.
 #[tactic(auto, using(crate::proofs::ReachLaws::nobody_unwound, crate::proofs::ReachLaws::one_unwound))]
-pub fn unwind_reach(w: &mut World, slot: u8, reach: Reach)
-    requires slot { slot < slots }
-    requires root { RootFits reach }
+pub fn unwind_reach(w: &mut World, slot: Slot, reach: Reach)
     requires sound { Sound (state_of w.old) }
     requires tidy { Tidy w.old }
     ensures row { state_of w.new ≡ all_unwound (slots_in reach (state_of w.old).raw slot (superior_at w.old.jobs slot)) (state_of w.old) }
@@ -50,8 +47,7 @@ pub fn unwind_reach(w: &mut World, slot: u8, reach: Reach)
 /// Unwinds the jobs below a slot's job, and that one.
 #[inline(never)]
 #[tactic(auto, using(crate::proofs::ReachLaws::branch_unwound))]
-fn unwind_branch(w: &mut World, root: u8)
-    requires slot { root < slots }
+fn unwind_branch(w: &mut World, root: Slot)
     requires sound { Sound (state_of w.old) }
     requires tidy { Tidy w.old }
     ensures row { state_of w.new ≡ all_unwound (with_below (state_of w.old).raw (Some root)) (state_of w.old) }
@@ -65,25 +61,24 @@ fn unwind_branch(w: &mut World, root: u8)
 /// Unwinds the jobs below a slot's job, and its superior.
 #[inline(never)]
 #[tactic(auto, using(crate::proofs::FramesLaws::root_pages, crate::proofs::ReachLaws::tree_unwound, crate::proofs::ReachLaws::root_unwound))]
-fn unwind_tree(w: &mut World, slot: u8)
-    requires slot { slot < slots }
+fn unwind_tree(w: &mut World, slot: Slot)
     requires sound { Sound (state_of w.old) }
     requires tidy { Tidy w.old }
     ensures row { state_of w.new ≡ all_unwound (slots_in Reach.Tree (state_of w.old).raw slot (superior_at w.old.jobs slot)) (state_of w.old) }
     ensures pages { w.new.core.frames ≡ pages_unwound (slots_in Reach.Tree (state_of w.old).raw slot (superior_at w.old.jobs slot)) (state_of w.old) w.old.core.frames }
     ensures tidy { Tidy w.new }
 {
-    let superior = w.jobs.superior(slot);
+    let superior = w.jobs.superior(slot.number());
     unwind_below(w, slot);
     if let Some(superior) = superior {
-        calm(w, superior);
+        calm(w, Slot::new(superior));
     }
 }
 
-/// Unwinds the job of a slot, if there is one and it is inside a call.
+/// Unwinds the job of a slot, if it is inside a call.
 #[inline(never)]
-#[tactic(auto, using(crate::proofs::FramesLaws::past_pages, crate::proofs::FramesLaws::still_pages, crate::proofs::ReachLaws::calm_past, crate::proofs::ReachLaws::calm_still))]
-pub fn calm(w: &mut World, slot: u8)
+#[tactic(auto, using(crate::proofs::FramesLaws::still_pages, crate::proofs::ReachLaws::calm_still))]
+pub fn calm(w: &mut World, slot: Slot)
     requires sound { Sound (state_of w.old) }
     requires tidy { Tidy w.old }
     ensures row { state_of w.new ≡ unwound (state_of w.old) slot }
@@ -91,19 +86,17 @@ pub fn calm(w: &mut World, slot: u8)
     ensures pages { w.new.core.frames ≡ frames_after ((state_of w.old).reserved slot) None slot w.old.core.frames }
     ensures tidy { Tidy w.new }
 {
-    if usize::from(slot) < SLOTS && w.has_frame(slot) {
+    if w.has_frame(slot) {
         unwind(w, slot);
     }
 }
 
 /// Whom a call of a slot's job reaches: nobody, if its name says so.
-pub fn reach_of(w: &World, slot: u8, ask: &Ask, call: CallName) -> Reach
-    requires slot { slot < slots }
+pub fn reach_of(w: &World, slot: Slot, ask: &Ask, call: CallName) -> Reach
     requires job { is_some (job_at w.now.jobs slot) ≡ true }
     requires forest { Forest (state_of w.now).raw }
     requires call { call_asked ask.now ≡ Some call }
     ensures slots { IfSome (raw_in w.now slot) (λ q. slots_in result (state_of w.now).raw slot (superior_at w.now.jobs slot) ≡ reach (state_of w.now).raw slot q ask.now) }
-    ensures root { RootFits result }
 {
     if logs_out(call) {
         return Reach::Tree;
@@ -115,18 +108,16 @@ pub fn reach_of(w: &World, slot: u8, ask: &Ask, call: CallName) -> Reach
 }
 
 /// Whom a call reaches that is not LOGOUT.
-fn reach_into(w: &World, slot: u8, ask: &Ask, call: CallName) -> Reach
-    requires slot { slot < slots }
+fn reach_into(w: &World, slot: Slot, ask: &Ask, call: CallName) -> Reach
     requires job { is_some (job_at w.now.jobs slot) ≡ true }
     requires forest { Forest (state_of w.now).raw }
     requires call { call_asked ask.now ≡ Some call }
     requires stays { logs_out call ≡ false }
     ensures slots { IfSome (raw_in w.now slot) (λ q. slots_in result (state_of w.now).raw slot (superior_at w.now.jobs slot) ≡ reach (state_of w.now).raw slot q ask.now) }
-    ensures root { RootFits result }
 {
     match target_of(w, slot, ask) {
-        Some(target) if closes_job(call) => Reach::Branch(target),
-        Some(target) => Reach::Job(target),
+        Some(target) if closes_job(call) => Reach::Branch(Slot::new(target)),
+        Some(target) => Reach::Job(Slot::new(target)),
         None => Reach::Nobody,
     }
 }

@@ -1,5 +1,4 @@
 ghost use Rattle.std.specs.Prelude.{◌≡◌, ◌<◌, ◌≤◌, ◌⊎◌, ◌↔◌, ℕ, true, false, IsTrue, replicate};
-ghost use Rattle.its_word.specs.Limits.{slots};
 ghost use Rattle.its_world.specs.Tidy.{Tidy};
 ghost use Rattle.its_plain.specs.Licence.{Licensed};
 ghost use Rattle.its_plain.specs.Turns.{runs};
@@ -19,12 +18,12 @@ use super::users::{deliver_to, make_unit, units_in_place};
 use its_calls::View;
 use its_ints::deliverable;
 use its_records::Pace;
+use its_word::Slot;
 use its_world::World;
 
 /// A tick of a slot, and its letter. A slot whose call was found not ready and that is on a wait list waits on: its tick asks the list
 /// alone.
-pub fn tick(w: &mut World, slot: u8) -> Pace
-    requires slot { slot < slots }
+pub fn tick(w: &mut World, slot: Slot) -> Pace
     requires can { Kept w.old ⊎ InRing w.old slot }
     ensures state { Kept w.old → state_of w.new ≡ (tick_of (state_of w.old) slot).state }
     ensures pace { Kept w.old → result ≡ (tick_of (state_of w.old) slot).pace }
@@ -43,8 +42,7 @@ pub fn tick(w: &mut World, slot: u8) -> Pace
 
 /// Whether the call of a slot was found not ready, and the slot is on a wait list. Then each of its ticks is `w`, and changes nothing.
 #[inline]
-pub fn waits_on(w: &World, slot: u8) -> bool
-    requires slot { slot < slots }
+pub fn waits_on(w: &World, slot: Slot) -> bool
     requires can { Kept w.now ⊎ InRing w.now slot }
     ensures yes { IsTrue result → InRing w.now slot }
     ensures no { result ≡ false → InRing w.now slot → ⊥ }
@@ -59,8 +57,7 @@ pub fn waits_on(w: &World, slot: u8) -> bool
 /// is delivered if one is deliverable, and else a unit is executed; inside a call its next step is performed. Nothing
 /// is done if the slot is empty or its job is stopped (`Off`).
 #[tactic(auto, using(crate::proofs::TickLaws::state_ticked, crate::proofs::TickLaws::pace_ticked, crate::proofs::TickLaws::tick_licensed, crate::proofs::BesideLaws::all_beside, crate::proofs::TickLaws::tick_kept))]
-fn go_on(w: &mut World, slot: u8) -> Pace
-    requires slot { slot < slots }
+fn go_on(w: &mut World, slot: Slot) -> Pace
     requires kept { Kept w.old }
     ensures state { state_of w.new ≡ (tick_of (state_of w.old) slot).state }
     ensures pace { result ≡ (tick_of (state_of w.old) slot).pace }
@@ -75,14 +72,13 @@ fn go_on(w: &mut World, slot: u8) -> Pace
 /// What a tick does, and its letter.
 #[inline(always)]
 #[tactic(auto, using(crate::proofs::FramesLaws::frames_absent, crate::proofs::FramesLaws::frames_stopped, crate::proofs::TickLaws::tick_absent, crate::proofs::TickLaws::tick_stopped, crate::proofs::TickLaws::tick_call, crate::proofs::TickLaws::tick_delivery, crate::proofs::TickLaws::tick_unit))]
-fn one_tick(w: &mut World, slot: u8) -> Pace
-    requires slot { slot < slots }
+fn one_tick(w: &mut World, slot: Slot) -> Pace
     requires kept { Kept w.old }
     ensures row { tick_of (state_of w.old) slot ≡ ticked (state_of w.new) result }
     ensures pages { w.new.core.frames ≡ pages_ticked (state_of w.old) slot w.old.core.frames }
     ensures tidy { Tidy w.new }
 {
-    let Some(job) = w.jobs.job(slot) else {
+    let Some(job) = w.jobs.job(slot.number()) else {
         return Pace::Off;
     };
     if job.stopped {
@@ -103,8 +99,7 @@ fn one_tick(w: &mut World, slot: u8) -> Pace
 /// many. The state is that of so many ticks, each with the letter `*`. None is made if the slot is empty, its job is stopped or inside another
 /// call, or an interrupt is deliverable in user mode.
 #[tactic(auto, using(crate::proofs::UserLaws::user_addressed, crate::proofs::StepsLaws::due_absent, crate::proofs::StepsLaws::due_stopped, crate::proofs::StepsLaws::due_framed))]
-pub fn steps(w: &mut World, slot: u8, n: u32) -> u32
-    requires slot { slot < slots }
+pub fn steps(w: &mut World, slot: Slot, n: u32) -> u32
     requires kept { Kept w.old }
     ensures few { result ≤ n }
     ensures state { state_of w.new ≡ so_many (state_of w.old) slot result }
@@ -113,7 +108,7 @@ pub fn steps(w: &mut World, slot: u8, n: u32) -> u32
     ensures pages { w.new.core.frames ≡ w.old.core.frames }
     ensures kept { Kept w.new }
 {
-    let Some(job) = w.jobs.job(slot) else {
+    let Some(job) = w.jobs.job(slot.number()) else {
         return 0;
     };
     if job.stopped {
@@ -127,12 +122,11 @@ pub fn steps(w: &mut World, slot: u8, n: u32) -> u32
 
 /// Whether a slot has a job that is not stopped. It disturbs nobody: nothing changes.
 #[tactic(auto, using(crate::proofs::RunningLaws::job_runs, crate::proofs::RunningLaws::empty_rests, its_stepped::proofs::SessionLaws::runs_plain))]
-pub fn running(w: &World, slot: u8) -> bool
-    requires slot { slot < slots }
+pub fn running(w: &World, slot: Slot) -> bool
     ensures raw { result ≡ runs (state_of w.now).raw slot }
     ensures plain { result ≡ runs (plain_of w.now) slot }
 {
-    match w.jobs.job(slot) {
+    match w.jobs.job(slot.number()) {
         Some(job) => !job.stopped,
         None => false,
     }

@@ -1,6 +1,5 @@
 //! Ticks of a job in user mode.
 ghost use Rattle.std.specs.Prelude.{◌≡◌, ◌≢◌, ◌<◌, ◌≤◌, ◌^◌, ℕ, true, false, Some, None, IfSome, is_some, if◌then◌else◌};
-ghost use Rattle.its_word.specs.Limits.{slots};
 ghost use Rattle.its_core.specs.Cores.{core_at};
 ghost use Rattle.its_jobs.specs.Table.{job_at, superior_at};
 ghost use Rattle.its_world.specs.Tidy.{Tidy};
@@ -30,8 +29,7 @@ use pdp_exec::{Near, call_at_hand, run_units, site};
 
 /// The delivery of an interrupt to a slot's job with these registers.
 #[inline(never)]
-pub fn deliver_to(w: &mut World, slot: u8, job: Job)
-    requires slot { slot < slots }
+pub fn deliver_to(w: &mut World, slot: Slot, job: Job)
     requires kept { Kept w.old }
     requires job { job_at w.old.jobs slot ≡ Some job }
     requires frame { call_in w.old slot ≡ None }
@@ -48,8 +46,7 @@ pub fn deliver_to(w: &mut World, slot: u8, job: Job)
 }
 
 /// Delivers on the core of a slot; says whether a fatal bit stopped the job.
-fn run_delivery(w: &mut World, slot: u8, job: &mut Job) -> bool
-    requires slot { slot < slots }
+fn run_delivery(w: &mut World, slot: Slot, job: &mut Job) -> bool
     requires some { is_some (job_at w.old.jobs slot) ≡ true }
     requires deliverable { deliverable job.old ≡ true }
     requires tidy { Tidy w.old }
@@ -58,13 +55,12 @@ fn run_delivery(w: &mut World, slot: u8, job: &mut Job) -> bool
     ensures stops { result ≡ (delivered (core_at w.old.core slot) job.old).stops }
     ensures tidy { Tidy w.new }
 {
-    deliver(&mut w.core, Slot::new(slot), job)
+    deliver(&mut w.core, slot, job)
 }
 
 /// Writes the registers of a slot's job except its channels.
 #[tactic(auto, using(its_commit::proofs::TidyLaws::becomes_pages, crate::proofs::UserLaws::written_back))]
-fn put_back(w: &mut World, slot: u8, job: Job)
-    requires slot { slot < slots }
+fn put_back(w: &mut World, slot: Slot, job: Job)
     requires some { is_some (job_at w.old.jobs slot) ≡ true }
     requires tidy { Tidy w.old }
     ensures registers { IfSome (job_at w.old.jobs slot) (λ j. JobBecomes w.old w.new slot (with_channels j.channels job)) }
@@ -99,24 +95,22 @@ fn with_channels(now: Job, job: Job) -> Job
 
 /// Sets INF in the superior of a slot's job, if it has one. It is unwound first.
 #[tactic(auto, using(crate::proofs::FramesLaws::superior_frames, crate::proofs::FramesLaws::nobody_frames, crate::proofs::UserLaws::superior_told, crate::proofs::UserLaws::nobody_told))]
-fn tell_superior(w: &mut World, slot: u8)
-    requires slot { slot < slots }
+fn tell_superior(w: &mut World, slot: Slot)
     requires sound { Sound (state_of w.old) }
     requires tidy { Tidy w.old }
     ensures row { state_of w.new ≡ effects_on (informs true (superior_at w.old.jobs slot)) slot (all_unwound (informed_slots true (superior_at w.old.jobs slot)) (state_of w.old)) }
     ensures pages { w.new.core.frames ≡ pages_unwound (informed_slots true (superior_at w.old.jobs slot)) (state_of w.old) w.old.core.frames }
     ensures tidy { Tidy w.new }
 {
-    if let Some(superior) = w.jobs.superior(slot) {
-        calm(w, superior);
+    if let Some(superior) = w.jobs.superior(slot.number()) {
+        calm(w, Slot::new(superior));
         apply(w, slot, &[Change::Inform { slot: superior }]);
     }
 }
 
 /// The unit of a slot's job. If it is a call of the monitor, the job enters it.
 #[tactic(auto, using(crate::proofs::UserLaws::user_addressed, crate::proofs::UserLaws::unit_row))]
-pub fn make_unit(w: &mut World, slot: u8) -> Pace
-    requires slot { slot < slots }
+pub fn make_unit(w: &mut World, slot: Slot) -> Pace
     requires kept { Kept w.old }
     requires job { is_some (job_at w.old.jobs slot) ≡ true }
     requires frame { call_in w.old slot ≡ None }
@@ -136,8 +130,7 @@ pub fn make_unit(w: &mut World, slot: u8) -> Pace
 
 /// The same, whatever the unit is.
 #[tactic(auto, using(crate::proofs::UserLaws::user_addressed, crate::proofs::UserLaws::unit_row))]
-fn make_any(w: &mut World, slot: u8) -> Pace
-    requires slot { slot < slots }
+fn make_any(w: &mut World, slot: Slot) -> Pace
     requires kept { Kept w.old }
     requires job { is_some (job_at w.old.jobs slot) ≡ true }
     requires frame { call_in w.old slot ≡ None }
@@ -155,22 +148,20 @@ fn make_any(w: &mut World, slot: u8) -> Pace
 }
 
 /// The call at the PC of a slot's job, if its word is all that is read on the way.
-fn near_call(w: &World, slot: u8) -> Option<Near>
-    requires slot { slot < slots }
+fn near_call(w: &World, slot: Slot) -> Option<Near>
     requires job { is_some (job_at w.now.jobs slot) ≡ true }
     requires pc { IfSome (job_at w.now.jobs slot) (λ j. j.pc < 2 ^ 18) }
     ensures { IfSome result (λ n. IfSome (job_at w.now.jobs slot) (λ j. unit_of (core_at w.now.core slot) j ≡ Called (near_site j.pc n))) }
 {
-    match w.jobs.job(slot) {
-        Some(job) => call_at_hand(&w.core, Slot::new(slot), job),
+    match w.jobs.job(slot.number()) {
+        Some(job) => call_at_hand(&w.core, slot, job),
         None => unreachable!(),
     }
 }
 
 /// The job of a slot enters the monitor at a call at its PC.
 #[tactic(auto, using(its_commit::proofs::TidyLaws::becomes_pages))]
-fn enter_near(w: &mut World, slot: u8, call: Near)
-    requires slot { slot < slots }
+fn enter_near(w: &mut World, slot: Slot, call: Near)
     requires job { is_some (job_at w.old.jobs slot) ≡ true }
     requires called { IfSome (job_at w.old.jobs slot) (λ j. unit_of (core_at w.old.core slot) j ≡ Called (near_site j.pc call)) }
     requires tidy { Tidy w.old }
@@ -183,19 +174,18 @@ fn enter_near(w: &mut World, slot: u8, call: Near)
 }
 
 /// The PC of a slot's job.
-fn pc_of(w: &World, slot: u8) -> u32
+fn pc_of(w: &World, slot: Slot) -> u32
     requires { is_some (job_at w.now.jobs slot) ≡ true }
     ensures { IfSome (job_at w.now.jobs slot) (λ j. result ≡ j.pc) }
 {
-    match w.jobs.job(slot) {
+    match w.jobs.job(slot.number()) {
         Some(job) => job.pc,
         None => unreachable!(),
     }
 }
 
 /// Runs the unit of a slot's job on its core and its registers in place. A call is not made (false).
-fn unit_in_place(w: &mut World, slot: u8) -> bool
-    requires slot { slot < slots }
+fn unit_in_place(w: &mut World, slot: Slot) -> bool
     requires job { is_some (job_at w.old.jobs slot) ≡ true }
     requires frame { call_in w.old slot ≡ None }
     requires pc { IfSome (job_at w.old.jobs slot) (λ j. j.pc < 2 ^ 18) }
@@ -207,8 +197,7 @@ fn unit_in_place(w: &mut World, slot: u8) -> bool
 
 /// Makes up to n units of a slot's job on its core and its registers in place, as long as no interrupt is deliverable and
 /// none is a call; how many were made.
-pub fn units_in_place(w: &mut World, slot: u8, n: u32) -> u32
-    requires slot { slot < slots }
+pub fn units_in_place(w: &mut World, slot: Slot, n: u32) -> u32
     requires job { is_some (job_at w.old.jobs slot) ≡ true }
     requires frame { call_in w.old slot ≡ None }
     requires pc { IfSome (job_at w.old.jobs slot) (λ j. j.pc < 2 ^ 18) }
@@ -216,8 +205,8 @@ pub fn units_in_place(w: &mut World, slot: u8, n: u32) -> u32
     ensures made { UnitsMade w.old w.new slot result n }
     ensures same { result ≡ 0 → w.new ≡ w.old }
 {
-    match w.jobs.job_mut(slot) {
-        Some(job) => run_units(&mut w.core, Slot::new(slot), job, n),
+    match w.jobs.job_mut(slot.number()) {
+        Some(job) => run_units(&mut w.core, slot, job, n),
         None => unreachable!(),
     }
 }
@@ -225,8 +214,7 @@ pub fn units_in_place(w: &mut World, slot: u8, n: u32) -> u32
 /// The job of a slot enters the monitor.
 #[inline(never)]
 #[tactic(auto, using(its_commit::proofs::TidyLaws::becomes_pages))]
-fn enter(w: &mut World, slot: u8)
-    requires slot { slot < slots }
+fn enter(w: &mut World, slot: Slot)
     requires job { is_some (job_at w.old.jobs slot) ≡ true }
     requires pc { IfSome (job_at w.old.jobs slot) (λ j. j.pc < 2 ^ 18) }
     requires called { IfSome (job_at w.old.jobs slot) (λ j. IsCalled (unit_of (core_at w.old.core slot) j)) }
@@ -240,15 +228,14 @@ fn enter(w: &mut World, slot: u8)
 }
 
 /// The place at which the job of a slot calls the monitor.
-fn site_of(w: &World, slot: u8) -> Site
-    requires slot { slot < slots }
+fn site_of(w: &World, slot: Slot) -> Site
     requires job { is_some (job_at w.now.jobs slot) ≡ true }
     requires pc { IfSome (job_at w.now.jobs slot) (λ j. j.pc < 2 ^ 18) }
     requires called { IfSome (job_at w.now.jobs slot) (λ j. IsCalled (unit_of (core_at w.now.core slot) j)) }
     ensures { IfSome (job_at w.now.jobs slot) (λ j. unit_of (core_at w.now.core slot) j ≡ Called result) }
 {
-    match w.jobs.job(slot) {
-        Some(job) => site(&w.core, Slot::new(slot), job),
+    match w.jobs.job(slot.number()) {
+        Some(job) => site(&w.core, slot, job),
         None => unreachable!(),
     }
 }

@@ -195,7 +195,7 @@ impl Judge {
         ensures sure { Sure self.new }
         ensures place { self.new.plain.place ≡ self.old.plain.place }
     {
-        let made = self.plain.parts(slot.number(), n);
+        let made = self.plain.parts(slot, n);
         if made == 0 {
             return 0;
         }
@@ -215,7 +215,7 @@ impl Judge {
         ensures sure { Sure self.new }
         ensures place { self.new.plain.place ≡ self.old.plain.place }
     {
-        let made = self.plain.steps(slot.number(), n);
+        let made = self.plain.steps(slot, n);
         if made == 0 {
             return 0;
         }
@@ -276,7 +276,7 @@ impl Judge {
         ensures sure { result ≡ true → Sure self.new }
         ensures place { self.new.plain.place ≡ self.old.plain.place }
     {
-        if !self.plain.step(slot.number()) {
+        if !self.plain.step(slot) {
             return false;
         }
         self.dots[slot.index()] = 0;
@@ -315,7 +315,7 @@ impl Judge {
         if !self.runs(slot) {
             return false;
         }
-        !self.plain.step(slot.number())
+        !self.plain.step(slot)
     }
 
     /// `-`: a slot has no job, or its job is stopped.
@@ -333,7 +333,7 @@ impl Judge {
     fn runs(&self, slot: Slot) -> bool
         ensures { result ≡ is_running ((machine_of self.now.plain).jobs slot) }
     {
-        self.plain.runs(slot.number())
+        self.plain.runs(slot)
     }
 
     /// No `.` came since for the slots that were touched.

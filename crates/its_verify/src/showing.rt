@@ -143,7 +143,7 @@ fn show_words<S: Source>(
     ensures stays { Stays result reader.new (S.left src.new) }
     ensures cause { HasCause (S.faults src.old) (S.faults src.new) result }
 {
-    let Ok(words) = plain.words(s.number(), a, n) else {
+    let Ok(words) = plain.words(s, a, n) else {
         unreachable!()
     };
     let words = words.as_slice();
@@ -169,7 +169,7 @@ fn list_words<S: Source>(
     ensures stays { Stays result reader.new (S.left src.new) }
     ensures cause { HasCause (S.faults src.old) (S.faults src.new) result }
 {
-    let Ok(words) = plain.words(s.number(), a, n) else {
+    let Ok(words) = plain.words(s, a, n) else {
         unreachable!()
     };
     list_each(reader, src, s, a, words.as_slice(), line)
@@ -222,7 +222,7 @@ fn show_state<S: Source>(
     ensures stays { Stays result reader.new (S.left src.new) }
     ensures cause { HasCause (S.faults src.old) (S.faults src.new) result }
 {
-    match plain.shown(s.number()) {
+    match plain.shown(s) {
         Ok(show) => {
             let version = plain.version;
             let show = &show;

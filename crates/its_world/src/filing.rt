@@ -2,7 +2,6 @@
 //! change on the lists to which they belong.
 
 ghost use Rattle.std.specs.Prelude.{◌≡◌, ◌≢◌, ◌<◌, ◌+◌, ◌∷◌, ◌++◌, ◌↔◌, ◌⊎◌, [], ℕ, Bool, IsTrue, length, true, false, None};
-ghost use Rattle.its_word.specs.Limits.{slots};
 ghost use Rattle.its_records.specs.Links.{most_links};
 ghost use Rattle.its_jobs.specs.Table.{job_at};
 ghost use Rattle.its_links.specs.Lists.{list_at};
@@ -18,7 +17,7 @@ use super::world::{CONSOLES, World};
 use its_calls::View;
 use its_frame::{CallName, Wait};
 use its_records::{Ask, Channel, Job, LINKS};
-use its_word::Word;
+use its_word::{Slot, Word};
 
 /// How many bytes wait at most at a console, in one direction.
 const MOST_WAITING: u32 = 64;
@@ -79,17 +78,17 @@ impl World {
     }
 
     /// Whether another job than that of a slot holds a console.
-    fn is_anothers(&self, slot: u8, console: u8) -> bool
+    fn is_anothers(&self, slot: Slot, console: u8) -> bool
         ensures { result ≡ is_other slot (holder_at self.now.holders console) }
     {
         match self.holders.get(usize::from(console)) {
-            Some(Some(holder)) => *holder != slot,
+            Some(Some(holder)) => *holder != slot.number(),
             _ => false,
         }
     }
 
     /// Whether the call of a slot, whose first input is n, has to wait for a reason.
-    fn is_held_up(&self, slot: u8, n: u64, reason: Wait) -> bool
+    fn is_held_up(&self, slot: Slot, n: u64, reason: Wait) -> bool
         ensures { result ≡ held_up (doors_of self.now) slot n reason }
     {
         match reason {
@@ -105,11 +104,11 @@ impl World {
 
     /// The reason for which the call of a slot's job can have to wait.
     #[inline(always)]
-    fn wait_reason(&self, slot: u8, ask: &Ask) -> Option<Wait>
+    fn wait_reason(&self, slot: Slot, ask: &Ask) -> Option<Wait>
         ensures { result ≡ wait_reason (job_at self.now.jobs slot) ask.now }
     {
         let name = CallName::named(ask.name);
-        match self.jobs.job(slot) {
+        match self.jobs.job(slot.number()) {
             Some(job) => reason_by(
                 job.console.unwrap_or(0),
                 channel_of(job, first_input(ask)),
@@ -120,7 +119,7 @@ impl World {
     }
 
     /// The list in which the call of a slot belongs, whose first input is n and which waits for this reason.
-    fn place_for(&self, slot: u8, n: u64, reason: Option<Wait>) -> Option<u32>
+    fn place_for(&self, slot: Slot, n: u64, reason: Option<Wait>) -> Option<u32>
         ensures { result ≡ place_for (doors_of self.now) slot n reason }
     {
         let reason = reason?;
@@ -136,8 +135,7 @@ impl World {
 
     /// The list to which a slot belongs: none if its frame is not Waiting.
     #[tactic(auto, unfolding(crate::specs::Filed::wait_list_of))]
-    fn wait_list_of(&self, slot: u8) -> Option<u32>
-        requires { slot < slots }
+    fn wait_list_of(&self, slot: Slot) -> Option<u32>
         ensures { result ≡ wait_list_of self.now slot }
     {
         match self.frame(slot) {
@@ -150,8 +148,7 @@ impl World {
 
     /// The Awake list of the console or link at which the call of a slot waits, if it waits at one.
     #[tactic(auto, unfolding(crate::specs::Filed::awake_at))]
-    fn awake_at(&self, slot: u8) -> Option<u32>
-        requires { slot < slots }
+    fn awake_at(&self, slot: Slot) -> Option<u32>
         ensures { result ≡ awake_at self.now slot }
     {
         match self.frame(slot) {
@@ -171,14 +168,13 @@ impl World {
     /// Whether the channel of the call of a slot is on no link, and nobody is on the Awake list of its job's console. If so, the slot is on no
     /// Awake list.
     #[inline]
-    fn is_asleep(&self, slot: u8) -> bool
-        requires { slot < slots }
+    fn is_asleep(&self, slot: Slot) -> bool
         ensures { result ≡ true → IsIn self.now.rings.lists slot (awake_at self.now slot) → ⊥ }
     {
         let View::Waiting { ask, .. } = self.frame(slot) else {
             return false;
         };
-        let Some(job) = self.jobs.job(slot) else {
+        let Some(job) = self.jobs.job(slot.number()) else {
             return false;
         };
         if is_link(channel_of(job, first_input(ask))) {
@@ -189,8 +185,7 @@ impl World {
 
     /// Whether a slot is on the Awake list of the console or link at which its call waits.
     #[inline]
-    fn is_awake(&self, slot: u8) -> bool
-        requires { slot < slots }
+    fn is_awake(&self, slot: Slot) -> bool
         ensures { IsTrue result ↔ IsIn self.now.rings.lists slot (awake_at self.now slot) }
     {
         if self.is_asleep(slot) {
@@ -201,8 +196,7 @@ impl World {
 
     /// Whether a slot is on the Awake list of the console or link at which its call waits: that list is searched.
     #[inline(never)]
-    fn stands_awake(&self, slot: u8) -> bool
-        requires { slot < slots }
+    fn stands_awake(&self, slot: Slot) -> bool
         ensures { IsTrue result ↔ IsIn self.now.rings.lists slot (awake_at self.now slot) }
     {
         match self.awake_at(slot) {
@@ -213,20 +207,18 @@ impl World {
 
     /// Whether a slot is on a wait list, that is, on a list that is not the Awake list of its console or
     /// link.
-    pub fn is_blocked(&self, slot: u8) -> bool
-        requires slot { slot < slots }
+    pub fn is_blocked(&self, slot: Slot) -> bool
         requires stands { Blocked self.now slot ⊎ StandsIn self.now.rings.lists slot (wait_list_of self.now slot) }
         ensures { IsTrue result ↔ Blocked self.now slot }
     {
         self.rings.seen();
-        self.rings.linked(u32::from(slot)) && !self.is_awake(slot)
+        self.rings.linked(u32::from(slot.number())) && !self.is_awake(slot)
     }
 
     /// Whether the frame of a slot is Waiting. If it is not, the slot belongs on no list.
     #[inline]
     #[tactic(auto, unfolding(crate::specs::Filed::wait_list_of))]
-    fn is_waiting(&self, slot: u8) -> bool
-        requires { slot < slots }
+    fn is_waiting(&self, slot: Slot) -> bool
         ensures { result ≡ false → wait_list_of self.now slot ≡ None }
     {
         match self.frame(slot) {
@@ -237,20 +229,18 @@ impl World {
 
     /// Whether a slot is on no list and belongs on none.
     #[inline]
-    fn is_apart(&self, slot: u8) -> bool
-        requires { slot < slots }
+    fn is_apart(&self, slot: Slot) -> bool
         ensures { result ≡ true → Refiled self.now self.now slot }
     {
         if self.is_waiting(slot) {
             return false;
         }
-        !self.rings.linked(u32::from(slot))
+        !self.rings.linked(u32::from(slot.number()))
     }
 
     /// Puts a slot on the list to which it belongs, wherever it was. Of most slots nothing has to be done.
     #[inline(always)]
-    pub fn refile(&mut self, slot: u8)
-        requires { slot < slots }
+    pub fn refile(&mut self, slot: Slot)
         ensures { Refiled self.old self.new slot }
     {
         if !self.is_apart(slot) {
@@ -260,8 +250,7 @@ impl World {
 
     /// Puts a slot on the list to which it belongs.
     #[inline(never)]
-    fn file(&mut self, slot: u8)
-        requires { slot < slots }
+    fn file(&mut self, slot: Slot)
         ensures { Refiled self.old self.new slot }
     {
         let place = self.wait_list_of(slot);
@@ -275,7 +264,7 @@ impl World {
     {
         if let Some(node) = self.rings.pop_front(head) {
             self.settle(head);
-            self.refile(node as u8);
+            self.refile(Slot::new(node as u8));
         }
     }
 

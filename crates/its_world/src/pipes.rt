@@ -1,7 +1,6 @@
 //! Channels of jobs on links between jobs, with the ends of the links; and the words that jobs send and receive.
 
 ghost use Rattle.std.specs.Prelude.{◌≡◌, ◌<◌, true, Some, is_some, length, option_map, slice_get};
-ghost use Rattle.its_word.specs.Limits.{slots};
 ghost use Rattle.its_records.specs.Links.{most_links, most_linked};
 ghost use Rattle.its_frame.specs.declared.change.Change.TheVariants.{Join, Part, Receive, Send};
 ghost use Rattle.its_plain.specs.CallLink.{words_in};
@@ -16,13 +15,12 @@ ghost use Rattle.its_world.specs.World.{state_of, LinkBecomes};
 
 use super::world::World;
 use its_records::Channel;
-use its_word::Word;
+use its_word::{Slot, Word};
 
 impl World {
     /// Opens an end of a link on a closed channel of a slot's job: its writing end or its reading end. If the number has no
     /// link, one is made with these names.
-    pub fn join(&mut self, slot: u8, n: u8, link: u8, write: bool, x: Word, y: Word)
-        requires slot { slot < slots }
+    pub fn join(&mut self, slot: Slot, n: u8, link: u8, write: bool, x: Word, y: Word)
         requires channel { n < 16 }
         requires link { link < most_links }
         requires job { HasJob (state_of self.old) slot }
@@ -38,7 +36,7 @@ impl World {
 
     /// Opens the end alone. Those that wait at the link are put where they belong.
     #[tactic(auto, using(crate::proofs::WorldLaws::link_becomes))]
-    fn open_end(&mut self, slot: u8, n: u8, link: u8, write: bool, x: Word, y: Word)
+    fn open_end(&mut self, slot: Slot, n: u8, link: u8, write: bool, x: Word, y: Word)
         requires { link < most_links }
         ensures { LinkBecomes self.old self.new link (Some (with_end_opened write slot n (link_or_new x y (piped self.old.pipes link)))) }
     {
@@ -47,17 +45,16 @@ impl World {
     }
 
     /// Writes the end that is opened; those that wait keep their places.
-    fn write_joined(&mut self, slot: u8, n: u8, link: u8, write: bool, x: Word, y: Word)
+    fn write_joined(&mut self, slot: Slot, n: u8, link: u8, write: bool, x: Word, y: Word)
         requires { link < most_links }
         ensures { LinkWritten self.old self.new link (Some (with_end_opened write slot n (link_or_new x y (piped self.old.pipes link)))) }
     {
-        self.pipes.join(link, write, slot, n, x, y);
+        self.pipes.join(link, write, slot.number(), n, x, y);
     }
 
     /// Closes a channel of a slot's job that is on an end of a link, and the end with it. A link without an open end is gone
     /// with its words.
-    pub fn part(&mut self, slot: u8, n: u8, link: u8, write: bool)
-        requires slot { slot < slots }
+    pub fn part(&mut self, slot: Slot, n: u8, link: u8, write: bool)
         requires channel { n < 16 }
         requires link { link < most_links }
         requires on { chan_in (state_of self.old) slot n ≡ Linked link write }

@@ -10,7 +10,7 @@ ghost use Rattle.its_world.specs.Filed.{kind_of};
 use its_frame::{CallName, Wait};
 use its_links::Links;
 use its_records::Channel;
-use its_word::SLOTS;
+use its_word::{SLOTS, Slot};
 
 /// How many lists there are: one for HANG, one for CLOCK, of each console one each for input, output and drained output,
 /// and one of those that wait there and can go on; and of each link one each for those that wait for a word and for room,
@@ -21,31 +21,31 @@ pub const HEADS: u32 = 82;
 pub const CLOCK_RING: u32 = 1;
 
 /// Takes a slot off the list that it is on, at its place there.
-fn take_out(rings: &mut Links, slot: u8)
+fn take_out(rings: &mut Links, slot: Slot)
     requires { slot < rings.old.nodes }
     ensures { Put rings.old rings.new slot None }
 {
-    if rings.linked(u32::from(slot)) {
-        rings.unlink(u32::from(slot));
+    if rings.linked(u32::from(slot.number())) {
+        rings.unlink(u32::from(slot.number()));
     }
 }
 
 /// Puts a slot at the end of the list of a head, or on none, wherever it was.
 #[tactic(auto, using(crate::proofs::RingLaws::is_out))]
-pub fn put(rings: &mut Links, slot: u8, place: Option<u32>)
+pub fn put(rings: &mut Links, slot: Slot, place: Option<u32>)
     requires slot { slot < rings.old.nodes }
     requires place { IfSome place (λ h. h < length rings.old.lists) }
     ensures { Put rings.old rings.new slot place }
 {
     take_out(rings, slot);
     if let Some(head) = place {
-        rings.push_back(head, u32::from(slot));
+        rings.push_back(head, u32::from(slot.number()));
     }
 }
 
 /// Whether a slot is on the list of a head.
 #[tactic(auto, using(crate::proofs::RingLaws::looked_in))]
-pub fn stands_in(rings: &Links, head: u32, slot: u8) -> bool
+pub fn stands_in(rings: &Links, head: u32, slot: Slot) -> bool
     requires head { head < length rings.now.lists }
     requires nodes { rings.now.nodes ≤ slots }
     ensures { IsTrue result ↔ (0 < count slot (list_at rings.now.lists head)) }
@@ -56,7 +56,7 @@ pub fn stands_in(rings: &Links, head: u32, slot: u8) -> bool
         let Some(node) = at else {
             return false;
         };
-        if node == u32::from(slot) {
+        if node == u32::from(slot.number()) {
             return true;
         }
         at = rings.next(node);

@@ -15,16 +15,22 @@ ghost use Rattle.its_world.specs.Storage.{HasJob, chan_in, IsElsewhere, IsDraft,
 
 use super::world::World;
 use its_records::Channel;
-use its_word::Word;
+use its_word::{Slot, Word};
+
+/// Does nothing: a slot has one of the numbers that there are.
+fn within(slot: Slot)
+    ensures { slot < slots }
+{
+    let _ = slot.number();
+}
 
 impl World {
     /// What a channel of a slot's job is on; closed if the slot is empty.
-    pub fn channel(&self, slot: u8, n: u8) -> Channel
-        requires slot { slot < slots }
+    pub fn channel(&self, slot: Slot, n: u8) -> Channel
         requires channel { n < 16 }
         ensures { result ≡ channel_at self.now.jobs slot n }
     {
-        match self.jobs.job(slot) {
+        match self.jobs.job(slot.number()) {
             Some(job) => job.channels[usize::from(n)],
             None => Channel::Closed,
         }
@@ -32,12 +38,11 @@ impl World {
 
     /// Writes a channel of a slot's job, if it has one.
     #[tactic(auto, using(crate::proofs::StorageLaws::channel_becomes, crate::proofs::StorageLaws::channel_missing, crate::proofs::StorageLaws::job_missing))]
-    fn set_channel(&mut self, slot: u8, n: u8, channel: Channel)
-        requires slot { slot < slots }
+    fn set_channel(&mut self, slot: Slot, n: u8, channel: Channel)
         requires channel { n < 16 }
         ensures { ChannelBecomes self.old self.new slot n channel self.old.files }
     {
-        if self.jobs.job(slot).is_some() {
+        if self.jobs.job(slot.number()).is_some() {
             self.write_channel(slot, n, channel);
             self.refile(slot);
         }
@@ -45,20 +50,18 @@ impl World {
 
     /// Writes a channel of a slot's job, which keeps its place on the wait lists.
     #[tactic(auto, using(crate::proofs::StorageLaws::channel_written))]
-    fn write_channel(&mut self, slot: u8, n: u8, channel: Channel)
-        requires slot { slot < slots }
+    fn write_channel(&mut self, slot: Slot, n: u8, channel: Channel)
         requires channel { n < 16 }
         requires some { is_some (job_at self.old.jobs slot) ≡ true }
         ensures { ChannelWritten self.old self.new slot n channel }
     {
-        if let Some(job) = self.jobs.job_mut(slot) {
+        if let Some(job) = self.jobs.job_mut(slot.number()) {
             job.channels[usize::from(n)] = channel;
         }
     }
 
     /// Sets a channel of a slot's job, if it has one, which is on no file and no draft, to what is on none either.
-    pub fn put_channel(&mut self, slot: u8, n: u8, channel: Channel)
-        requires slot { slot < slots }
+    pub fn put_channel(&mut self, slot: Slot, n: u8, channel: Channel)
         requires channel { n < 16 }
         requires old { IsElsewhere (channel_at self.old.jobs slot n) }
         requires new { IsElsewhere channel }
@@ -67,12 +70,12 @@ impl World {
         ensures tidy { Tidy self.new }
         ensures pages { self.new.core.frames ≡ self.old.core.frames }
     {
+        within(slot);
         self.set_channel(slot, n, channel);
     }
 
     /// Opens a file on a closed channel of a slot's job, at its first word.
-    pub fn open_file(&mut self, slot: u8, n: u8, d: Word, x: Word, y: Word)
-        requires slot { slot < slots }
+    pub fn open_file(&mut self, slot: Slot, n: u8, d: Word, x: Word, y: Word)
         requires channel { n < 16 }
         requires job { HasJob (state_of self.old) slot }
         requires closed { chan_in (state_of self.old) slot n ≡ Shut }
@@ -83,6 +86,7 @@ impl World {
         ensures tidy { Tidy self.new }
         ensures pages { self.new.core.frames ≡ self.old.core.frames }
     {
+        within(slot);
         if let Some(file) = self.files.find(d, x, y) {
             self.files.open_read(file);
             self.set_channel(slot, n, Channel::Reading { file, at: 0 });
@@ -90,8 +94,7 @@ impl World {
     }
 
     /// Makes a draft of no words on a closed channel of a slot's job.
-    pub fn open_draft(&mut self, slot: u8, n: u8, d: Word, x: Word, y: Word)
-        requires slot { slot < slots }
+    pub fn open_draft(&mut self, slot: Slot, n: u8, d: Word, x: Word, y: Word)
         requires channel { n < 16 }
         requires job { HasJob (state_of self.old) slot }
         requires closed { chan_in (state_of self.old) slot n ≡ Shut }
@@ -101,19 +104,20 @@ impl World {
         ensures tidy { Tidy self.new }
         ensures pages { self.new.core.frames ≡ self.old.core.frames }
     {
+        within(slot);
         let draft = self.files.draft(d, x, y);
         self.set_channel(slot, n, Channel::Writing { draft });
     }
 
     /// Closes a channel of a slot's job. A draft on it is dropped.
-    pub fn shut(&mut self, slot: u8, n: u8)
-        requires slot { slot < slots }
+    pub fn shut(&mut self, slot: Slot, n: u8)
         requires channel { n < 16 }
         requires tidy { Tidy self.old }
         ensures row { state_of self.new ≡ effect_on (Shuts n) slot (state_of self.old) }
         ensures tidy { Tidy self.new }
         ensures pages { self.new.core.frames ≡ self.old.core.frames }
     {
+        within(slot);
         match self.channel(slot, n) {
             Channel::Reading { file, .. } => {
                 self.files.close_read(file);
@@ -128,14 +132,14 @@ impl World {
     }
 
     /// Sets the position of a channel of a slot's job, in words.
-    pub fn move_to(&mut self, slot: u8, n: u8, at: u32)
-        requires slot { slot < slots }
+    pub fn move_to(&mut self, slot: Slot, n: u8, at: u32)
         requires channel { n < 16 }
         requires tidy { Tidy self.old }
         ensures row { state_of self.new ≡ effect_on (Move n at) slot (state_of self.old) }
         ensures tidy { Tidy self.new }
         ensures pages { self.new.core.frames ≡ self.old.core.frames }
     {
+        within(slot);
         match self.channel(slot, n) {
             Channel::Reading { file, .. } => {
                 self.files.seek(file, at);
@@ -149,8 +153,7 @@ impl World {
     }
 
     /// Appends a word to the draft of a channel of a slot's job, if it is on one.
-    pub fn append(&mut self, slot: u8, n: u8, word: Word)
-        requires slot { slot < slots }
+    pub fn append(&mut self, slot: Slot, n: u8, word: Word)
         requires channel { n < 16 }
         requires room { HasRoom (state_of self.old) (chan_in (state_of self.old) slot n) }
         requires unmarked { (state_of self.old).mark ≡ None }
@@ -159,6 +162,7 @@ impl World {
         ensures tidy { Tidy self.new }
         ensures pages { self.new.core.frames ≡ self.old.core.frames }
     {
+        within(slot);
         self.files.seen();
         if let Channel::Writing { draft } = self.channel(slot, n) {
             match self.files.append(draft, word) {
@@ -169,8 +173,7 @@ impl World {
     }
 
     /// Begins the close of the draft of a channel of a slot's job: the close is marked, and the channel closed.
-    pub fn begin_close(&mut self, slot: u8, n: u8)
-        requires slot { slot < slots }
+    pub fn begin_close(&mut self, slot: Slot, n: u8)
         requires channel { n < 16 }
         requires writes { IsDraft (chan_in (state_of self.old) slot n) }
         requires closes { CanClose (state_of self.old) (chan_in (state_of self.old) slot n) }
@@ -182,7 +185,7 @@ impl World {
     {
         self.files.seen();
         if let Channel::Writing { draft } = self.channel(slot, n) {
-            match self.files.begin_close(draft, slot) {
+            match self.files.begin_close(draft, slot.number()) {
                 Ok(()) => {}
                 Err(_) => unreachable!(),
             }

@@ -14,7 +14,7 @@ use its_links::Links;
 use its_machine::{SymbolTable, no_alarms, no_symbols, quiet_consoles};
 use its_pipes::Pipes;
 use its_records::Job;
-use its_word::{NoAccess, NoMemory, SLOTS, Word};
+use its_word::{NoAccess, NoMemory, SLOTS, Slot, Word};
 use std::alloc::Global;
 
 /// How many consoles there are.
@@ -102,28 +102,25 @@ impl World {
     }
 
     /// The registers of a slot's job.
-    pub fn registers(&self, slot: u8) -> Option<Job>
-        requires { slot < slots }
+    pub fn registers(&self, slot: Slot) -> Option<Job>
         ensures { result ≡ job_at self.now.jobs slot }
     {
-        self.jobs.job(slot).copied()
+        self.jobs.job(slot.number()).copied()
     }
 
     /// Writes the registers of a slot's job, which keeps its place on the wait lists.
     #[tactic(auto, using(crate::proofs::WorldLaws::job_written))]
-    fn write_registers(&mut self, slot: u8, job: Job)
-        requires slot { slot < slots }
+    fn write_registers(&mut self, slot: Slot, job: Job)
         requires some { is_some (job_at self.old.jobs slot) ≡ true }
         ensures { SlotWritten self.old self.new slot (Some job) (call_in self.old slot) }
     {
-        if let Some(j) = self.jobs.job_mut(slot) {
+        if let Some(j) = self.jobs.job_mut(slot.number()) {
             *j = job;
         }
     }
 
     /// Writes the registers of a slot's job.
-    pub fn put_registers(&mut self, slot: u8, job: Job)
-        requires slot { slot < slots }
+    pub fn put_registers(&mut self, slot: Slot, job: Job)
         requires some { is_some (job_at self.old.jobs slot) ≡ true }
         ensures { JobBecomes self.old self.new slot job }
     {
@@ -133,8 +130,7 @@ impl World {
 
     /// Stores a word of a slot: Absent if its page is absent, ReadOnly if it is read only.
     #[tactic(auto, using(crate::proofs::WorldLaws::core_becomes))]
-    pub fn put_word(&mut self, slot: u8, a: u32, w: Word) -> Result<(), NoAccess>
-        requires slot { slot < slots }
+    pub fn put_word(&mut self, slot: Slot, a: u32, w: Word) -> Result<(), NoAccess>
         requires address { a < 2 ^ 18 }
         ensures stored { OnOk result (CoreBecomes self.old self.new slot (store (core_at self.old.core slot) a w)) }
         ensures allowed { OnOk result (can_store (core_at self.old.core slot) a ≡ true) }
@@ -142,15 +138,14 @@ impl World {
         ensures absent { result ≡ Err NoAccess.Absent → (16 ≤ a) × (page_of (core_at self.old.core slot) (a / 1024) ≡ None) }
         ensures same { OnErr result (self.new ≡ self.old) }
     {
-        match self.core.put(slot, a, w) {
+        match self.core.put(slot.number(), a, w) {
             Ok(()) => Ok(()),
             Err(e) => Err(e),
         }
     }
 
     /// Stores a word of a slot that can be stored.
-    pub fn store(&mut self, slot: u8, a: u32, w: Word)
-        requires slot { slot < slots }
+    pub fn store(&mut self, slot: Slot, a: u32, w: Word)
         requires address { a < 2 ^ 18 }
         requires can { can_store (core_at self.old.core slot) a ≡ true }
         ensures { CoreBecomes self.old self.new slot (store (core_at self.old.core slot) a w) }
@@ -163,20 +158,18 @@ impl World {
 
     /// Gives up the page that a slot has reserved.
     #[tactic(auto, using(crate::proofs::WorldLaws::page_becomes, crate::proofs::WorldLaws::reserved_some, crate::proofs::WorldLaws::frames_backed))]
-    pub fn give_back(&mut self, slot: u8)
-        requires slot { slot < slots }
+    pub fn give_back(&mut self, slot: Slot)
         requires page { is_some (clear_at self.old.core slot) ≡ true }
         ensures { PageBecomes self.old self.new slot None }
     {
-        self.core.give_back(slot);
+        self.core.give_back(slot.number());
     }
 
     /// Whether a slot's job is inside a call.
-    pub fn has_frame(&self, slot: u8) -> bool
-        requires { slot < slots }
+    pub fn has_frame(&self, slot: Slot) -> bool
         ensures { result ≡ is_some (call_in self.now slot) }
     {
-        self.frames[usize::from(slot)].is_some()
+        self.frames[slot.index()].is_some()
     }
 
     /// A byte is typed at a console. False if 64 typed bytes wait; the byte is then lost.
@@ -273,12 +266,11 @@ impl World {
     }
 
     /// Keeps a symbol of a slot's job, the last; there is room for it.
-    pub fn keep_symbol(&mut self, slot: u8, name: Word, a: u32)
-        requires slot { slot < slots }
+    pub fn keep_symbol(&mut self, slot: Slot, name: Word, a: u32)
         requires room { length (symbols_at self.old.symbols.items slot) < most_symbols }
         ensures { SymbolsBecome self.old self.new slot (symbols_at self.old.symbols.items slot ++ (name, a) ∷ []) }
     {
-        self.symbols[usize::from(slot)].push((name, a));
+        self.symbols[slot.index()].push((name, a));
     }
 
     /// Makes the world one of version 1, in which there can be 64 jobs, or of version 2, with 96. No slot has a job.

@@ -1,6 +1,5 @@
 ghost use Rattle.std.specs.Prelude.{◌≡◌, ◌<◌, ℕ, true, None, slice_set, IfOk};
 ghost use Rattle.its_records.specs.declared.jobs.Channel.TheVariants.{Usr};
-ghost use Rattle.its_word.specs.Limits.{slots};
 ghost use Rattle.its_stepped.specs.Sound.{Sound};
 ghost use Rattle.its_world.specs.Tidy.{Tidy};
 ghost use Rattle.its_world.specs.World.{state_of};
@@ -10,7 +9,7 @@ use crate::changes::apply;
 use its_frame::Change;
 use its_jobs::{Job, Jobs};
 use its_records::Channel;
-use its_word::{SLOTS, Word};
+use its_word::{SLOTS, Slot, Word};
 use its_world::World;
 use std::alloc::Global;
 use std::process::Abort;
@@ -51,18 +50,17 @@ fn add(rt: &impl Abort, jobs: &mut Jobs, superior: Option<u8>, slot: u8)
     }
     let made = jobs.create(Word::new(7), Word::new(0o107), superior, None);
     if let Ok(k) = made {
-        open_on(jobs, k, slot);
+        open_on(jobs, Slot::new(k), slot);
     }
 }
 
 /// Opens the first channel of a job on a slot.
-fn open_on(jobs: &mut Jobs, k: u8, slot: u8)
-    requires slot { k < slots }
+fn open_on(jobs: &mut Jobs, k: Slot, slot: u8)
     requires jobs { Elsewhere jobs.old }
     ensures jobs { Elsewhere jobs.new }
     ensures limit { jobs.new.limit ≡ jobs.old.limit }
 {
-    if let Some(job) = jobs.job_mut(k) {
+    if let Some(job) = jobs.job_mut(k.number()) {
         *job = opened(*job, slot);
     }
 }
@@ -93,7 +91,7 @@ fn removed(rt: &impl Abort, w: &mut World, caller: u8, root: u8)
     assert!(rt; caller != root);
     assert!(rt; !w.jobs.is_below(root, caller));
     w.jobs.tree();
-    apply(w, caller, &[Change::Remove { slot: root }]);
+    apply(w, Slot::new(caller), &[Change::Remove { slot: root }]);
 }
 
 /// A call makes an inferior in a slot, which is the least free one: it is below its maker, stopped, and its channels
@@ -105,15 +103,14 @@ fn made(rt: &impl Abort, w: &mut World, maker: u8, slot: u8)
     assert!(rt; w.jobs.job(maker).is_some());
     assert!(rt; w.jobs.free() == Some(slot));
     let (u, j) = (Word::new(7), Word::new(0o107));
-    apply(w, maker, &[Change::Make { slot, u, j }]);
+    apply(w, Slot::new(maker), &[Change::Make { slot, u, j }]);
     assert_eq!(rt; w.jobs.superior(slot), Some(maker));
     assert_eq!(rt; w.jobs.job(slot).map(|job| job.stopped), Some(true));
     assert_eq!(rt; first(w.jobs.job(slot)), Some(Channel::Closed));
 }
 
 /// A call stores a word in an accumulator of a job, which then has it.
-fn poked(rt: &impl Abort, w: &mut World, caller: u8, slot: u8, at: u32)
-    requires caller { caller < slots }
+fn poked(rt: &impl Abort, w: &mut World, caller: Slot, slot: u8, at: u32)
     requires at { at < 16 }
     requires tidy { Tidy w.old }
     ensures { Tidy w.new }
@@ -134,8 +131,8 @@ fn inferiors(rt: HostRuntime) -> Result<(), Fail> {
     made(&rt, &mut w, 0, 4);
     made(&rt, &mut w, 2, 5);
     made(&rt, &mut w, 4, 6);
-    poked(&rt, &mut w, 0, 4, 0);
-    poked(&rt, &mut w, 2, 5, 0o17);
+    poked(&rt, &mut w, Slot::FIRST, 4, 0);
+    poked(&rt, &mut w, Slot::new(2), 5, 0o17);
     Ok(())
 }
 

@@ -1,12 +1,11 @@
-ghost use Rattle.std.specs.Prelude.{◌≡◌, ◌<◌, true, slice_set, IfOk};
+ghost use Rattle.std.specs.Prelude.{◌≡◌, true, slice_set, IfOk};
 ghost use Rattle.its_records.specs.declared.jobs.Channel.TheVariants.{Usr};
-ghost use Rattle.its_word.specs.Limits.{slots};
 ghost use Rattle.its_commit.specs.Removal.{Elsewhere};
 
 use super::unwind_below;
 use its_jobs::{Job, Jobs};
 use its_records::Channel;
-use its_word::{SLOTS, Word};
+use its_word::{SLOTS, Slot, Word};
 use its_world::World;
 use std::alloc::Global;
 use std::process::Abort;
@@ -47,18 +46,17 @@ fn add(rt: &impl Abort, jobs: &mut Jobs, superior: Option<u8>)
     }
     let made = jobs.create(Word::new(7), Word::new(0o107), superior, None);
     if let Ok(k) = made {
-        open(jobs, k);
+        open(jobs, Slot::new(k));
     }
 }
 
 /// Opens the first channel of a job.
-fn open(jobs: &mut Jobs, k: u8)
-    requires slot { k < slots }
+fn open(jobs: &mut Jobs, k: Slot)
     requires jobs { Elsewhere jobs.old }
     ensures jobs { Elsewhere jobs.new }
     ensures limit { jobs.new.limit ≡ jobs.old.limit }
 {
-    if let Some(job) = jobs.job_mut(k) {
+    if let Some(job) = jobs.job_mut(k.number()) {
         *job = opened(*job);
     }
 }
@@ -78,7 +76,7 @@ fn opened(job: Job) -> Job
 fn nothing_to_unwind(rt: HostRuntime) -> Result<(), Fail> {
     let mut w = World::open(rt.alloc())?;
     w.jobs = jobs(&rt, rt.alloc(), [None, Some(0), Some(1), None])?;
-    unwind_below(&mut w, 0);
+    unwind_below(&mut w, Slot::FIRST);
     for slot in 0..4u8 {
         assert_eq!(rt; w.jobs.job(slot).map(|j| j.channels[0]), Some(on()));
     }

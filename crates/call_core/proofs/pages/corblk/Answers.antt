@@ -8,7 +8,7 @@ use Rattle.call_core.proofs.pages.corblk.Goals as goal
 pub returns-in-Usr-default-true-default : goal.returns-in-Usr-default-true-default
 returns-in-Usr-default-true-default c =
     let h = c.in-Usr-default-true-default in
-    c.pages_of-in-Usr-default-true-default.ensures
+    (rw c.new.ensures at c.pages_of-in-Usr-default-true-default.ensures)
     ∙ through c.args.w.now c.args.slot c.args.job.now c.args.ask.now h.inferior h.at h.write c.requires.tidy c.requires.fail c.requires.name
     (omega arith)
     (sym (c.is_oneself.ensures ∙ ap is_oneself c.input-party.ensures) ∙ c.if-is_oneself.false)

@@ -7,11 +7,11 @@ use Rattle.call_basic.proofs.PartLaws.{part_moves, part_stops, part_sized}
 use Rattle.its_plain.specs.Transfer.{next_pointer}
 use Rattle.call_link.proofs.transfer.siot_sends.Goals as goal
 
-pub siot_send-requires-clause-size : goal.siot_send-requires-clause-size
-siot_send-requires-clause-size c =
+pub siot_send-requires : goal.siot_send-requires
+siot_send-requires c =
     let v = seen_by c.args.w.now c.args.slot c.args.job.now c.args.ask.now in
     let a = c.args.ask.now in
-    part_sized v c.args.job.now a false false c.next_byte.result (c.next_byte.ensures.stops c.args.job.now) c.in-Ok.next c.in-Ok.is c.next_byte.ensures.next
+    record { size = part_sized v c.args.job.now a false false c.next_byte.result (c.next_byte.ensures.stops c.args.job.now) c.in-Ok.next c.in-Ok.is c.next_byte.ensures.next }
 
 pub returns-in-Err : goal.returns-in-Err
 returns-in-Err c =

@@ -7,11 +7,11 @@ use Rattle.call_basic.proofs.PartLaws.{part_moves, part_stops, part_sized}
 use Rattle.its_plain.specs.Transfer.{next_pointer}
 use Rattle.call_tty.proofs.transfer.siot_out.Goals as goal
 
-pub puts_byte-requires-clause-size : goal.puts_byte-requires-clause-size
-puts_byte-requires-clause-size c =
+pub puts_byte-requires : goal.puts_byte-requires
+puts_byte-requires c =
     let v = seen_by c.args.w.now c.args.slot c.args.job.now c.args.ask.now in
     let a = c.args.ask.now in
-    part_sized v c.args.job.now a false false c.next_byte.result (c.next_byte.ensures.stops c.args.job.now) c.in-Ok.next c.in-Ok.is c.next_byte.ensures.next
+    record { size = part_sized v c.args.job.now a false false c.next_byte.result (c.next_byte.ensures.stops c.args.job.now) c.in-Ok.next c.in-Ok.is c.next_byte.ensures.next }
 
 pub returns-in-Err : goal.returns-in-Err
 returns-in-Err c =

@@ -2,8 +2,8 @@ use Rattle.its_commit.proofs.TidyLaws.{becomes_pages, tidy_kept}
 use Rattle.its_commit.proofs.StandingLaws.{of_some, stands_request, goes_row}
 use Rattle.its_commit.proofs.committing.go_on.Goals as goal
 
-pub go_on-requires-clause-request : goal.go_on-requires-clause-request
-go_on-requires-clause-request c = stands_request _ c.requires.stands
+pub go_on-requires : goal.go_on-requires
+go_on-requires c = record { request = stands_request _ c.requires.stands }
 
 pub returns-clause-row : goal.returns-clause-row
 returns-clause-row c = goes_row _ _ _ _ _ _ _ _ _ c.standing.ensures c.next_of-next.ensures c.go_on.ensures

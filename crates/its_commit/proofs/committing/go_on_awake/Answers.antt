@@ -3,8 +3,8 @@ use Rattle.its_commit.proofs.TidyLaws.{becomes_pages, tidy_kept}
 use Rattle.its_commit.proofs.StandingLaws.{awake_row, of_some, stands_request}
 use Rattle.its_commit.proofs.committing.go_on_awake.Goals as goal
 
-pub go_on-requires-clause-request : goal.go_on-requires-clause-request
-go_on-requires-clause-request c = stands_request _ c.requires.stands
+pub go_on-requires : goal.go_on-requires
+go_on-requires c = record { request = stands_request _ c.requires.stands }
 
 pub returns-clause-row : goal.returns-clause-row
 returns-clause-row c = awake_row _ _ _ (c.args.next ∷ c.args.left ∷ []) _ _ _ c.requires.awake c.awake_next-stage.ensures c.go_on.ensures

@@ -2,8 +2,8 @@ use Rattle.its_commit.proofs.TidyLaws.{becomes_pages, tidy_kept}
 use Rattle.its_commit.proofs.StandingLaws.{of_some, stands_request, waits_row}
 use Rattle.its_commit.proofs.committing.wait.Goals as goal
 
-pub go_to-requires-clause-request : goal.go_to-requires-clause-request
-go_to-requires-clause-request c = stands_request _ c.requires.stands
+pub go_to-requires : goal.go_to-requires
+go_to-requires c = record { request = stands_request _ c.requires.stands }
 
 pub returns-clause-row : goal.returns-clause-row
 returns-clause-row c = waits_row _ _ _ _ _ _ c.standing-owes.ensures c.go_to.ensures

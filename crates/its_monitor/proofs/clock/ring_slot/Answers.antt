@@ -4,7 +4,7 @@ use Rattle.its_monitor.proofs.clock.ring_slot.Goals as goal
 
 pub returns-else-next-clock-clause-rang : goal.returns-else-next-clock-clause-rang
 returns-else-next-clock-clause-rang c =
-    still_some c.args.clock c.args.slot c.in-Some.period c.in-Some.next c.args.w.now c.requires.tidy (sym c.in-Some.is ∙ (rw c.number.ensures.value at c.alarm.ensures)) c.if-next-clock.false
+    still_some c.args.clock c.args.slot c.in-Some.period c.in-Some.next c.args.w.now c.requires.tidy (sym c.in-Some.is ∙ c.alarm.ensures) c.if-next-clock.false
 
 pub returns-in_default-clause-rang : goal.returns-in_default-clause-rang
-returns-in_default-clause-rang c = still_none c.args.clock c.args.slot c.args.w.now c.requires.tidy (sym c.in_default.is ∙ (rw c.number.ensures.value at c.alarm.ensures))
+returns-in_default-clause-rang c = still_none c.args.clock c.args.slot c.args.w.now c.requires.tidy (sym c.in_default.is ∙ c.alarm.ensures)

@@ -4,8 +4,8 @@ use Rattle.its_pclsr.proofs.RowLaws.{backed_row, still}
 use Rattle.its_commit.proofs.StandingLaws.{of_some}
 use Rattle.its_pclsr.proofs.unwinding.back.Goals as goal
 
-pub go_to-requires-clause-request : goal.go_to-requires-clause-request
-go_to-requires-clause-request c = still _ _ c.give_back.ensures.frame.here c.requires.request
+pub go_to-requires : goal.go_to-requires
+go_to-requires c = record { request = still _ _ c.give_back.ensures.frame.here c.requires.request }
 
 pub returns-clause-row : goal.returns-clause-row
 returns-clause-row c = backed_row _ _ _ _ c.give_back.ensures c.go_to.ensures

@@ -70,8 +70,8 @@ pub returns-else-owes-eq0-2-clause-row : goal.returns-else-owes-eq0-2-clause-row
 returns-else-owes-eq0-2-clause-row c =
     waiting_paid _ _ _ c.frame.ensures c.requires.sound _ _ _ c.in-Waiting.is _ _ c.if-owes-eq0-2.false c.first_owed-store-else-owes-eq0-2.ensures c.pay.ensures.row
 
-pub held_store-store-requires-clause-pays : goal.held_store-store-requires-clause-pays
-held_store-store-requires-clause-pays c = moving_pays _ _ _ c.frame.ensures c.requires.sound _ _ _ _ c.in-Moving.is
+pub held_store-store-requires : goal.held_store-store-requires
+held_store-store-requires c = record { pays = moving_pays _ _ _ c.frame.ensures c.requires.sound _ _ _ _ c.in-Moving.is }
 
 pub pay_held-requires-in-Moving-clause-job : goal.pay_held-requires-in-Moving-clause-job
 pay_held-requires-in-Moving-clause-job c = job_there _ _ _ c.frame.ensures c.requires.sound _ _ c.in-Moving.is refl

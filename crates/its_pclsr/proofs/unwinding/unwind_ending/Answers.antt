@@ -6,11 +6,11 @@ use Rattle.its_pclsr.proofs.ApartLaws.{off_alike, off_back, off_one, off_then}
 use Rattle.its_pclsr.proofs.EndingLaws.{taken_job, store_can, page_there, store_row, back_row, part_row, part_next, leave_row}
 use Rattle.its_pclsr.proofs.unwinding.unwind_ending.Goals as goal
 
-pub make-requires-clause-can : goal.make-requires-clause-can
-make-requires-clause-can c = store_can _ _ _ _ c.take_step.ensures.taken c.requires.sound _ _ c.in-Store.is
+pub make-requires : goal.make-requires
+make-requires c = record { can = store_can _ _ _ _ c.take_step.ensures.taken c.requires.sound _ _ c.in-Store.is }
 
-pub give_back-requires-clause-page : goal.give_back-requires-clause-page
-give_back-requires-clause-page c = page_there _ _ _ _ c.take_step.ensures.taken c.requires.sound c.in-GiveBack.is
+pub give_back-requires : goal.give_back-requires
+give_back-requires c = record { page = page_there _ _ _ _ c.take_step.ensures.taken c.requires.sound c.in-GiveBack.is }
 
 pub leave-requires-clause-job : goal.leave-requires-clause-job
 leave-requires-clause-job c = ap is_some c.leave_call.ensures.job.here ∙ taken_job _ _ _ _ c.take_step.ensures.taken c.requires.sound

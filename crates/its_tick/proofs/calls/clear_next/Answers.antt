@@ -7,8 +7,8 @@ use Rattle.its_tick.proofs.calls.clear_next.Goals as goal
 pub clear_quarter-requires-clause-page : goal.clear_quarter-requires-clause-page
 clear_quarter-requires-clause-page c = clear_page _ _ _ _ (clearing c.args.w.now c.args.slot c.args.clear c.args.owes c.requires.holds) c.requires.kept
 
-pub go_to-requires-clause-request : goal.go_to-requires-clause-request
-go_to-requires-clause-request c = cleared_goes _ _ _ _ (clearing c.args.w.now c.args.slot c.args.clear c.args.owes c.requires.holds) c.requires.kept _ c.clear_quarter.ensures
+pub go_to-requires : goal.go_to-requires
+go_to-requires c = record { request = cleared_goes _ _ _ _ (clearing c.args.w.now c.args.slot c.args.clear c.args.owes c.requires.holds) c.requires.kept _ c.clear_quarter.ensures }
 
 pub returns-clause-row : goal.returns-clause-row
 returns-clause-row c =

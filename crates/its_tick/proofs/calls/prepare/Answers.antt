@@ -3,11 +3,11 @@ use Rattle.its_tick.proofs.FramesLaws.{asked_pages, page_prepared_frames, none_p
 use Rattle.its_tick.proofs.CallLaws.{asking, asked_unreserved, bare_held, bare_row, paged_goes, paged_held, paged_row}
 use Rattle.its_tick.proofs.calls.prepare.Goals as goal
 
-pub reserve-requires-clause-none : goal.reserve-requires-clause-none
-reserve-requires-clause-none c = asked_unreserved _ _ _ (asking c.args.w.now c.args.slot c.args.page c.requires.frame c.requires.page) c.requires.kept
+pub reserve-requires : goal.reserve-requires
+reserve-requires c = record { none = asked_unreserved _ _ _ (asking c.args.w.now c.args.slot c.args.page c.requires.frame c.requires.page) c.requires.kept }
 
-pub go_to-requires-clause-request : goal.go_to-requires-clause-request
-go_to-requires-clause-request c = paged_goes _ _ _ (asking c.args.w.now c.args.slot c.args.page c.requires.frame c.requires.page) c.requires.kept _ c.reserve.ensures
+pub go_to-requires : goal.go_to-requires
+go_to-requires c = record { request = paged_goes _ _ _ (asking c.args.w.now c.args.slot c.args.page c.requires.frame c.requires.page) c.requires.kept _ c.reserve.ensures }
 
 pub returns-then-page-clause-row : goal.returns-then-page-clause-row
 returns-then-page-clause-row c = paged_row _ _ _ (asking c.args.w.now c.args.slot c.args.page c.requires.frame c.requires.page) c.requires.kept _ _ c.if-page.true c.reserve.ensures c.go_to.ensures

@@ -34,11 +34,13 @@ pub returns-then-waits_on-clause-waits : goal.returns-then-waits_on-clause-waits
 returns-then-waits_on-clause-waits c = λ h. ((λ e. stands c), (λ b. refl))
 
 -- one that does not
-pub go_on-requires-clause-kept : goal.go_on-requires-clause-kept
-go_on-requires-clause-kept c = elim c.requires.can [
-  | inl k ↦ k
-  | inr r ↦ absurd (c.waits_on.ensures.no c.if-waits_on.false r)
-]
+pub go_on-requires : goal.go_on-requires
+go_on-requires c = record {
+  kept = elim c.requires.can [
+    | inl k ↦ k
+    | inr r ↦ absurd (c.waits_on.ensures.no c.if-waits_on.false r)
+  ];
+}
 
 pub returns-clause-state : goal.returns-clause-state
 returns-clause-state c = λ k. c.go_on.ensures.state

@@ -11,4 +11,4 @@ pub returns-clause-says : goal.returns-clause-says
 returns-clause-says g c =
     let m = machine_of c.args.plain.now in
     state_says m.version c.args.plain.now.version c.args.s (state_shown m c.args.s) c.in-Ok.show c.expect.result c.args.reader.now c.expect.new.self (g.S.Source.left c.args.src.now) (g.S.Source.left c.expect.new.src)
-    c.requires.there (subst (λ (r : Result JobShow Reason). IfOk r (λ y. Some c.in-Ok.show ≡ Some y)) (sym (rw c.number.ensures.value at c.in-Ok.ensures.shown)) refl) (version_is c.args.plain.now) c.expect.ensures.says
+    c.requires.there (subst (λ (r : Result JobShow Reason). IfOk r (λ y. Some c.in-Ok.show ≡ Some y)) (sym c.in-Ok.ensures.shown) refl) (version_is c.args.plain.now) c.expect.ensures.says

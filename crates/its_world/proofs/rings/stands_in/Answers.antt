@@ -10,7 +10,7 @@ loop-k-init c = looked_start _ _ _ _ c.front-at.ensures.front
 
 pub returns-then-node-from : goal.returns-then-node-from
 returns-then-node-from c = (
-  (λ h. subst (λ n. 0 < count n (list_at c.args.rings.now.lists c.args.head)) (c.if-node-from.true ∙ c.from.ensures) (looked_here _ _ _ _ _ _ c.loop-k.invariant c.in-Some.is)),
+  (λ h. subst (λ n. 0 < count n (list_at c.args.rings.now.lists c.args.head)) (c.if-node-from.true ∙ (rw c.number.ensures.value at c.from.ensures)) (looked_here _ _ _ _ _ _ c.loop-k.invariant c.in-Some.is)),
   (λ h. refl),
 )
 
@@ -18,4 +18,4 @@ pub next-at-requires : goal.next-at-requires
 next-at-requires c = looked_in _ _ _ _ _ _ c.loop-k.invariant c.in-Some.is
 
 pub loop-k-preserved : goal.loop-k-preserved
-loop-k-preserved c = looked_more _ _ _ _ _ _ _ _ c.loop-k.invariant c.in-Some.is c.from.ensures c.if-node-from.false c.next-at.ensures
+loop-k-preserved c = looked_more _ _ _ _ _ _ _ _ c.loop-k.invariant c.in-Some.is (rw c.number.ensures.value at c.from.ensures) c.if-node-from.false c.next-at.ensures

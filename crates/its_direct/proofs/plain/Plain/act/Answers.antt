@@ -17,7 +17,6 @@ act_on-requires-clause-target c =
 
 pub act_widely-requires : goal.act_widely-requires
 act_widely-requires c = record {
-  slot = c.requires.slot;
   few = within_reach c.args.self.now c.args.slot c.args.job.now c.args.ask.now _ c.requires.kept c.requires.job c.disturbed.ensures;
   ready = subst (λ (d : Decision). CanCarryOut (machine_of c.args.self.now) c.args.slot c.args.ask.now d) (sym c.decided-decision.ensures) c.requires.ready;
   tidy = c.requires.kept.tidy;

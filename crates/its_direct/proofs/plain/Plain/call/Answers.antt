@@ -5,8 +5,8 @@ use Rattle.its_direct.proofs.plain.Plain.call.Goals as goal
 pub unreachable-requires : goal.unreachable-requires
 unreachable-requires c = calls_some c.args.self.now c.args.slot c.args.site.now _ c.requires.calls c.job.result c.job.ensures c.in_default.is
 
-pub ask-requires-clause-fits : goal.ask-requires-clause-fits
-ask-requires-clause-fits c = calls_fits c.args.self.now c.args.slot c.args.site.now _ c.requires.calls c.in-Some.job (sym c.job.ensures ∙ c.in-Some.is) c.requires.kept.tidy
+pub ask-requires : goal.ask-requires
+ask-requires c = record { fits = calls_fits c.args.self.now c.args.slot c.args.site.now _ c.requires.calls c.in-Some.job (sym c.job.ensures ∙ c.in-Some.is) c.requires.kept.tidy }
 
 pub act-requires-clause-ready : goal.act-requires-clause-ready
 act-requires-clause-ready c =

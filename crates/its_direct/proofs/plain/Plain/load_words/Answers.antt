@@ -11,16 +11,16 @@ returns-then-any_barred-clause-refused c = line_barred c.args.self.now c.args.sl
 pub returns-then-mapped-pages_made-gt-MAPPED_PAGES-clause-refused : goal.returns-then-mapped-pages_made-gt-MAPPED_PAGES-clause-refused
 returns-then-mapped-pages_made-gt-MAPPED_PAGES-clause-refused c =
     line_full c.args.self.now c.args.slot c.args.a c.args.words.now _ (sym c.job.ensures ∙ c.in-Some.is) _ c.any_barred.ensures c.if-any_barred.false
-    c.requires.tidy c.requires.slot c.requires.end (c.mapped.ensures.whole c.args.slot c.requires.slot) _ _ c.mapped.ensures.number c.mapped.ensures.most c.pages_made.ensures.number
+    c.requires.tidy c.within.ensures c.requires.end (c.mapped.ensures.whole c.args.slot c.within.ensures) _ _ c.mapped.ensures.number c.mapped.ensures.most c.pages_made.ensures.number
     c.if-mapped-pages_made-gt-MAPPED_PAGES.true
 
 pub store_words-requires-clause-room : goal.store_words-requires-clause-room
 store_words-requires-clause-room c =
     line_room c.args.self.now c.args.slot c.args.a c.args.words.now _ (sym c.job.ensures ∙ c.in-Some.is) _ c.any_barred.ensures c.if-any_barred.false
-    c.requires.tidy c.requires.slot c.requires.end (c.mapped.ensures.whole c.args.slot c.requires.slot) _ _ c.mapped.ensures.number c.mapped.ensures.most c.pages_made.ensures.number
+    c.requires.tidy c.within.ensures c.requires.end (c.mapped.ensures.whole c.args.slot c.within.ensures) _ _ c.mapped.ensures.number c.mapped.ensures.most c.pages_made.ensures.number
     c.if-mapped-pages_made-gt-MAPPED_PAGES.false
 
 pub returns-clause-done : goal.returns-clause-done
 returns-clause-done c =
     line_done c.args.self.now c.args.slot c.args.a c.args.words.now _ (sym c.job.ensures ∙ c.in-Some.is) _ c.any_barred.ensures c.if-any_barred.false
-    c.store_words.new.self c.touch_only.new.self c.requires.slot c.store_words.ensures.done c.store_words.ensures.place c.touch_only.ensures
+    c.store_words.new.self c.touch_only.new.self c.within.ensures c.store_words.ensures.done c.store_words.ensures.place c.touch_only.ensures

@@ -3,12 +3,12 @@ use Rattle.its_direct.proofs.plain.Plain.move_to.Goals as goal
 
 pub returns-in-Reading : goal.returns-in-Reading
 returns-in-Reading c =
-    let k = move_file_comes c.args.self.now c.set_channel.new.self c.args.slot c.args.n c.requires.slot c.requires.channel c.requires.tidy c.in-Reading.file c.in-Reading.at c.args.at c.set_channel.ensures c.in-Reading.ensures in
+    let k = move_file_comes c.args.self.now c.set_channel.new.self c.args.slot c.args.n c.within.ensures c.requires.channel c.requires.tidy c.in-Reading.file c.in-Reading.at c.args.at c.set_channel.ensures c.in-Reading.ensures in
     record { row = k.row; tidy = k.tidy }
 
 pub returns-in-Usr : goal.returns-in-Usr
 returns-in-Usr c =
-    let k = move_usr_comes c.args.self.now c.set_channel-in-Usr.new.self c.args.slot c.args.n c.requires.slot c.requires.channel c.requires.tidy c.in-Usr.s c.in-Usr.at c.args.at c.in-Usr.write c.set_channel-in-Usr.ensures c.in-Usr.ensures in
+    let k = move_usr_comes c.args.self.now c.set_channel-in-Usr.new.self c.args.slot c.args.n c.within.ensures c.requires.channel c.requires.tidy c.in-Usr.s c.in-Usr.at c.args.at c.in-Usr.write c.set_channel-in-Usr.ensures c.in-Usr.ensures in
     record { row = k.row; tidy = k.tidy }
 
 pub returns-in_default : goal.returns-in_default

@@ -5,7 +5,7 @@ use Rattle.its_direct.proofs.plain.Plain.put_held.Goals as goal
 
 pub store-requires-clause-can : goal.store-requires-clause-can
 store-requires-clause-can c =
-    held_can (machine_of c.args.self.now) c.args.slot (with_new_values c.args.ask.now c.args.values.now) c.args.held c.in-Some.h _ _ _ c.requires.slot c.requires.job c.in-Some.is c.requires.fits
+    held_can (machine_of c.args.self.now) c.args.slot (with_new_values c.args.ask.now c.args.values.now) c.args.held c.in-Some.h _ _ _ c.within.ensures c.requires.job c.in-Some.is c.requires.fits
     c.deposited-store.ensures
 
 pub returns-in-Some-clause-row : goal.returns-in-Some-clause-row

@@ -6,12 +6,12 @@ pub returns-clause-row : goal.returns-clause-row
 returns-clause-row c =
     let r = c.requires in
     let t = c.remove_tree.ensures in
-    stripped_row c.args.self.now c.sweep.new.self _ c.args.root r.slot c.tree.ensures r.closed r.tidy
-    (removes c.args.self.now c.sweep.new.self _ c.args.root c.sweep.ensures t.job t.superior c.pass_on.ensures refl refl refl refl refl refl refl c.leave_links.ensures refl refl)
+    stripped_row c.args.self.now c.sweep.new.self _ c.args.root (rw c.number-number.ensures.value at c.number-number.ensures.below) c.tree.ensures r.closed r.tidy
+    (removes c.args.self.now c.sweep.new.self _ c.args.root c.sweep.ensures (rw c.number-number.ensures.value at t.job) (rw c.number-number.ensures.value at t.superior) (rw c.number-number.ensures.value at c.pass_on.ensures) refl refl refl refl refl refl refl (rw c.number-number.ensures.value at c.leave_links.ensures) refl refl)
 
 pub returns-clause-tidy : goal.returns-clause-tidy
 returns-clause-tidy c =
     let r = c.requires in
     let t = c.remove_tree.ensures in
-    stripped_tidy c.args.self.now c.sweep.new.self _ c.args.root r.slot c.tree.ensures r.closed r.tidy
-    (removes c.args.self.now c.sweep.new.self _ c.args.root c.sweep.ensures t.job t.superior c.pass_on.ensures refl refl refl refl refl refl refl c.leave_links.ensures refl refl)
+    stripped_tidy c.args.self.now c.sweep.new.self _ c.args.root (rw c.number-number.ensures.value at c.number-number.ensures.below) c.tree.ensures r.closed r.tidy
+    (removes c.args.self.now c.sweep.new.self _ c.args.root c.sweep.ensures (rw c.number-number.ensures.value at t.job) (rw c.number-number.ensures.value at t.superior) (rw c.number-number.ensures.value at c.pass_on.ensures) refl refl refl refl refl refl refl (rw c.number-number.ensures.value at c.leave_links.ensures) refl refl)

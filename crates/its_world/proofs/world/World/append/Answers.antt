@@ -19,7 +19,7 @@ unreachable-requires c =
     let r = c.requires in
     let w = c.args.self.now in
     let most = c.seen.ensures.blocks in
-    let room = append_room w w c.args.slot c.args.n r.slot r.channel r.tidy c.in-Writing.draft c.in-Writing.ensures r.unmarked c.seen.ensures.whole (omega arith) r.room in
+    let room = append_room w w c.args.slot c.args.n c.within.ensures r.channel r.tidy c.in-Writing.draft c.in-Writing.ensures r.unmarked c.seen.ensures.whole (omega arith) r.room in
     both_ways (is_full w.files.stored c.in-Writing.draft) room (sym c.in-Err.ensures.full)
 
 pub returns-in-Ok : goal.returns-in-Ok
@@ -28,7 +28,7 @@ returns-in-Ok c =
     let w = c.args.self.now in
     let e = c.in-Ok.ensures in
     let stands = writing_stands w.files w.jobs r.tidy.across c.args.slot c.args.n c.in-Writing.draft (sym c.in-Writing.ensures) in
-    let k = append_comes w _ c.args.slot c.args.n r.slot r.channel r.tidy c.append.new.self c.in-Writing.draft c.args.word c.in-Writing.ensures r.unmarked e.ok (e.draft stands.draft) e.entry e.words
+    let k = append_comes w _ c.args.slot c.args.n c.within.ensures r.channel r.tidy c.append.new.self c.in-Writing.draft c.args.word c.in-Writing.ensures r.unmarked e.ok (e.draft stands.draft) e.entry e.words
     (record { core = refl; jobs = refl; frames = refl; consoles = refl; holders = refl; clock = refl; version = refl; symbols = refl; pipes = refl; alarms = refl; files = refl; rings = refl }) in
     record { row = k.row; tidy = k.tidy; pages = refl }
 
@@ -36,5 +36,5 @@ pub returns-in_default : goal.returns-in_default
 returns-in_default c =
     let r = c.requires in
     let w = c.args.self.now in
-    let k = append_other_comes w w c.args.slot c.args.n r.slot r.channel r.tidy c.args.word c.channel.result c.channel.ensures c.in_default.not-Writing in
+    let k = append_other_comes w w c.args.slot c.args.n c.within.ensures r.channel r.tidy c.args.word c.channel.result c.channel.ensures c.in_default.not-Writing in
     record { row = k.row; tidy = k.tidy; pages = refl }

@@ -10,9 +10,9 @@ pub returns : goal.returns
 returns c =
     let lists = c.args.self.now.symbols.items in
     let places = c.args.self.now.lists in
-    let within = c.requires.slot in
-    let gains : Only (symbols_at lists) (symbols_at (slice_set lists c.from.result c.push.new.self)) c.args.slot (symbols_at lists c.args.slot ++ (c.args.name, c.args.a) ∷ []) =
-    list_gains lists c.args.slot c.from.result c.index_mut.result.now c.push.new.self (c.args.name, c.args.a) (omega arith) c.from.ensures c.index_mut.ensures.value c.push.ensures.items in
+    let within = (rw c.index.ensures.value at c.index.ensures.below) in
+    let gains : Only (symbols_at lists) (symbols_at (slice_set lists c.index.result c.push.new.self)) c.args.slot (symbols_at lists c.args.slot ++ (c.args.name, c.args.a) ∷ []) =
+    list_gains lists c.args.slot c.index.result c.index_mut.result.now c.push.new.self (c.args.name, c.args.a) (omega arith) c.index.ensures.value c.index_mut.ensures.value c.push.ensures.items in
     record {
       symbols = search;
       pipes = refl;

@@ -15,18 +15,18 @@ pub returns-in-Reading : goal.returns-in-Reading
 returns-in-Reading c =
     let r = c.requires in
     let b = store_first c.args.self.now _ _ _ _ _ _ (record { core = refl; jobs = refl; frames = refl; consoles = refl; holders = refl; clock = refl; version = refl; symbols = refl; pipes = refl; alarms = refl; files = refl; rings = refl }) c.set_channel.ensures in
-    let k = move_file_comes c.args.self.now c.set_channel.new.self c.args.slot c.args.n r.slot r.channel r.tidy c.seek.new.self c.in-Reading.file c.in-Reading.at c.args.at b c.in-Reading.ensures c.seek.ensures in
+    let k = move_file_comes c.args.self.now c.set_channel.new.self c.args.slot c.args.n c.within.ensures r.channel r.tidy c.seek.new.self c.in-Reading.file c.in-Reading.at c.args.at b c.in-Reading.ensures c.seek.ensures in
     record { row = k.row; tidy = k.tidy; pages = c.set_channel.ensures.pages }
 
 pub returns-in-Usr : goal.returns-in-Usr
 returns-in-Usr c =
     let r = c.requires in
-    let k = move_usr_comes c.args.self.now c.set_channel-in-Usr.new.self c.args.slot c.args.n r.slot r.channel r.tidy c.in-Usr.s c.in-Usr.at c.args.at c.in-Usr.write c.set_channel-in-Usr.ensures c.in-Usr.ensures in
+    let k = move_usr_comes c.args.self.now c.set_channel-in-Usr.new.self c.args.slot c.args.n c.within.ensures r.channel r.tidy c.in-Usr.s c.in-Usr.at c.args.at c.in-Usr.write c.set_channel-in-Usr.ensures c.in-Usr.ensures in
     record { row = k.row; tidy = k.tidy; pages = c.set_channel-in-Usr.ensures.pages }
 
 pub returns-in_default : goal.returns-in_default
 returns-in_default c =
     let r = c.requires in
     let w = c.args.self.now in
-    let k = move_other_comes w w c.args.slot c.args.n r.slot r.channel r.tidy c.args.at c.channel.result c.channel.ensures c.in_default.not-Reading c.in_default.not-Usr in
+    let k = move_other_comes w w c.args.slot c.args.n c.within.ensures r.channel r.tidy c.args.at c.channel.result c.channel.ensures c.in_default.not-Reading c.in_default.not-Usr in
     record { row = k.row; tidy = k.tidy; pages = refl }

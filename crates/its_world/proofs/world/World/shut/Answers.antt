@@ -20,7 +20,7 @@ returns-in-Reading c =
     let r = c.requires in
     let e = c.close_read.ensures in
     let b = store_first c.args.self.now _ _ _ _ _ _ (record { core = refl; jobs = refl; frames = refl; consoles = refl; holders = refl; clock = refl; version = refl; symbols = refl; pipes = refl; alarms = refl; files = refl; rings = refl }) c.set_channel.ensures in
-    let k = shut_file_comes c.args.self.now c.set_channel.new.self c.args.slot c.args.n r.slot r.channel r.tidy c.close_read.new.self c.in-Reading.file c.in-Reading.at b c.in-Reading.ensures e.read e.directory e.entry e.words in
+    let k = shut_file_comes c.args.self.now c.set_channel.new.self c.args.slot c.args.n c.within.ensures r.channel r.tidy c.close_read.new.self c.in-Reading.file c.in-Reading.at b c.in-Reading.ensures e.read e.directory e.entry e.words in
     record { row = k.row; tidy = k.tidy; pages = c.set_channel.ensures.pages }
 
 pub returns-in-Writing : goal.returns-in-Writing
@@ -28,12 +28,12 @@ returns-in-Writing c =
     let r = c.requires in
     let e = c.discard.ensures in
     let b = store_first c.args.self.now _ _ _ _ _ _ (record { core = refl; jobs = refl; frames = refl; consoles = refl; holders = refl; clock = refl; version = refl; symbols = refl; pipes = refl; alarms = refl; files = refl; rings = refl }) c.set_channel-in-Writing.ensures in
-    let k = shut_draft_comes c.args.self.now c.set_channel-in-Writing.new.self c.args.slot c.args.n r.slot r.channel r.tidy c.discard.new.self c.in-Writing.draft b c.in-Writing.ensures e.dropped e.directory e.entry e.words in
+    let k = shut_draft_comes c.args.self.now c.set_channel-in-Writing.new.self c.args.slot c.args.n c.within.ensures r.channel r.tidy c.discard.new.self c.in-Writing.draft b c.in-Writing.ensures e.dropped e.directory e.entry e.words in
     record { row = k.row; tidy = k.tidy; pages = c.set_channel-in-Writing.ensures.pages }
 
 pub returns-in_default : goal.returns-in_default
 returns-in_default c =
     let r = c.requires in
     let x = subst IsElsewhere c.channel.ensures (elsewhere_of c.channel.result c.in_default.not-Reading c.in_default.not-Writing) in
-    let k = shut_other_comes c.args.self.now c.set_channel-in_default.new.self c.args.slot c.args.n r.slot r.channel r.tidy c.set_channel-in_default.ensures x in
+    let k = shut_other_comes c.args.self.now c.set_channel-in_default.new.self c.args.slot c.args.n c.within.ensures r.channel r.tidy c.set_channel-in_default.ensures x in
     record { row = k.row; tidy = k.tidy; pages = c.set_channel-in_default.ensures.pages }
