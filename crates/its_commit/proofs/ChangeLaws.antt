@@ -43,6 +43,7 @@ use Rattle.its_world.proofs.AlarmLaws.{alarm_tidy}
 use Rattle.its_world.proofs.MadeLaws.{made_state, made_tidy, least_raw, least_blank, least_nameless, least_quiet}
 use Rattle.its_world.proofs.StorageLaws.{chan_shut, has_job}
 use Rattle.its_world.proofs.StateLaws.{raw_job, job_of, changed_state, absent_state, console_state, link_state, frames_state}
+use Rattle.its_world.proofs.ContentsLaws.{core_as}
 
 pub inf_set : (old new : World) (s : ℕ) (j : Job) (o : Option Job) → o ≡ job_at old.jobs s → o ≡ Some j → JobBecomes old new s (with_pending j INF)
     → state_of new ≡ in_raw (state_of old) s with_inf
@@ -242,4 +243,4 @@ pub armed_tidy : (old new : World) (s : ℕ) (a : Option (ℕ × ℕ)) → is_so
 armed_tidy old new s a some b tidy = alarm_tidy old new s a b (λ none. let wrong : true ≡ false = sym some ∙ ap is_some none in absurd cc) tidy
 
 pub armed_pages : (old new : World) (s : ℕ) (a : Option (ℕ × ℕ)) → AlarmBecomes old new s a → new.core.frames ≡ old.core.frames
-armed_pages old new s a b = ap (λ k. k.frames) b.core
+armed_pages old new s a b = ap (λ k. k.frames) (core_as b.rest)

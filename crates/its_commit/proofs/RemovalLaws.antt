@@ -50,6 +50,7 @@ use Rattle.its_machine.proofs.AcrossLaws.{across_alike, across_table, same_alike
 use Rattle.its_machine.proofs.LeftLaws.{left_alike, left_chan, raw_superior, shut_here, shut_there}
 use Rattle.its_records.proofs.ClimbLaws.{or_second}
 use Rattle.its_stepped.proofs.KeptLaws.{user_page}
+use Rattle.its_world.proofs.ContentsLaws.{core_as, jobs_as, frames_as, consoles_as, holders_as, files_as, clock_as, version_as, symbols_as, alarms_as, pipes_as}
 
 -- lists of symbols of which those of slots without a job are emptied
 abbrev Forgotten : Table → List (ArrayVec Symbol) → List (ArrayVec Symbol) → Type 0
@@ -137,14 +138,14 @@ becomes_alone old new s c j f b some = record {
           ∙ ap (λ i. superior_in (raw_at old.files old.core old.jobs old.alarms.items i)) (sym e)
       | inr ne ↦ ap superior_in (raw_others old new s c j f (clear_at old.core s) b k ne)
     ];
-    consoles = ap (λ cs c. console_at cs.items c) b.consoles;
-    holders = ap (λ hs c. holder_at hs c) b.holders;
-    files = ap directory b.files;
-    clock = b.clock;
-    version = b.version;
-    symbols = ap (λ l k. symbols_at l.items k) b.symbols;
-    links = ap (λ p l. piped p l) b.pipes;
-    mark = ap mark_of b.files;
+    consoles = ap (λ cs c. console_at cs.items c) (consoles_as b.rest);
+    holders = ap (λ hs c. holder_at hs c) (holders_as b.rest);
+    files = ap directory (files_as b.rest);
+    clock = clock_as b.rest;
+    version = version_as b.rest;
+    symbols = ap (λ l k. symbols_at l.items k) (symbols_as b.rest);
+    links = ap (λ p l. piped p l) (pipes_as b.rest);
+    mark = ap mark_of (files_as b.rest);
   };
 }
 
@@ -189,13 +190,13 @@ slot_emptied old mid low off new s a tidy b d e same dropped = record {
       (subst (λ v. Alone (state_of mid) v s) (frames_state low mid.core.frames)
       (becomes_alone mid (with_frames low mid.core.frames) s no_core (job_at mid.jobs s) (frame_at mid.frames.items s) b refl))
       (alone_then (state_of low) (state_of off) (state_of new) s (becomes_alone low off s (core_at low.core s) (job_at low.jobs s) None d refl) (alarm_alone off new s None e)));
-  frame = frame_is new s ∙ ap (λ l. frame_at l.items s) e.frames ∙ d.frame.here;
+  frame = frame_is new s ∙ ap (λ l. frame_at l.items s) (frames_as e.rest) ∙ d.frame.here;
   bare = record {
-    core = ap (λ c. core_at c s) e.core ∙ d.core.here ∙ sym (frames_core low mid.core.frames s) ∙ b.core.here;
-    channels = λ n. ap (λ t. channel_at t s n) e.jobs ∙ ap (λ j. channel_by j n) (d.job.here ∙ b.job.here) ∙ closed_all mid s tidy a.closed n;
+    core = ap (λ c. core_at c s) (core_as e.rest) ∙ d.core.here ∙ sym (frames_core low mid.core.frames s) ∙ b.core.here;
+    channels = λ n. ap (λ t. channel_at t s n) (jobs_as e.rest) ∙ ap (λ j. channel_by j n) (d.job.here ∙ b.job.here) ∙ closed_all mid s tidy a.closed n;
     alarm = e.alarms.here;
   };
-  pages = ap (λ c. c.frames) e.core ∙ d.pages ∙ frames_still (clear_at low.core s) s low.core.frames ∙ dropped ∙ ap (frames_drop_all s) same;
+  pages = ap (λ c. c.frames) (core_as e.rest) ∙ d.pages ∙ frames_still (clear_at low.core s) s low.core.frames ∙ dropped ∙ ap (frames_drop_all s) same;
 }
 
 pub tidy_bare : (old new : World) (s : ℕ) → CoreBecomes old (with_frames new old.core.frames) s no_core → Tidy old → Tidy new
@@ -226,12 +227,12 @@ shut_tidy gone old new s j i is h b tidy = record {
     | inl e ↦ let wrong : None ≡ Some i = sym none ∙ ap (job_at new.jobs) e ∙ b.job.here in absurd cc
     | inr ne ↦ b.core.others k ne ∙ tidy.blank k (sym (b.job.others k ne) ∙ none)
   ];
-  quiet = λ k none. ap (λ l. alarm_at l.items k) b.alarms ∙ elim (cases_eq k s) [
+  quiet = λ k none. ap (λ l. alarm_at l.items k) (alarms_as b.rest) ∙ elim (cases_eq k s) [
     | inl e ↦ let wrong : None ≡ Some i = sym none ∙ ap (job_at new.jobs) e ∙ b.job.here in absurd cc
     | inr ne ↦ tidy.quiet k (sym (b.job.others k ne) ∙ none)
   ];
-  timed = subst (λ t. t < clock_end) (sym b.clock) tidy.timed;
-  across = subst (λ (t : Store). Across t new.jobs) (sym b.files)
+  timed = subst (λ t. t < clock_end) (sym (clock_as b.rest)) tidy.timed;
+  across = subst (λ (t : Store). Across t new.jobs) (sym (files_as b.rest))
       (across_alike old.files old.jobs new.jobs tidy.across (λ k n. elim (cases_eq k s) [
         | inl e ↦
             left_alike gone (channel_at old.jobs k n) (channel_at new.jobs k n)
@@ -239,7 +240,7 @@ shut_tidy gone old new s j i is h b tidy = record {
             ∙ ap (λ o. channel_left gone (channel_by o n)) (sym is) ∙ ap (λ m. channel_left gone (channel_at old.jobs m n)) (sym e))
         | inr ne ↦ same_alike (channel_at old.jobs k n) (channel_at new.jobs k n) (ap (λ o. channel_by o n) (b.job.others k ne))
       ]));
-  nameless = λ k none. ap (λ l. symbols_at l.items k) b.symbols ∙ tidy.nameless k (elim (cases_eq k s) [
+  nameless = λ k none. ap (λ l. symbols_at l.items k) (symbols_as b.rest) ∙ tidy.nameless k (elim (cases_eq k s) [
     | inl e ↦ let wrong : None ≡ Some i = sym none ∙ ap (job_at new.jobs) e ∙ b.job.here in absurd cc
     | inr ne ↦ sym (b.job.others k ne) ∙ none
   ]);

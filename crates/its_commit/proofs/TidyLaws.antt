@@ -20,19 +20,20 @@ use Rattle.its_world.specs.World.{alarm_at, frame_at, symbols_at, Becomes, CoreB
 use Rattle.its_world.specs.declared.world.World.{World}
 use Rattle.its_machine.proofs.AcrossLaws.{across_table}
 use Rattle.its_world.proofs.WorldLaws.{frames_still}
+use Rattle.its_world.proofs.ContentsLaws.{core_as, jobs_as, files_as, clock_as, symbols_as, alarms_as}
 
 -- each page stays in its frame if no page is reserved and none given back
 pub becomes_pages : (old new : World) (s : ℕ) (c : Core) (j : Option Job) (f : Option Frame) → Becomes old new s c j f (clear_at old.core s) → new.core.frames ≡ old.core.frames
 becomes_pages old new s c j f b = b.pages ∙ frames_still (clear_at old.core s) s old.core.frames
 
 pub console_pages : (old new : World) (c : ℕ) (x : Console) → ConsoleBecomes old new c x → new.core.frames ≡ old.core.frames
-console_pages old new c x b = ap (λ k. k.frames) b.core
+console_pages old new c x b = ap (λ k. k.frames) (core_as b.rest)
 
 pub link_pages : (old new : World) (l : ℕ) (p : Option Pipe) → LinkBecomes old new l p → new.core.frames ≡ old.core.frames
-link_pages old new l p b = ap (λ k. k.frames) b.core
+link_pages old new l p b = ap (λ k. k.frames) (core_as b.rest)
 
 pub holder_pages : (old new : World) (c : ℕ) (h : Option ℕ) → HolderBecomes old new c h → new.core.frames ≡ old.core.frames
-holder_pages old new c h b = ap (λ k. k.frames) b.core
+holder_pages old new c h b = ap (λ k. k.frames) (core_as b.rest)
 
 -- one slot is written, whose job keeps its channels; if it has no job then, its core is that of none
 pub tidy_becomes : (old new : World) (s : ℕ) (c : Core) (o : Option Job) (f : Option Frame) (r : Option ℕ) → Becomes old new s c o f r
@@ -42,17 +43,17 @@ tidy_becomes old new s c o f r b bare empty kept tidy = record {
     | inl is ↦ ap (core_at new.core) is ∙ b.core.here ∙ bare (sym b.job.here ∙ ap (job_at new.jobs) (sym is) ∙ h)
     | inr ne ↦ b.core.others k ne ∙ tidy.blank k (sym (b.job.others k ne) ∙ h)
   ];
-  quiet = λ k h. ap (λ l. alarm_at l.items k) b.alarms ∙ elim (cases_eq k s) [
+  quiet = λ k h. ap (λ l. alarm_at l.items k) (alarms_as b.rest) ∙ elim (cases_eq k s) [
     | inl is ↦ ap (alarm_at old.alarms.items) is ∙ tidy.quiet s (empty (sym b.job.here ∙ ap (job_at new.jobs) (sym is) ∙ h))
     | inr ne ↦ tidy.quiet k (sym (b.job.others k ne) ∙ h)
   ];
-  timed = subst (λ t. t < clock_end) (sym b.clock) tidy.timed;
-  across = subst (λ (t : Store). Across t new.jobs) (sym b.files)
+  timed = subst (λ t. t < clock_end) (sym (clock_as b.rest)) tidy.timed;
+  across = subst (λ (t : Store). Across t new.jobs) (sym (files_as b.rest))
       (across_table old.files old.jobs new.jobs tidy.across (λ k n. elim (cases_eq k s) [
         | inl is ↦ ap (λ i. channel_at new.jobs i n) is ∙ ap (λ j. channel_by j n) b.job.here ∙ kept n ∙ ap (λ i. channel_at old.jobs i n) (sym is)
         | inr ne ↦ ap (λ j. channel_by j n) (b.job.others k ne)
       ]));
-  nameless = λ k h. ap (λ l. symbols_at l.items k) b.symbols ∙ tidy.nameless k (elim (cases_eq k s) [
+  nameless = λ k h. ap (λ l. symbols_at l.items k) (symbols_as b.rest) ∙ tidy.nameless k (elim (cases_eq k s) [
     | inl is ↦ ap (job_at old.jobs) is ∙ empty (sym b.job.here ∙ ap (job_at new.jobs) (sym is) ∙ h)
     | inr ne ↦ sym (b.job.others k ne) ∙ h
   ]);
@@ -99,7 +100,7 @@ tidy_alike old new core jobs files alarms clock symbols ringed tidy = record {
 }
 
 pub tidy_console : (old new : World) (c : ℕ) (x : Console) → ConsoleBecomes old new c x → Tidy old → Tidy new
-tidy_console old new c x b tidy = tidy_alike old new b.core b.jobs b.files b.alarms b.clock b.symbols b.ringed tidy
+tidy_console old new c x b tidy = tidy_alike old new (core_as b.rest) (jobs_as b.rest) (files_as b.rest) (alarms_as b.rest) (clock_as b.rest) (symbols_as b.rest) b.ringed tidy
 
 pub tidy_holder : (old new : World) (c : ℕ) (h : Option ℕ) → HolderBecomes old new c h → Tidy old → Tidy new
-tidy_holder old new c h b tidy = tidy_alike old new b.core b.jobs b.files b.alarms b.clock b.symbols b.ringed tidy
+tidy_holder old new c h b tidy = tidy_alike old new (core_as b.rest) (jobs_as b.rest) (files_as b.rest) (alarms_as b.rest) (clock_as b.rest) (symbols_as b.rest) b.ringed tidy

@@ -59,6 +59,7 @@ use Rattle.its_direct.proofs.SlotLaws.{placed_at, slot_machine, slot_tidy, touch
 use Rattle.its_direct.proofs.StepKeepsLaws.{step_loses}
 use Rattle.its_direct.proofs.TouchLaws.{none_touched, or_false, slot_some, step_touched}
 use Rattle.its_direct.proofs.UserLaws.{nobody_is, own_is}
+use Rattle.its_direct.proofs.ContentsLaws.{place_as}
 
 -- whether a job runs
 pub running : (p : Plain) (s : ℕ) (o : Option Job) (j : Job) → o ≡ job_at p.jobs s → o ≡ Some j → is_running ((machine_of p).jobs s) ≡ not j.stopped
@@ -310,7 +311,7 @@ module _ (old put new : Plain) (s : ℕ) (i k : Job) (f : Fault) (had : job_at o
     machine = touched_machine put new no_slots e
         ∙ slot_machine old put s (core_at old.core s) i k (with_fault f) b had (ap (own_of old s) (sym is));
     touched = step_touched new.touched (machine_of old) (in_job (machine_of old) s (with_fault f)) [] (none_touched new.touched (ap (λ (p : Plain). p.touched) e)) (slot_some (machine_of old).jobs s (with_fault f));
-    place = ap (λ (p : Plain). p.place) e ∙ b.aside.place;
+    place = ap (λ (p : Plain). p.place) e ∙ place_as b.aside.is;
   }
 
   pub fault_tidy : Tidy old → Tidy new

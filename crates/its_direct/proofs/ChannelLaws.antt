@@ -36,6 +36,7 @@ use Rattle.its_direct.specs.Effects.{ChannelBecomes, Comes, OnlyStore}
 use Rattle.its_direct.specs.Plain.{machine_of, Tidy, JobBecomes}
 use Rattle.its_direct.specs.declared.plain.Plain.{Plain}
 use Rattle.its_direct.proofs.SlotLaws.{IsPlaced}
+use Rattle.its_direct.proofs.ContentsLaws.{core_as, jobs_as, consoles_as, holders_as, files_as, clock_as, alarms_as, version_as, symbols_as, pipes_as, place_as, touched_as}
 
 -- a channel set
 pub channel_becomes : (old new : Plain) (s n : ℕ) (x : Channel) (o : Option Job) (j : Job) → o ≡ job_at old.jobs s → o ≡ Some j → n < length j.channels
@@ -44,71 +45,30 @@ channel_becomes old new s n x o j has some lt b = record {
   jobs = channel_put old.jobs new.jobs s n x j (sym has ∙ some) lt b.job b.superiors;
   core = only_same (core_at old.core) (core_at new.core) s b.core;
   reserved = b.reserved;
-  consoles = b.aside.consoles;
-  holders = b.aside.holders;
-  files = b.aside.files;
-  clock = b.aside.clock;
-  alarms = b.aside.alarms;
-  version = b.aside.version;
-  symbols = b.aside.symbols;
-  pipes = b.aside.pipes;
-  place = b.aside.place;
-  touched = b.aside.touched;
+  rest = b.aside.is;
 }
 
 pub channel_still : (old new : Plain) (s n : ℕ) (t : Store) → OnlyStore old new t → ChannelBecomes old new s n (channel_at old.jobs s n) t
 channel_still old new s n t o = record {
-  jobs = channel_same old.jobs new.jobs s n o.jobs;
-  core = record { each = λ k. ap (λ c. core_at c k) o.core };
-  reserved = record { each = λ k. ap (λ c. clear_at c k) o.core };
-  consoles = o.consoles;
-  holders = o.holders;
-  files = o.files;
-  clock = o.clock;
-  alarms = o.alarms;
-  version = o.version;
-  symbols = o.symbols;
-  pipes = o.pipes;
-  place = o.place;
-  touched = o.touched;
+  jobs = channel_same old.jobs new.jobs s n (jobs_as o.is);
+  core = record { each = λ k. ap (λ c. core_at c k) (core_as o.is) };
+  reserved = record { each = λ k. ap (λ c. clear_at c k) (core_as o.is) };
+  rest = λ i. record (o.is i) { core = new.core; jobs = new.jobs };
 }
 
 pub no_store : (p : Plain) → OnlyStore p p p.files
-no_store p = record { core = refl; jobs = refl; consoles = refl; holders = refl; files = refl; clock = refl; alarms = refl; version = refl; symbols = refl; pipes = refl; place = refl; touched = refl }
+no_store p = record { is = refl }
 
 pub channel_missing : (p : Plain) (s n : ℕ) (x : Channel) (o : Option Job) → o ≡ job_at p.jobs s → o ≡ None → ChannelBecomes p p s n x p.files
-channel_missing p s n x o has none = record {
-  jobs = channel_absent p.jobs s n x (sym has ∙ none);
-  core = record { each = λ k. refl };
-  reserved = record { each = λ k. refl };
-  consoles = refl;
-  holders = refl;
-  files = refl;
-  clock = refl;
-  alarms = refl;
-  version = refl;
-  symbols = refl;
-  pipes = refl;
-  place = refl;
-  touched = refl;
-}
+channel_missing p s n x o has none = record { jobs = channel_absent p.jobs s n x (sym has ∙ none); core = record { each = λ k. refl }; reserved = record { each = λ k. refl }; rest = refl }
 
 -- a channel is set after the store
 pub store_first : (old mid new : Plain) (s n : ℕ) (x : Channel) (t : Store) → OnlyStore old mid t → ChannelBecomes mid new s n x mid.files → ChannelBecomes old new s n x t
 store_first old mid new s n x t o b = record {
-  jobs = subst (λ j. OnlyChannel j new.jobs s n x) o.jobs b.jobs;
-  core = record { each = λ k. b.core.each k ∙ ap (λ c. core_at c k) o.core };
-  reserved = record { each = λ k. b.reserved.each k ∙ ap (λ c. clear_at c k) o.core };
-  consoles = b.consoles ∙ o.consoles;
-  holders = b.holders ∙ o.holders;
-  files = b.files ∙ o.files;
-  clock = b.clock ∙ o.clock;
-  alarms = b.alarms ∙ o.alarms;
-  version = b.version ∙ o.version;
-  symbols = b.symbols ∙ o.symbols;
-  pipes = b.pipes ∙ o.pipes;
-  place = b.place ∙ o.place;
-  touched = b.touched ∙ o.touched;
+  jobs = subst (λ j. OnlyChannel j new.jobs s n x) (jobs_as o.is) b.jobs;
+  core = record { each = λ k. b.core.each k ∙ ap (λ c. core_at c k) (core_as o.is) };
+  reserved = record { each = λ k. b.reserved.each k ∙ ap (λ c. clear_at c k) (core_as o.is) };
+  rest = b.rest ∙ (λ i. record (o.is i) { core = new.core; jobs = new.jobs });
 }
 
 pub placed_bare : (i j : Option Job) → option_map bare i ≡ option_map bare j → IsPlaced j → IsPlaced i
@@ -123,8 +83,8 @@ module _ (old new : Plain) (s n : ℕ) (x : Channel) (t : Store) (b : ChannelBec
       → machine_of new ≡ record (in_job (machine_of old) s (on_channel n g)) { files = directory t }
   unfolding machine_of
   filed_machine g others here = machine_is _ _
-      (λ k. (λ i. raw_at (b.files i) new.core new.jobs (b.alarms i).items k) ∙ raw_channel old.jobs new.jobs s n x b.jobs old.files t old.core new.core old.alarms.items g b.core others here k)
-      (λ k. ap (λ l. console_at l.items k) b.consoles) (λ k. ap (λ l. holder_at l k) b.holders) (ap directory b.files) b.clock b.version (λ k. ap (λ l. symbols_at l.items k) b.symbols) (λ k. ap (λ l. piped l k) b.pipes)
+      (λ k. (λ i. raw_at (b.rest i).files new.core new.jobs (b.rest i).alarms.items k) ∙ raw_channel old.jobs new.jobs s n x b.jobs old.files t old.core new.core old.alarms.items g b.core others here k)
+      (λ k. ap (λ l. console_at l.items k) (consoles_as b.rest)) (λ k. ap (λ l. holder_at l k) (holders_as b.rest)) (ap directory (files_as b.rest)) (clock_as b.rest) (version_as b.rest) (λ k. ap (λ l. symbols_at l.items k) (symbols_as b.rest)) (λ k. ap (λ l. piped l k) (pipes_as b.rest))
 
   placed_still : (k : ℕ) → IsPlaced (job_at old.jobs k) → IsPlaced (job_at new.jobs k)
   placed_still k h = elim (cases_eq k s) [
@@ -135,13 +95,13 @@ module _ (old new : Plain) (s n : ℕ) (x : Channel) (t : Store) (b : ChannelBec
   pub filed_tidy : Tidy old → t.mark ≡ None → Across t new.jobs → Tidy new
   filed_tidy tidy unmarked a = record {
     unreserved = λ k. b.reserved.each k ∙ tidy.unreserved k;
-    unmarked = ap (λ (w : Store). w.mark) b.files ∙ unmarked;
-    across = subst (λ f. Across f new.jobs) (sym b.files) a;
+    unmarked = ap (λ (w : Store). w.mark) (files_as b.rest) ∙ unmarked;
+    across = subst (λ f. Across f new.jobs) (sym (files_as b.rest)) a;
     blank = λ k none. b.core.each k ∙ tidy.blank k (none_before old.jobs new.jobs s n x b.jobs k none);
-    quiet = λ k none. ap (λ l. alarm_at l.items k) b.alarms ∙ tidy.quiet k (none_before old.jobs new.jobs s n x b.jobs k none);
-    nameless = λ k none. ap (λ l. symbols_at l.items k) b.symbols ∙ tidy.nameless k (none_before old.jobs new.jobs s n x b.jobs k none);
+    quiet = λ k none. ap (λ l. alarm_at l.items k) (alarms_as b.rest) ∙ tidy.quiet k (none_before old.jobs new.jobs s n x b.jobs k none);
+    nameless = λ k none. ap (λ l. symbols_at l.items k) (symbols_as b.rest) ∙ tidy.nameless k (none_before old.jobs new.jobs s n x b.jobs k none);
     addressed = λ k. placed_still k (tidy.addressed k);
-    timed = subst (λ t. t < clock_end) (sym b.clock) tidy.timed;
+    timed = subst (λ t. t < clock_end) (sym (clock_as b.rest)) tidy.timed;
   }
 
   -- with the files of the machine
@@ -151,8 +111,8 @@ module _ (old new : Plain) (s n : ℕ) (x : Channel) (t : Store) (b : ChannelBec
   filed_comes tidy unmarked kept g fs files here = record {
     row = record {
       machine = filed_machine g kept.chans here ∙ (λ i. record (in_job (machine_of old) s (on_channel n g)) { files = files i });
-      place = b.place;
-      touched = b.touched;
+      place = place_as b.rest;
+      touched = touched_as b.rest;
     };
     tidy = filed_tidy tidy unmarked kept.across;
   }
@@ -242,7 +202,7 @@ module _ (old new : Plain) (s n : ℕ) (ls : s < slots) (ln : n < 16) (tidy : Ti
   pub append_comes : (t : Store) (k w : ℕ) → Writing k ≡ channel_at old.jobs s n → t ≡ with_word old.files k w → directory t ≡ directory old.files → Same (entry_at old.files) (entry_at t)
       → Only (words_at old.files) (words_at t) k (words_at old.files k ++ w ∷ []) → OnlyStore old new t → Comes old new (in_job (machine_of old) s (on_channel n (longer_on w)))
   append_comes t k w was made files entry words o = channel_comes (channel_at old.jobs s n) t (channel_still old new s n t o)
-      (subst (λ j. Kept old.files t old.jobs j s n) (sym o.jobs) (appended_kept old.files t old.jobs old.jobs s n k tidy.across ls ln (words_at old.files k ++ w ∷ []) w (sym was) made entry words))
+      (subst (λ j. Kept old.files t old.jobs j s n) (sym (jobs_as o.is)) (appended_kept old.files t old.jobs old.jobs s n k tidy.across ls ln (words_at old.files k ++ w ∷ []) w (sym was) made entry words))
       (longer_on w) files (ap (λ (x : Store). x.mark) made)
       (λ some. ap (chan_of t) (sym was) ∙ (λ i. Writes (record { names = ap names_by (entry.each k) i; words = words.here i })) ∙ ap (λ c. longer_on w (chan_of old.files c)) was)
 
@@ -298,20 +258,20 @@ no_close p s n c was written h = closes_draft (machine_of p) p.files c written (
 store_machine : (old new : Plain) (t : Store) → OnlyStore old new t → Stays old.files t old.jobs → machine_of new ≡ record (machine_of old) { files = directory t }
 unfolding machine_of
 store_machine old new t o stays = machine_is _ _
-    (λ k. (λ i. raw_at (o.files i) (o.core i) (o.jobs i) (o.alarms i).items k)
+    (λ k. (λ i. raw_at (o.is i).files (o.is i).core (o.is i).jobs (o.is i).alarms.items k)
     ∙ raw_alike old.files t (core_at old.core k) (superior_at old.jobs k) (alarm_at old.alarms.items k) (job_at old.jobs k) (stays.chans k))
-    (λ k. ap (λ l. console_at l.items k) o.consoles) (λ k. ap (λ l. holder_at l k) o.holders) (ap directory o.files) o.clock o.version (λ k. ap (λ l. symbols_at l.items k) o.symbols) (λ k. ap (λ l. piped l k) o.pipes)
+    (λ k. ap (λ l. console_at l.items k) (consoles_as o.is)) (λ k. ap (λ l. holder_at l k) (holders_as o.is)) (ap directory (files_as o.is)) (clock_as o.is) (version_as o.is) (λ k. ap (λ l. symbols_at l.items k) (symbols_as o.is)) (λ k. ap (λ l. piped l k) (pipes_as o.is))
 
 store_tidy : (old new : Plain) (t : Store) → OnlyStore old new t → Stays old.files t old.jobs → t.mark ≡ None → Tidy old → Tidy new
 store_tidy old new t o stays unmarked tidy = record {
-  unreserved = λ k. ap (λ c. clear_at c k) o.core ∙ tidy.unreserved k;
-  unmarked = ap (λ (w : Store). w.mark) o.files ∙ unmarked;
-  across = subst (λ f. Across f new.jobs) (sym o.files) (subst (λ j. Across t j) (sym o.jobs) stays.across);
-  blank = λ k none. ap (λ c. core_at c k) o.core ∙ tidy.blank k (sym (ap (λ j. job_at j k) o.jobs) ∙ none);
-  quiet = λ k none. ap (λ l. alarm_at l.items k) o.alarms ∙ tidy.quiet k (sym (ap (λ j. job_at j k) o.jobs) ∙ none);
-  nameless = λ k none. ap (λ l. symbols_at l.items k) o.symbols ∙ tidy.nameless k (sym (ap (λ j. job_at j k) o.jobs) ∙ none);
-  addressed = λ k. subst IsPlaced (sym (ap (λ j. job_at j k) o.jobs)) (tidy.addressed k);
-  timed = subst (λ t. t < clock_end) (sym o.clock) tidy.timed;
+  unreserved = λ k. ap (λ c. clear_at c k) (core_as o.is) ∙ tidy.unreserved k;
+  unmarked = ap (λ (w : Store). w.mark) (files_as o.is) ∙ unmarked;
+  across = subst (λ f. Across f new.jobs) (sym (files_as o.is)) (subst (λ j. Across t j) (sym (jobs_as o.is)) stays.across);
+  blank = λ k none. ap (λ c. core_at c k) (core_as o.is) ∙ tidy.blank k (sym (ap (λ j. job_at j k) (jobs_as o.is)) ∙ none);
+  quiet = λ k none. ap (λ l. alarm_at l.items k) (alarms_as o.is) ∙ tidy.quiet k (sym (ap (λ j. job_at j k) (jobs_as o.is)) ∙ none);
+  nameless = λ k none. ap (λ l. symbols_at l.items k) (symbols_as o.is) ∙ tidy.nameless k (sym (ap (λ j. job_at j k) (jobs_as o.is)) ∙ none);
+  addressed = λ k. subst IsPlaced (sym (ap (λ j. job_at j k) (jobs_as o.is))) (tidy.addressed k);
+  timed = subst (λ t. t < clock_end) (sym (clock_as o.is)) tidy.timed;
 }
 
 module _ (old new : Plain) (tidy : Tidy old) (d x y : ℕ) where
@@ -319,8 +279,8 @@ module _ (old new : Plain) (tidy : Tidy old) (d x y : ℕ) where
   directory_comes t fs o stays files mark = record {
     row = record {
       machine = store_machine old new t o stays ∙ (λ i. record (machine_of old) { files = files i });
-      place = o.place;
-      touched = o.touched;
+      place = place_as o.is;
+      touched = touched_as o.is;
     };
     tidy = store_tidy old new t o stays (mark ∙ tidy.unmarked) tidy;
   }

@@ -28,6 +28,7 @@ use Rattle.its_direct.specs.Clock.{AlarmBecomes, Clocks, Periods, RangAt, RangBe
 use Rattle.its_direct.specs.declared.plain.Plain.{Plain}
 use Rattle.its_direct.proofs.SlotLaws.{IsPlaced, placed_at, slot_machine, slot_tidy, touched_machine, touched_tidy}
 use Rattle.its_direct.proofs.TouchLaws.{none_touched}
+use Rattle.its_direct.proofs.ContentsLaws.{core_as, jobs_as, consoles_as, holders_as, files_as, clock_as, alarms_as, version_as, symbols_as, pipes_as, place_as, touched_as}
 
 -- the alarm of a job of the machine is that of its slot
 alarm_by : (s : Store) (q : Plain) (k : ℕ) (o : Option Job) → (o ≡ None → alarm_at q.alarms.items k ≡ None) → alarm_at q.alarms.items k ≡ alarm_in (raw_of s (core_at q.core k) (superior_at q.jobs k) (alarm_at q.alarms.items k) o)
@@ -51,24 +52,24 @@ pub alarm_machine : (old new : Plain) (s : ℕ) (a : Option (ℕ × ℕ)) → Al
 unfolding machine_of
 alarm_machine old new s a b = machine_is _ _
     (slot_at _ _ s (with_alarm a)
-    ((λ t. raw_of (b.files t) (core_at (b.core t) s) (superior_at (b.jobs t) s) (b.alarms.here t) (job_at (b.jobs t) s)) ∙ alarmed_as old.files old s a (job_at old.jobs s))
-    (λ k ne t. raw_of (b.files t) (core_at (b.core t) k) (superior_at (b.jobs t) k) (b.alarms.others k ne t) (job_at (b.jobs t) k)))
-    (λ k. ap (λ l. console_at l.items k) b.consoles) (λ k. ap (λ l. holder_at l k) b.holders) (ap directory b.files) b.clock b.version (λ k. ap (λ l. symbols_at l.items k) b.symbols) (λ k. ap (λ l. piped l k) b.pipes)
+    ((λ t. raw_of (b.rest t).files (core_at (b.rest t).core s) (superior_at (b.rest t).jobs s) (b.alarms.here t) (job_at (b.rest t).jobs s)) ∙ alarmed_as old.files old s a (job_at old.jobs s))
+    (λ k ne t. raw_of (b.rest t).files (core_at (b.rest t).core k) (superior_at (b.rest t).jobs k) (b.alarms.others k ne t) (job_at (b.rest t).jobs k)))
+    (λ k. ap (λ l. console_at l.items k) (consoles_as b.rest)) (λ k. ap (λ l. holder_at l k) (holders_as b.rest)) (ap directory (files_as b.rest)) (clock_as b.rest) (version_as b.rest) (λ k. ap (λ l. symbols_at l.items k) (symbols_as b.rest)) (λ k. ap (λ l. piped l k) (pipes_as b.rest))
 
 pub alarm_tidy : (old new : Plain) (s : ℕ) (a : Option (ℕ × ℕ)) → is_some (job_at old.jobs s) ≡ true → AlarmBecomes old new s a → Tidy old → Tidy new
 alarm_tidy old new s a some b tidy = record {
-  unreserved = λ k. ap (λ m. clear_at m k) b.core ∙ tidy.unreserved k;
-  unmarked = ap (λ (x : Store). x.mark) b.files ∙ tidy.unmarked;
-  across = subst (λ (x : Store). Across x new.jobs) (sym b.files) (subst (Across old.files) (sym b.jobs) tidy.across);
-  blank = λ k h. ap (λ m. core_at m k) b.core ∙ tidy.blank k (was k h);
+  unreserved = λ k. ap (λ m. clear_at m k) (core_as b.rest) ∙ tidy.unreserved k;
+  unmarked = ap (λ (x : Store). x.mark) (files_as b.rest) ∙ tidy.unmarked;
+  across = subst (λ (x : Store). Across x new.jobs) (sym (files_as b.rest)) (subst (Across old.files) (sym (jobs_as b.rest)) tidy.across);
+  blank = λ k h. ap (λ m. core_at m k) (core_as b.rest) ∙ tidy.blank k (was k h);
   quiet = λ k h. b.alarms.others k (apart k h) ∙ tidy.quiet k (was k h);
-  nameless = λ k h. ap (λ l. symbols_at l.items k) b.symbols ∙ tidy.nameless k (was k h);
-  addressed = λ k. subst IsPlaced (sym (ap (λ t. job_at t k) b.jobs)) (tidy.addressed k);
-  timed = subst (λ t. t < clock_end) (sym b.clock) tidy.timed;
+  nameless = λ k h. ap (λ l. symbols_at l.items k) (symbols_as b.rest) ∙ tidy.nameless k (was k h);
+  addressed = λ k. subst IsPlaced (sym (ap (λ t. job_at t k) (jobs_as b.rest))) (tidy.addressed k);
+  timed = subst (λ t. t < clock_end) (sym (clock_as b.rest)) tidy.timed;
 }
   where
     was : (k : ℕ) → job_at new.jobs k ≡ None → job_at old.jobs k ≡ None
-    was k h = sym (ap (λ t. job_at t k) b.jobs) ∙ h
+    was k h = sym (ap (λ t. job_at t k) (jobs_as b.rest)) ∙ h
 
     apart : (k : ℕ) → job_at new.jobs k ≡ None → k ≢ s
     apart k h e = let wrong : true ≡ false = sym some ∙ ap is_some (sym (ap (job_at old.jobs) e) ∙ was k h) in cc
@@ -98,7 +99,7 @@ module _ (c p t : ℕ) (old mid put new : Plain) (s : ℕ) (i : Job) (tidy : Tid
       ∙ ap (λ m. in_job m s (with_alarm (Some (p, time_after c (p, t))))) (slot_machine old mid s (core_at old.core s) i (with_pending i ALR) (with_registers (λ j. with_pending j ALR)) set had refl)
 
   same_alarms : mid.alarms ≡ old.alarms
-  same_alarms = set.aside.alarms
+  same_alarms = alarms_as set.aside.is
 
   alarm_here : (k : ℕ) → (k == s) ≡ true → alarm_in ((machine_of old).jobs k) ≡ Some (p, t)
   alarm_here k at = sym (alarm_shown old k tidy) ∙ ap (alarm_at old.alarms.items) (eqb-true k s at) ∙ sym has
@@ -114,11 +115,11 @@ module _ (c p t : ℕ) (old mid put new : Plain) (s : ℕ) (i : Job) (tidy : Tid
     jobs = λ k. ap (λ (m : Machine). m.jobs k) gone ∙ rung_slot c p t (k == s) ((machine_of old).jobs k) (alarm_here k) (le-leb t c late)
         ∙ ap (λ o. after_alarm_if c ((k == s) && is_due c o) ((machine_of old).jobs k)) (sym (alarm_shown old k tidy));
     rest = other_jobs (machine_of old) (machine_of new) (in_job (in_job (machine_of old) s (with_registers (λ j. with_pending j ALR))) s (with_alarm (Some (p, time_after c (p, t))))) gone refl;
-    touched = λ k. let ts : put.touched ≡ old.touched = next.touched ∙ set.aside.touched in
+    touched = λ k. let ts : put.touched ≡ old.touched = touched_as next.rest ∙ touched_as set.aside.is in
         ap (λ (q : Plain). is_touched q k) mark ∙ ap (λ xs. slice_index_or (slice_set xs s true) k false) ts
         ∙ marked_by old.touched s k (is_due c (alarm_at old.alarms.items k)) l (due_here k);
     alarms = λ k f. ap (λ l. alarm_at l.items k) new_alarms ∙ next.alarms.others k (λ e. let wrong : true ≡ false = sym (eq-eqb k s e) ∙ f in cc) ∙ ap (λ l. alarm_at l.items k) same_alarms;
-    place = ap (λ (q : Plain). q.place) mark ∙ next.place ∙ set.aside.place;
+    place = ap (λ (q : Plain). q.place) mark ∙ place_as next.rest ∙ place_as set.aside.is;
   }
 
   pub went_periods : Periods old → Periods new

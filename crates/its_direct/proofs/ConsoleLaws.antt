@@ -18,47 +18,34 @@ use Rattle.its_plain.proofs.MachineLaws.{machine_is}
 use Rattle.its_machine.specs.Across.{Across}
 use Rattle.its_machine.specs.Parts.{alarm_at, console_at, holder_at, symbols_at, raw_at}
 use Rattle.its_machine.proofs.PartLaws.{changed_at}
+use Rattle.its_direct.specs.Contents.{contents}
 use Rattle.its_direct.specs.Plain.{machine_of, no_slots, Tidy}
 use Rattle.its_direct.specs.Consoles.{lost_of}
 use Rattle.its_direct.specs.Lines.{Stands, ConsoleBecomes}
 use Rattle.its_direct.specs.declared.plain.Plain.{Plain}
 use Rattle.its_direct.proofs.SlotLaws.{IsPlaced, touched_machine, touched_tidy}
 use Rattle.its_direct.proofs.TouchLaws.{none_touched}
+use Rattle.its_direct.proofs.ContentsLaws.{core_as, jobs_as, holders_as, files_as, clock_as, alarms_as, version_as, symbols_as, pipes_as, place_as}
 
-pub console_becomes : (old new : Plain) (c : ℕ) (x : Console) → Only (console_at old.consoles.items) (console_at new.consoles.items) c x → new.core ≡ old.core → new.jobs ≡ old.jobs
-    → new.holders ≡ old.holders → new.files ≡ old.files → new.clock ≡ old.clock → new.alarms ≡ old.alarms → new.version ≡ old.version → new.symbols ≡ old.symbols → new.pipes ≡ old.pipes → new.place ≡ old.place
-    → new.touched ≡ old.touched → ConsoleBecomes old new c x
-console_becomes old new c x consoles core jobs holders files clock alarms version symbols pipes place touched = record {
-  consoles = consoles;
-  core = core;
-  jobs = jobs;
-  holders = holders;
-  files = files;
-  clock = clock;
-  alarms = alarms;
-  version = version;
-  symbols = symbols;
-  pipes = pipes;
-  place = place;
-  touched = touched;
-}
+pub console_becomes : (old new : Plain) (c : ℕ) (x : Console) → Only (console_at old.consoles.items) (console_at new.consoles.items) c x → contents new ≡ record (contents old) { consoles = new.consoles } → ConsoleBecomes old new c x
+console_becomes old new c x consoles rest = record { consoles = consoles; rest = rest }
 
 pub console_machine : (old new : Plain) (c : ℕ) (f : Console → Console) → ConsoleBecomes old new c (f (console_at old.consoles.items c)) → machine_of new ≡ on_console (machine_of old) c f
 unfolding machine_of
 console_machine old new c f b = machine_is _ _
-    (λ k t. raw_at (b.files t) (b.core t) (b.jobs t) (b.alarms t).items k) (changed_at _ _ c _ b.consoles.here b.consoles.others)
-    (λ k. ap (λ l. holder_at l k) b.holders) (ap directory b.files) b.clock b.version (λ k. ap (λ l. symbols_at l.items k) b.symbols) (λ k. ap (λ l. piped l k) b.pipes)
+    (λ k t. raw_at (b.rest t).files (b.rest t).core (b.rest t).jobs (b.rest t).alarms.items k) (changed_at _ _ c _ b.consoles.here b.consoles.others)
+    (λ k. ap (λ l. holder_at l k) (holders_as b.rest)) (ap directory (files_as b.rest)) (clock_as b.rest) (version_as b.rest) (λ k. ap (λ l. symbols_at l.items k) (symbols_as b.rest)) (λ k. ap (λ l. piped l k) (pipes_as b.rest))
 
 pub console_tidy : (old new : Plain) (c : ℕ) (x : Console) → ConsoleBecomes old new c x → Tidy old → Tidy new
 console_tidy old new c x b tidy = record {
-  unreserved = λ k. ap (λ m. clear_at m k) b.core ∙ tidy.unreserved k;
-  unmarked = ap (λ (s : Store). s.mark) b.files ∙ tidy.unmarked;
-  across = subst (λ (s : Store). Across s new.jobs) (sym b.files) (subst (Across old.files) (sym b.jobs) tidy.across);
-  blank = λ k h. ap (λ m. core_at m k) b.core ∙ tidy.blank k (sym (ap (λ t. job_at t k) b.jobs) ∙ h);
-  quiet = λ k h. ap (λ l. alarm_at l.items k) b.alarms ∙ tidy.quiet k (sym (ap (λ t. job_at t k) b.jobs) ∙ h);
-  nameless = λ k h. ap (λ l. symbols_at l.items k) b.symbols ∙ tidy.nameless k (sym (ap (λ t. job_at t k) b.jobs) ∙ h);
-  addressed = λ k. subst IsPlaced (sym (ap (λ t. job_at t k) b.jobs)) (tidy.addressed k);
-  timed = subst (λ t. t < clock_end) (sym b.clock) tidy.timed;
+  unreserved = λ k. ap (λ m. clear_at m k) (core_as b.rest) ∙ tidy.unreserved k;
+  unmarked = ap (λ (s : Store). s.mark) (files_as b.rest) ∙ tidy.unmarked;
+  across = subst (λ (s : Store). Across s new.jobs) (sym (files_as b.rest)) (subst (Across old.files) (sym (jobs_as b.rest)) tidy.across);
+  blank = λ k h. ap (λ m. core_at m k) (core_as b.rest) ∙ tidy.blank k (sym (ap (λ t. job_at t k) (jobs_as b.rest)) ∙ h);
+  quiet = λ k h. ap (λ l. alarm_at l.items k) (alarms_as b.rest) ∙ tidy.quiet k (sym (ap (λ t. job_at t k) (jobs_as b.rest)) ∙ h);
+  nameless = λ k h. ap (λ l. symbols_at l.items k) (symbols_as b.rest) ∙ tidy.nameless k (sym (ap (λ t. job_at t k) (jobs_as b.rest)) ∙ h);
+  addressed = λ k. subst IsPlaced (sym (ap (λ t. job_at t k) (jobs_as b.rest))) (tidy.addressed k);
+  timed = subst (λ t. t < clock_end) (sym (clock_as b.rest)) tidy.timed;
 }
 
 -- the line, after which nobody is touched
@@ -67,7 +54,7 @@ pub console_stands : (old put new : Plain) (c : ℕ) (f : Console → Console) �
 console_stands old put new c f b e = record {
   machine = touched_machine put new no_slots e ∙ console_machine old put c f b;
   touched = none_touched new.touched (ap (λ (p : Plain). p.touched) e);
-  place = ap (λ (p : Plain). p.place) e ∙ b.place;
+  place = ap (λ (p : Plain). p.place) e ∙ place_as b.rest;
 }
 
 pub console_keeps : (old put new : Plain) (c : ℕ) (x : Console) → ConsoleBecomes old put c x → new ≡ record put { touched = no_slots } → Tidy old → Tidy new

@@ -34,6 +34,7 @@ use Rattle.its_direct.proofs.ClockLaws.{alarm_machine, alarm_tidy}
 use Rattle.its_direct.proofs.ConsoleLaws.{console_machine}
 use Rattle.its_direct.proofs.SlotLaws.{core_tidy, placed_at, slot_machine, slot_tidy}
 use Rattle.its_direct.proofs.UserLaws.{own_of, own_is, nobody_is, becomes_raw}
+use Rattle.its_direct.proofs.ContentsLaws.{place_as, touched_as}
 
 -- the job that a slot has, and its core
 some_of : {X : Type 0} (o : Option X) → is_some o ≡ true → (x : X) × (o ≡ Some x)
@@ -75,8 +76,8 @@ core_changed old new s c h job b e =
     let i = has_own old s job in
     record {
       machine = slot_machine old new s c i.0 i.0 h (subst (SlotBecomes old new s c) i.1 b) i.1 (e i.0);
-      place = b.aside.place;
-      touched = b.aside.touched;
+      place = place_as b.aside.is;
+      touched = touched_as b.aside.is;
     }
 
 pub core_tidied : (old new : Plain) (s : ℕ) (c : Core) → HasJob (machine_of old) s → CoreBecomes old new s c → Tidy old → Tidy new
@@ -97,8 +98,8 @@ job_changed : (old new : Plain) (s : ℕ) (i k : Job) (h : Whole → Whole) → 
     → h (own_of old s i) ≡ raw_job old.files (core_at old.core s) k (superior_at old.jobs s) (alarm_at old.alarms.items s) → Becomes old new (in_job (machine_of old) s h)
 job_changed old new s i k h b had e = record {
   machine = slot_machine old new s (core_at old.core s) i k h b had e;
-  place = b.aside.place;
-  touched = b.aside.touched;
+  place = place_as b.aside.is;
+  touched = touched_as b.aside.is;
 }
 
 job_tidied : (old new : Plain) (s : ℕ) (i k : Job) → JobBecomes old new s k → job_at old.jobs s ≡ Some i → k.channels ≡ i.channels → k.pc < 2 ^ 18 → Tidy old → Tidy new
@@ -144,7 +145,7 @@ pub first_taken : (c : Console) → record c { input = drop 1 c.input } ≡ afte
 first_taken c = ap (λ (bs : List ℕ). record c { input = bs }) (rest_is c.input)
 
 console_changed : (old new : Plain) (c : ℕ) (f : Console → Console) → ConsoleBecomes old new c (f (console_at old.consoles.items c)) → Becomes old new (on_console (machine_of old) c f)
-console_changed old new c f b = record { machine = console_machine old new c f b; place = b.place; touched = b.touched }
+console_changed old new c f b = record { machine = console_machine old new c f b; place = place_as b.rest; touched = touched_as b.rest }
 
 pub byte_taken : (old new : Plain) (c : ℕ) → ConsoleBecomes old new c (after_take (console_at old.consoles.items c)) → Becomes old new (on_console (machine_of old) c after_take)
 byte_taken old new c b = console_changed old new c after_take b
@@ -274,7 +275,7 @@ new_page_is old new mid s k none held cores mapped taken jobs aside = record {
 
 -- an alarm
 pub alarm_set : (old new : Plain) (s : ℕ) (i : Job) (o : Option Job) (a : Option (ℕ × ℕ)) → o ≡ job_at old.jobs s → o ≡ Some i → AlarmBecomes old new s a → Becomes old new (in_job (machine_of old) s (with_alarm a))
-alarm_set old new s i o a is some b = record { machine = alarm_machine old new s a b; place = b.place; touched = b.touched }
+alarm_set old new s i o a is some b = record { machine = alarm_machine old new s a b; place = place_as b.rest; touched = touched_as b.rest }
 
 pub alarm_tidied : (old new : Plain) (s : ℕ) (i : Job) (o : Option Job) (a : Option (ℕ × ℕ)) → o ≡ job_at old.jobs s → o ≡ Some i → AlarmBecomes old new s a → Tidy old → Tidy new
 alarm_tidied old new s i o a is some b tidy = alarm_tidy old new s a (ap is_some (sym is ∙ some)) b tidy

@@ -34,7 +34,9 @@ use Rattle.its_machine.specs.Parts.{alarm_at, bare, chan_of, console_at, holder_
 use Rattle.its_machine.proofs.RoomLaws.{full_on}
 use Rattle.its_machine.proofs.StandLaws.{reading_file, writing_draft}
 use Rattle.its_machine.proofs.StoreLaws.{found_named, has_named, named_self}
-use Rattle.its_direct.specs.Filing.{Leads, FilesBecome}
+use Rattle.its_direct.specs.Contents.{contents}
+use Rattle.its_direct.specs.Effects.{OnlyStore}
+use Rattle.its_direct.specs.Filing.{Leads}
 use Rattle.its_direct.specs.Lines.{Keeps}
 use Rattle.its_direct.specs.Plain.{machine_of, no_slots, Tidy}
 use Rattle.its_direct.specs.declared.plain.Plain.{Plain}
@@ -46,6 +48,7 @@ use Rattle.its_direct.proofs.LoadedLaws.{no_error, first_ok}
 use Rattle.its_direct.proofs.RoomLaws.{Within, within_ok, within_full}
 use Rattle.its_direct.proofs.SlotLaws.{IsPlaced, touched_machine, touched_tidy}
 use Rattle.its_direct.proofs.TouchLaws.{none_touched}
+use Rattle.its_direct.proofs.ContentsLaws.{core_as, jobs_as, consoles_as, holders_as, files_as, clock_as, alarms_as, version_as, symbols_as, pipes_as}
 
 -- what the channels are on is unchanged, if only the entry under one number is another: that is no draft, and a file
 -- keeps its names
@@ -75,8 +78,12 @@ across_stays s u t a read written = record {
   written = λ d. a.written d ∙ sym (written d);
 }
 
+-- the store is written
+pub store_becomes : (old new : Plain) (x : Store) → new.files ≡ x → contents new ≡ record (contents old) { files = new.files } → OnlyStore old new x
+store_becomes old new x files e = record { is = e ∙ ap (λ (s : Store). record (contents old) { files = s }) files }
+
 -- the machine with other files, whose channels are on the same
-module _ (old new : Plain) (x : Store) (b : FilesBecome old new x) (stays : (k n : ℕ) (c : Channel) → channel_at old.jobs k n ≡ c → chan_of x c ≡ chan_of old.files c) where
+module _ (old new : Plain) (x : Store) (b : OnlyStore old new x) (stays : (k n : ℕ) (c : Channel) → channel_at old.jobs k n ≡ c → chan_of x c ≡ chan_of old.files c) where
   raw_stays : (k : ℕ) (o : Option Job) → job_at old.jobs k ≡ o
       → raw_of x (core_at old.core k) (superior_at old.jobs k) (alarm_at old.alarms.items k) o ≡ raw_of old.files (core_at old.core k) (superior_at old.jobs k) (alarm_at old.alarms.items k) o
   raw_stays k None e = refl
@@ -91,23 +98,23 @@ module _ (old new : Plain) (x : Store) (b : FilesBecome old new x) (stays : (k n
   pub files_machine : machine_of new ≡ with_files (machine_of old) (directory x)
   unfolding machine_of
   files_machine = machine_is _ _
-      (λ k. (λ t. raw_of (b.files t) (core_at (b.core t) k) (superior_at (b.jobs t) k) (alarm_at (b.alarms t).items k) (job_at (b.jobs t) k)) ∙ raw_stays k (job_at old.jobs k) refl)
-      (λ k. ap (λ l. console_at l.items k) b.consoles) (λ k. ap (λ l. holder_at l k) b.holders) (ap directory b.files) b.clock b.version (λ k. ap (λ l. symbols_at l.items k) b.symbols) (λ k. ap (λ l. piped l k) b.pipes)
+      (λ k. (λ t. raw_of (b.is t).files (core_at (b.is t).core k) (superior_at (b.is t).jobs k) (alarm_at (b.is t).alarms.items k) (job_at (b.is t).jobs k)) ∙ raw_stays k (job_at old.jobs k) refl)
+      (λ k. ap (λ l. console_at l.items k) (consoles_as b.is)) (λ k. ap (λ l. holder_at l k) (holders_as b.is)) (ap directory (files_as b.is)) (clock_as b.is) (version_as b.is) (λ k. ap (λ l. symbols_at l.items k) (symbols_as b.is)) (λ k. ap (λ l. piped l k) (pipes_as b.is))
 
   pub files_tidy : x.mark ≡ None → Across x old.jobs → Tidy old → Tidy new
   files_tidy unmarked across tidy = record {
-    unreserved = λ k. ap (λ m. clear_at m k) b.core ∙ tidy.unreserved k;
-    unmarked = ap (λ (s : Store). s.mark) b.files ∙ unmarked;
-    across = subst (λ (s : Store). Across s new.jobs) (sym b.files) (subst (Across x) (sym b.jobs) across);
-    blank = λ k h. ap (λ m. core_at m k) b.core ∙ tidy.blank k (was k h);
-    quiet = λ k h. ap (λ l. alarm_at l.items k) b.alarms ∙ tidy.quiet k (was k h);
-    nameless = λ k h. ap (λ l. symbols_at l.items k) b.symbols ∙ tidy.nameless k (was k h);
-    addressed = λ k. subst IsPlaced (sym (ap (λ t. job_at t k) b.jobs)) (tidy.addressed k);
-    timed = subst (λ t. t < clock_end) (sym b.clock) tidy.timed;
+    unreserved = λ k. ap (λ m. clear_at m k) (core_as b.is) ∙ tidy.unreserved k;
+    unmarked = ap (λ (s : Store). s.mark) (files_as b.is) ∙ unmarked;
+    across = subst (λ (s : Store). Across s new.jobs) (sym (files_as b.is)) (subst (Across x) (sym (jobs_as b.is)) across);
+    blank = λ k h. ap (λ m. core_at m k) (core_as b.is) ∙ tidy.blank k (was k h);
+    quiet = λ k h. ap (λ l. alarm_at l.items k) (alarms_as b.is) ∙ tidy.quiet k (was k h);
+    nameless = λ k h. ap (λ l. symbols_at l.items k) (symbols_as b.is) ∙ tidy.nameless k (was k h);
+    addressed = λ k. subst IsPlaced (sym (ap (λ t. job_at t k) (jobs_as b.is))) (tidy.addressed k);
+    timed = subst (λ t. t < clock_end) (sym (clock_as b.is)) tidy.timed;
   }
     where
       was : (k : ℕ) → job_at new.jobs k ≡ None → job_at old.jobs k ≡ None
-      was k h = sym (ap (λ t. job_at t k) b.jobs) ∙ h
+      was k h = sym (ap (λ t. job_at t k) (jobs_as b.is)) ∙ h
 
 -- FILE
 abbrev new_file : Names → File
@@ -135,13 +142,13 @@ free_file : (o : Option Entry) → o ≡ None → is_file o ≡ true → ⊥
 free_file o e h = let wrong : false ≡ true = sym (ap is_file e) ∙ h in cc
 
 module _ (old new : Plain) (id : ℕ) (n : Names) (tidy : Tidy old) (few : length old.files.order < most_files) (fresh : found old.files n ≡ None) (free : entry_at old.files id ≡ None)
-    (b : FilesBecome old new (with_file old.files id n)) (entry : Only (entry_at old.files) (entry_at new.files) id (Some (Standing n 0)))
+    (b : OnlyStore old new (with_file old.files id n)) (entry : Only (entry_at old.files) (entry_at new.files) id (Some (Standing n 0)))
     (words : Only (words_at old.files) (words_at new.files) id []) (files : directory new.files ≡ directory old.files ++ new_file n ∷ []) where
   entry_made : Only (entry_at old.files) (entry_at (with_file old.files id n)) id (Some (Standing n 0))
-  entry_made = subst (λ (s : Store). Only (entry_at old.files) (entry_at s) id (Some (Standing n 0))) b.files entry
+  entry_made = subst (λ (s : Store). Only (entry_at old.files) (entry_at s) id (Some (Standing n 0))) (files_as b.is) entry
 
   words_made : Only (words_at old.files) (words_at (with_file old.files id n)) id []
-  words_made = subst (λ (s : Store). Only (words_at old.files) (words_at s) id []) b.files words
+  words_made = subst (λ (s : Store). Only (words_at old.files) (words_at s) id []) (files_as b.is) words
 
   made_chans : (k m : ℕ) (c : Channel) → channel_at old.jobs k m ≡ c → chan_of (with_file old.files id n) c ≡ chan_of old.files c
   made_chans = chan_stays old.files (with_file old.files id n) old.jobs tidy.across id entry_made.others words_made.others (free_draft (entry_at old.files id) free)
@@ -152,7 +159,7 @@ module _ (old new : Plain) (id : ℕ) (n : Names) (tidy : Tidy old) (few : lengt
       made_on old n ∙ ap (λ o. with_file_made_if (machine_of old) n (is_some o) (nat_lt (length old.files.order) most_files)) fresh
       ∙ ap (with_file_made_if (machine_of old) n false) (lt-ltb (length old.files.order) most_files few)
       ∙ ap (λ fs. Ok (with_files (machine_of old) (fs ++ new_file n ∷ []))) (files_are old)
-      ∙ ap (λ fs. Ok (with_files (machine_of old) fs)) (sym files ∙ ap directory b.files)
+      ∙ ap (λ fs. Ok (with_files (machine_of old) fs)) (sym files ∙ ap directory (files_as b.is))
       ∙ ap Ok (sym (files_machine old new (with_file old.files id n) b made_chans))
 
   made_readers : (f : ℕ) → readers_at (with_file old.files id n) f ≡ readers_at old.files f
@@ -230,13 +237,13 @@ module _ (p : Plain) (whole : IsStore p.files) (tidy : Tidy p) (id : ℕ) (file 
   pub added_room : (w : ℕ) → store_is_full p.files.stored id ≡ true → IsOk (with_word_added (machine_of p) (names_at p.files id) w) → ⊥
   added_room w full ok = no_error (with_word_added (machine_of p) (names_at p.files id) w) reasons.Full (added_full w full) ok
 
-  module _ (new : Plain) (w : ℕ) (b : FilesBecome p new (with_word p.files id w)) (entry : Same (entry_at p.files) (entry_at new.files))
+  module _ (new : Plain) (w : ℕ) (b : OnlyStore p new (with_word p.files id w)) (entry : Same (entry_at p.files) (entry_at new.files))
       (words : Only (words_at p.files) (words_at new.files) id (words_at p.files id ++ w ∷ [])) (files : directory new.files ≡ with_changed (names_at p.files id) (longer w) (directory p.files)) where
     added_entry : (k : ℕ) → entry_at (with_word p.files id w) k ≡ entry_at p.files k
     added_entry k = refl
 
     added_words : Only (words_at p.files) (words_at (with_word p.files id w)) id (words_at p.files id ++ w ∷ [])
-    added_words = subst (λ (s : Store). Only (words_at p.files) (words_at s) id (words_at p.files id ++ w ∷ [])) b.files words
+    added_words = subst (λ (s : Store). Only (words_at p.files) (words_at s) id (words_at p.files id ++ w ∷ [])) (files_as b.is) words
 
     added_chans : (k m : ℕ) (c : Channel) → channel_at p.jobs k m ≡ c → chan_of (with_word p.files id w) c ≡ chan_of p.files c
     added_chans = chan_stays p.files (with_word p.files id w) p.jobs tidy.across id (λ k ne. refl) added_words.others (file_no_draft (entry_at p.files id) file) (λ h. refl)
@@ -246,7 +253,7 @@ module _ (p : Plain) (whole : IsStore p.files) (tidy : Tidy p) (id : ℕ) (file 
         let m = machine_of p in
         let n = names_at p.files id in
         added_on w ∙ ap (with_word_added_if m n w) room ∙ ap (λ fs. Ok (with_files m (with_changed n (longer w) fs))) (files_are p)
-        ∙ ap (λ fs. Ok (with_files m fs)) (sym files ∙ ap directory b.files)
+        ∙ ap (λ fs. Ok (with_files m fs)) (sym files ∙ ap directory (files_as b.is))
         ∙ ap Ok (sym (files_machine p new (with_word p.files id w) b added_chans))
 
     pub added_tidy : Tidy new
@@ -290,8 +297,8 @@ module _ (s : Store) (whole : IsStore s) (id w : ℕ) (file : is_file (entry_at 
 abbrev with_longer : Plain → ℕ → ℕ → Plain
 with_longer p id w = record p { files = with_word p.files id w }
 
-longer_only : (p : Plain) (id w : ℕ) → FilesBecome p (with_longer p id w) (with_word p.files id w)
-longer_only p id w = record { files = refl; core = refl; jobs = refl; consoles = refl; holders = refl; clock = refl; alarms = refl; version = refl; symbols = refl; pipes = refl; place = refl; touched = refl }
+longer_only : (p : Plain) (id w : ℕ) → OnlyStore p (with_longer p id w) (with_word p.files id w)
+longer_only p id w = record { is = refl }
 
 room_for : (p : Plain) (id : ℕ) (ws : List ℕ) → IsStore p.files → Tidy p → is_file (entry_at p.files id) ≡ true → blocks_used p.files.stored ≤ 2048
     → Within (room_behind p.files.stored id) (length ws) (with_words_added (machine_of p) (names_at p.files id) ws)

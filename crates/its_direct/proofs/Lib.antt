@@ -1,4 +1,5 @@
 pub mod StartLaws
+pub mod ContentsLaws
 pub mod SlotLaws
 pub mod TouchLaws
 pub mod UserLaws

@@ -27,6 +27,7 @@ use Rattle.its_direct.specs.declared.plain.Plain.{Plain}
 use Rattle.its_direct.proofs.SlotLaws.{placed_at, core_machine, core_tidy, slot_machine, slot_tidy, touched_machine, touched_tidy}
 use Rattle.its_direct.proofs.TouchLaws.{one_touched}
 use Rattle.its_direct.proofs.UserLaws.{own_of, own_is, nobody_is}
+use Rattle.its_direct.proofs.ContentsLaws.{place_as}
 
 -- a job that is there, and another in its place
 pub put_slot : (m : Machine) (s : ℕ) (q : Whole) (h : Whole → Whole) → m.jobs s ≡ Some q → in_job m s h ≡ with_job m s (h q)
@@ -54,7 +55,7 @@ rewritten old put new s i k l had same b e = record {
   machine = touched_machine put new (one_slot s) e ∙ slot_machine old put s (core_at old.core s) i k (λ q. record q { job = bare k }) b had
       (λ t. record (own_of old s i) { job = bare k; channels = λ n. (raw_job old.files (core_at old.core s) (record i { channels = sym same t }) (superior_at old.jobs s) (alarm_at old.alarms.items s)).channels n });
   touched = only_touched put new s l e;
-  place = ap (λ (p : Plain). p.place) e ∙ b.aside.place;
+  place = ap (λ (p : Plain). p.place) e ∙ place_as b.aside.is;
 }
 
 pub rewritten_tidy : (old put new : Plain) (s : ℕ) (i k : Job) → job_at old.jobs s ≡ Some i → k.channels ≡ i.channels → k.pc < 2 ^ 18 → JobBecomes old put s k → new ≡ record put { touched = one_slot s } → Tidy old → Tidy new
@@ -158,7 +159,7 @@ deposit_done old put new s a w i l had can b e = record {
       ∙ ap Ok (sym (touched_machine put new (one_slot s) e ∙ core_machine old put s (store (core_at old.core s) a w) i b had
       ∙ put_slot (machine_of old) s (own_of old s i) (λ q. record q { core = store (core_at old.core s) a w }) (own_is old s i had)));
   touched = only_touched put new s l e;
-  place = ap (λ (p : Plain). p.place) e ∙ b.aside.place;
+  place = ap (λ (p : Plain). p.place) e ∙ place_as b.aside.is;
 }
 
 pub deposit_tidy : (old put new : Plain) (s : ℕ) (c : Core) (i : Job) → job_at old.jobs s ≡ Some i → CoreBecomes old put s c → new ≡ record put { touched = one_slot s } → Tidy old → Tidy new

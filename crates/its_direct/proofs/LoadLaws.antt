@@ -32,6 +32,7 @@ use Rattle.its_direct.specs.declared.plain.Spot.{Spot}
 use Rattle.its_direct.specs.declared.plain.Spot.TheVariants as spots
 use Rattle.its_direct.proofs.LineLaws.{only_touched}
 use Rattle.its_direct.proofs.SlotLaws.{IsPlaced, touched_machine}
+use Rattle.its_direct.proofs.ContentsLaws.{consoles_as, holders_as, files_as, clock_as, alarms_as, version_as, symbols_as, pipes_as, place_as, touched_as}
 
 -- the least free slot of the machine is that of the jobs
 has_by : (p : Plain) (k : ℕ) (o : Option Job) → is_some (raw_of p.files (core_at p.core k) (superior_at p.jobs k) (alarm_at p.alarms.items k) o) ≡ is_some o
@@ -88,30 +89,30 @@ pub made_machine : (old new : Plain) (s u j : ℕ) (above console : Option ℕ) 
     → new.core ≡ old.core → Aside old new → machine_of new ≡ with_new (machine_of old) s (whole no_core (fresh_job u j console) above)
 unfolding machine_of
 made_machine old new s u j above console tidy least job superior core aside = machine_is _ _
-    (made_jobs old new s u j above console tidy (least_empty old.jobs.limit (job_at old.jobs) s least) job superior core aside.files aside.alarms)
-    (λ k. ap (λ l. console_at l.items k) aside.consoles) (λ k. ap (λ l. holder_at l k) aside.holders) (ap directory aside.files)
-    aside.clock aside.version
-    (λ k. ap (λ l. symbols_at l.items k) aside.symbols ∙ changed_same (symbols_at old.symbols.items) s k [] (tidy.nameless s (least_empty old.jobs.limit (job_at old.jobs) s least)))
-    (λ k. ap (λ l. piped l k) aside.pipes)
+    (made_jobs old new s u j above console tidy (least_empty old.jobs.limit (job_at old.jobs) s least) job superior core (files_as aside.is) (alarms_as aside.is))
+    (λ k. ap (λ l. console_at l.items k) (consoles_as aside.is)) (λ k. ap (λ l. holder_at l k) (holders_as aside.is)) (ap directory (files_as aside.is))
+    (clock_as aside.is) (version_as aside.is)
+    (λ k. ap (λ l. symbols_at l.items k) (symbols_as aside.is) ∙ changed_same (symbols_at old.symbols.items) s k [] (tidy.nameless s (least_empty old.jobs.limit (job_at old.jobs) s least)))
+    (λ k. ap (λ l. piped l k) (pipes_as aside.is))
 
 pub made_tidy : (old new : Plain) (s u j : ℕ) (above console : Option ℕ) → Tidy old → least_free old.jobs.limit (job_at old.jobs) ≡ Some s
     → Only (job_at old.jobs) (job_at new.jobs) s (Some (fresh_job u j console)) → Only (superior_at old.jobs) (superior_at new.jobs) s above
     → new.core ≡ old.core → Aside old new → Tidy new
 made_tidy old new s u j above console tidy least job superior core aside =
     let free = least_empty old.jobs.limit (job_at old.jobs) s least in
-    let none = was_none old new s u j above console tidy free job superior core aside.files aside.alarms in
+    let none = was_none old new s u j above console tidy free job superior core (files_as aside.is) (alarms_as aside.is) in
     record {
       unreserved = λ n. ap (λ c. clear_at c n) core ∙ tidy.unreserved n;
-      unmarked = ap (λ (x : Store). x.mark) aside.files ∙ tidy.unmarked;
-      across = made_across old new s u j above console tidy free job superior core aside.files aside.alarms;
+      unmarked = ap (λ (x : Store). x.mark) (files_as aside.is) ∙ tidy.unmarked;
+      across = made_across old new s u j above console tidy free job superior core (files_as aside.is) (alarms_as aside.is);
       blank = λ n h. ap (λ c. core_at c n) core ∙ tidy.blank n (none n h);
-      quiet = λ n h. ap (λ l. alarm_at l.items n) aside.alarms ∙ tidy.quiet n (none n h);
-      nameless = λ n h. ap (λ l. symbols_at l.items n) aside.symbols ∙ tidy.nameless n (none n h);
+      quiet = λ n h. ap (λ l. alarm_at l.items n) (alarms_as aside.is) ∙ tidy.quiet n (none n h);
+      nameless = λ n h. ap (λ l. symbols_at l.items n) (symbols_as aside.is) ∙ tidy.nameless n (none n h);
       addressed = λ n. elim (cases_eq n s) [
         | inl e ↦ subst IsPlaced (sym (ap (job_at new.jobs) e ∙ job.here)) (fresh_placed u j console)
         | inr ne ↦ subst IsPlaced (sym (job.others n ne)) (tidy.addressed n)
       ];
-      timed = subst (λ t. t < clock_end) (sym aside.clock) tidy.timed;
+      timed = subst (λ t. t < clock_end) (sym (clock_as aside.is)) tidy.timed;
     }
 
 -- the holder of its console
@@ -219,6 +220,6 @@ pub inferior_made : (old new : Plain) (maker s k u j : ℕ) (console : Option �
 inferior_made old new maker s k u j console tidy least free c job superior core aside = record {
   machine = made_machine old new k u j (Some maker) console tidy free job superior core aside
       ∙ (λ t. with_new (machine_of old) (same_free old s k least free t) (whole no_core (fresh_job u j ((c ∙ sym (console_here old maker)) t)) (Some maker)));
-  place = aside.place;
-  touched = aside.touched;
+  place = place_as aside.is;
+  touched = touched_as aside.is;
 }

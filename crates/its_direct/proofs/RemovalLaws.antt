@@ -29,11 +29,13 @@ use Rattle.its_machine.proofs.PartLaws.{on_slot_here, on_slot_other}
 use Rattle.its_direct.specs.Clock.{AlarmBecomes}
 use Rattle.its_direct.specs.Effects.{Becomes}
 use Rattle.its_direct.specs.Lines.{SymbolsBecome}
+use Rattle.its_direct.specs.Contents.{Contents, contents}
 use Rattle.its_direct.specs.Plain.{machine_of, Aside, Tidy, JobBecomes}
 use Rattle.its_direct.specs.Removal.{Bares, Closes, ClosesTree, Leaves, Shares, SlotKept, SlotSwept, Sweeps, Swept}
 use Rattle.its_direct.specs.declared.plain.Plain.{Plain}
 use Rattle.its_direct.proofs.ChannelLaws.{chan_shut, placed_bare}
 use Rattle.its_direct.proofs.SlotLaws.{IsPlaced}
+use Rattle.its_direct.proofs.ContentsLaws.{core_as, jobs_as, consoles_as, files_as, clock_as, alarms_as, version_as, symbols_as, place_as, touched_as}
 
 -- the superiors of the machine are those of the jobs
 pub superiors_are : (p : Plain) → IsTree p.jobs.jobs p.jobs.superiors → superiors (machine_of p) ≡ superior_at p.jobs
@@ -130,29 +132,30 @@ bares_sweep gone old new s g b = record {
 pub sweeps_gone : (old new : Plain) (r s : ℕ) (b : Bool) → b ≡ in_tree (superior_at old.jobs) r s → b ≡ true → Bares old new s → Sweeps (in_tree (superior_at old.jobs) r) old new s
 sweeps_gone old new r s b is is_so h = bares_sweep (in_tree (superior_at old.jobs) r) old new s (sym is ∙ is_so) h
 
+-- what is left of an equation of contents, if cores, jobs, alarms and symbols are those of a new machine
+shared : (new : Plain) {p q : Contents} → p ≡ q
+    → record p { core = new.core; jobs = new.jobs; alarms = new.alarms; symbols = new.symbols } ≡ record q { core = new.core; jobs = new.jobs; alarms = new.alarms; symbols = new.symbols }
+shared new e = λ t. record (e t) { core = new.core; jobs = new.jobs; alarms = new.alarms; symbols = new.symbols }
+
 pub bares_is : (old one two new : Plain) (s : ℕ) → Only (core_at old.core) (core_at one.core) s no_core → one.core.reserved ≡ old.core.reserved → one.jobs ≡ old.jobs → Aside old one
     → AlarmBecomes one two s None → SymbolsBecome two new s [] → Bares old new s
-bares_is old one two new s core reserved jobs aside a b = record {
-  core = record { here = ap (λ c. core_at c s) (b.core ∙ a.core) ∙ core.here; others = λ k ne. ap (λ c. core_at c k) (b.core ∙ a.core) ∙ core.others k ne };
-  alarm = record {
-    here = ap (λ l. alarm_at l.items s) b.alarms ∙ a.alarms.here;
-    others = λ k ne. ap (λ l. alarm_at l.items k) b.alarms ∙ a.alarms.others k ne ∙ ap (λ l. alarm_at l.items k) aside.alarms;
-  };
-  symbols = record { here = b.symbols.here; others = λ k ne. b.symbols.others k ne ∙ ap (λ l. symbols_at l.items k) (a.symbols ∙ aside.symbols) };
-  jobs = b.jobs ∙ a.jobs ∙ jobs;
-  shares = record {
-    superiors = ap (λ t. t.superiors) (b.jobs ∙ a.jobs ∙ jobs);
-    reserved = λ k. ap (λ c. clear_at c k) (b.core ∙ a.core) ∙ (same_clear old.core one.core reserved).each k;
-    consoles = b.consoles ∙ a.consoles ∙ aside.consoles;
-    holders = b.holders ∙ a.holders ∙ aside.holders;
-    files = b.files ∙ a.files ∙ aside.files;
-    clock = b.clock ∙ a.clock ∙ aside.clock;
-    version = b.version ∙ a.version ∙ aside.version;
-    pipes = b.pipes ∙ a.pipes ∙ aside.pipes;
-    place = b.place ∙ a.place ∙ aside.place;
-    touched = b.touched ∙ a.touched ∙ aside.touched;
-  };
-}
+bares_is old one two new s core reserved jobs aside a b =
+    let cores : new.core ≡ one.core = core_as b.rest ∙ core_as a.rest in
+    let same : new.jobs ≡ old.jobs = jobs_as b.rest ∙ jobs_as a.rest ∙ jobs in
+    record {
+      core = record { here = ap (λ c. core_at c s) cores ∙ core.here; others = λ k ne. ap (λ c. core_at c k) cores ∙ core.others k ne };
+      alarm = record {
+        here = ap (λ l. alarm_at l.items s) (alarms_as b.rest) ∙ a.alarms.here;
+        others = λ k ne. ap (λ l. alarm_at l.items k) (alarms_as b.rest) ∙ a.alarms.others k ne ∙ ap (λ l. alarm_at l.items k) (alarms_as aside.is);
+      };
+      symbols = record { here = b.symbols.here; others = λ k ne. b.symbols.others k ne ∙ ap (λ l. symbols_at l.items k) (symbols_as a.rest ∙ symbols_as aside.is) };
+      jobs = same;
+      shares = record {
+        superiors = ap (λ t. t.superiors) same;
+        reserved = λ k. ap (λ c. clear_at c k) cores ∙ (same_clear old.core one.core reserved).each k;
+        rest = shared new b.rest ∙ shared new a.rest ∙ shared new aside.is;
+      };
+    }
 
 -- the slot of one that stays
 one_sweep : (gone : ℕ → Bool) (old new : Plain) (s : ℕ) (i : Job) (cs : List Channel) → job_at old.jobs s ≡ Some i → gone s ≡ false
@@ -160,8 +163,8 @@ one_sweep : (gone : ℕ → Bool) (old new : Plain) (s : ℕ) (i : Job) (cs : Li
 one_sweep gone old new s i cs had f turned b = record {
   here = record {
     core = b.core.here ∙ by_kept (gone s) no_core (core_at old.core s) f;
-    alarm = ap (λ l. alarm_at l.items s) b.aside.alarms ∙ by_kept (gone s) None (alarm_at old.alarms.items s) f;
-    symbols = ap (λ l. symbols_at l.items s) b.aside.symbols ∙ by_kept (gone s) [] (symbols_at old.symbols.items s) f;
+    alarm = ap (λ l. alarm_at l.items s) (alarms_as b.aside.is) ∙ by_kept (gone s) None (alarm_at old.alarms.items s) f;
+    symbols = ap (λ l. symbols_at l.items s) (symbols_as b.aside.is) ∙ by_kept (gone s) [] (symbols_at old.symbols.items s) f;
     job = λ g. record {
       bare = ap (option_map bare) b.job.here ∙ sym (ap (option_map bare) had);
       chans = λ n. ap (λ o. channel_by o n) b.job.here ∙ turned n ∙ sym (ap (λ o. channel_left gone (channel_by o n)) had);
@@ -169,21 +172,14 @@ one_sweep gone old new s i cs had f turned b = record {
   };
   others = λ k ne. record {
     core = b.core.others k ne;
-    alarm = ap (λ l. alarm_at l.items k) b.aside.alarms;
-    symbols = ap (λ l. symbols_at l.items k) b.aside.symbols;
+    alarm = ap (λ l. alarm_at l.items k) (alarms_as b.aside.is);
+    symbols = ap (λ l. symbols_at l.items k) (symbols_as b.aside.is);
     job = b.job.others k ne;
   };
   shares = record {
     superiors = b.superiors;
     reserved = b.reserved.each;
-    consoles = b.aside.consoles;
-    holders = b.aside.holders;
-    files = b.aside.files;
-    clock = b.aside.clock;
-    version = b.aside.version;
-    pipes = b.aside.pipes;
-    place = b.aside.place;
-    touched = b.aside.touched;
+    rest = shared new b.aside.is;
   };
 }
 
@@ -204,7 +200,7 @@ none_sweep gone p s none f = record {
     job = λ g. none_left gone (job_at p.jobs s) none;
   };
   others = λ k ne. record { core = refl; alarm = refl; symbols = refl; job = refl };
-  shares = record { superiors = refl; reserved = λ k. refl; consoles = refl; holders = refl; files = refl; clock = refl; version = refl; pipes = refl; place = refl; touched = refl };
+  shares = record { superiors = refl; reserved = λ k. refl; rest = refl };
 }
 
 pub empty_sweep : (p : Plain) (r s : ℕ) (o : Option Job) → o ≡ job_at p.jobs s → o ≡ None → in_tree (superior_at p.jobs) r s ≡ false → Sweeps (in_tree (superior_at p.jobs) r) p p s
@@ -212,20 +208,13 @@ empty_sweep p r s o is none f = none_sweep (in_tree (superior_at p.jobs) r) p s 
 
 -- slot after slot
 shares_same : (p : Plain) → Shares p p
-shares_same p = record { superiors = refl; reserved = λ k. refl; consoles = refl; holders = refl; files = refl; clock = refl; version = refl; pipes = refl; place = refl; touched = refl }
+shares_same p = record { superiors = refl; reserved = λ k. refl; rest = refl }
 
 shares_then : (old now new : Plain) → Shares old now → Shares now new → Shares old new
 shares_then old now new a b = record {
   superiors = b.superiors ∙ a.superiors;
   reserved = λ k. b.reserved k ∙ a.reserved k;
-  consoles = b.consoles ∙ a.consoles;
-  holders = b.holders ∙ a.holders;
-  files = b.files ∙ a.files;
-  clock = b.clock ∙ a.clock;
-  version = b.version ∙ a.version;
-  pipes = b.pipes ∙ a.pipes;
-  place = b.place ∙ a.place;
-  touched = b.touched ∙ a.touched;
+  rest = b.rest ∙ shared new a.rest;
 }
 
 kept_same : (p : Plain) (k : ℕ) → SlotKept p p k
@@ -297,38 +286,8 @@ pub record Removes (old mid new : Plain) (r : ℕ) : Type 0 where
   pub jobs : Without (in_tree (superior_at mid.jobs) r) (job_at mid.jobs) (job_at new.jobs)
   pub superiors : Without (in_tree (superior_at mid.jobs) r) (superior_at mid.jobs) (superior_at new.jobs)
   pub holders : (c : ℕ) → holder_at new.holders c ≡ holder_after_removal (in_tree (superior_at mid.jobs) r) (superior_at mid.jobs r) (holder_at mid.holders c)
-  pub core : new.core ≡ mid.core
-  pub alarms : new.alarms ≡ mid.alarms
-  pub symbols : new.symbols ≡ mid.symbols
-  pub consoles : new.consoles ≡ mid.consoles
-  pub files : new.files ≡ mid.files
-  pub clock : new.clock ≡ mid.clock
-  pub version : new.version ≡ mid.version
   pub links : (l : ℕ) → piped new.pipes l ≡ ends_after_removal (in_tree (superior_at mid.jobs) r) (piped mid.pipes l)
-  pub place : new.place ≡ mid.place
-  pub touched : new.touched ≡ mid.touched
-
-pub removes : (old mid new : Plain) (r : ℕ) → Swept (in_tree (superior_at old.jobs) r) old mid slots → Without (in_tree (superior_at mid.jobs) r) (job_at mid.jobs) (job_at new.jobs)
-    → Without (in_tree (superior_at mid.jobs) r) (superior_at mid.jobs) (superior_at new.jobs)
-    → ((c : ℕ) → holder_at new.holders c ≡ holder_after_removal (in_tree (superior_at mid.jobs) r) (superior_at mid.jobs r) (holder_at mid.holders c))
-    → new.core ≡ mid.core → new.alarms ≡ mid.alarms → new.symbols ≡ mid.symbols → new.consoles ≡ mid.consoles → new.files ≡ mid.files → new.clock ≡ mid.clock → new.version ≡ mid.version
-    → ((l : ℕ) → piped new.pipes l ≡ ends_after_removal (in_tree (superior_at mid.jobs) r) (piped mid.pipes l)) → new.place ≡ mid.place → new.touched ≡ mid.touched → Removes old mid new r
-removes old mid new r swept jobs superiors holders core alarms symbols consoles files clock version links place touched = record {
-  swept = swept;
-  jobs = jobs;
-  superiors = superiors;
-  holders = holders;
-  core = core;
-  alarms = alarms;
-  symbols = symbols;
-  consoles = consoles;
-  files = files;
-  clock = clock;
-  version = version;
-  links = links;
-  place = place;
-  touched = touched;
-}
+  pub rest : contents new ≡ record (contents mid) { jobs = new.jobs; holders = new.holders; pipes = new.pipes }
 
 module _ (old mid new : Plain) (r : ℕ) (low : r < slots) (tree : IsTree old.jobs.jobs old.jobs.superiors)
     (closed : (k n : ℕ) → in_tree (superior_at old.jobs) r k ≡ true → channel_at old.jobs k n ≡ Closed) (tidy : Tidy old) (b : Removes old mid new r) where
@@ -362,16 +321,16 @@ module _ (old mid new : Plain) (r : ℕ) (low : r < slots) (tree : IsTree old.jo
       ∙ ap (λ (us : List (Option ℕ)). slice_index_or us k None) b.swept.shares.superiors
 
   core_new : (k : ℕ) → core_at new.core k ≡ (if in_tree (superior_at old.jobs) r k then no_core else core_at old.core k)
-  core_new k = ap (λ c. core_at c k) b.core ∙ (slot_swept k).core
+  core_new k = ap (λ c. core_at c k) (core_as b.rest) ∙ (slot_swept k).core
 
   alarm_new : (k : ℕ) → alarm_at new.alarms.items k ≡ (if in_tree (superior_at old.jobs) r k then None else alarm_at old.alarms.items k)
-  alarm_new k = ap (λ l. alarm_at l.items k) b.alarms ∙ (slot_swept k).alarm
+  alarm_new k = ap (λ l. alarm_at l.items k) (alarms_as b.rest) ∙ (slot_swept k).alarm
 
   symbols_new : (k : ℕ) → symbols_at new.symbols.items k ≡ (if in_tree (superior_at old.jobs) r k then [] else symbols_at old.symbols.items k)
-  symbols_new k = ap (λ l. symbols_at l.items k) b.symbols ∙ (slot_swept k).symbols
+  symbols_new k = ap (λ l. symbols_at l.items k) (symbols_as b.rest) ∙ (slot_swept k).symbols
 
   files_new : new.files ≡ old.files
-  files_new = b.files ∙ b.swept.shares.files
+  files_new = files_as b.rest ∙ files_as b.swept.shares.rest
 
   new_raw : (k : ℕ) (x : Bool) → in_tree (superior_at old.jobs) r k ≡ x
       → raw_at new.files new.core new.jobs new.alarms.items k ≡ job_after_removal (in_tree (superior_at old.jobs) r) x (raw_at old.files old.core old.jobs old.alarms.items k)
@@ -385,19 +344,19 @@ module _ (old mid new : Plain) (r : ℕ) (low : r < slots) (tree : IsTree old.jo
   holders_new : (c : ℕ) → holder_at new.holders c ≡ holder_after_removal (in_tree (superior_at old.jobs) r) (superior_at old.jobs r) (holder_at old.holders c)
   holders_new c =
       b.holders c
-      ∙ (λ t. holder_after_removal (same_tree t) (slice_index_or (b.swept.shares.superiors t) r None) (holder_at (b.swept.shares.holders t) c))
+      ∙ (λ t. holder_after_removal (same_tree t) (slice_index_or (b.swept.shares.superiors t) r None) (holder_at (b.swept.shares.rest t).holders c))
 
   links_new : (l : ℕ) → piped new.pipes l ≡ ends_after_removal (in_tree (superior_at old.jobs) r) (piped old.pipes l)
-  links_new l = b.links l ∙ (λ t. ends_after_removal (same_tree t) (piped (b.swept.shares.pipes t) l))
+  links_new l = b.links l ∙ (λ t. ends_after_removal (same_tree t) (piped (b.swept.shares.rest t).pipes l))
 
   stripped_machine : machine_of new ≡ after_removal (superior_at old.jobs) r (machine_of old)
   unfolding machine_of after_removal
   stripped_machine = machine_is _ _ (λ k. new_raw k (in_tree (superior_at old.jobs) r k) refl)
-      (λ k. ap (λ l. console_at l.items k) (b.consoles ∙ b.swept.shares.consoles)) holders_new (ap directory files_new)
-      (b.clock ∙ b.swept.shares.clock) (b.version ∙ b.swept.shares.version) (λ k. symbols_new k ∙ symbols_if (in_tree (superior_at old.jobs) r k) (symbols_at old.symbols.items k)) links_new
+      (λ k. ap (λ l. console_at l.items k) (consoles_as b.rest ∙ consoles_as b.swept.shares.rest)) holders_new (ap directory files_new)
+      (clock_as b.rest ∙ clock_as b.swept.shares.rest) (version_as b.rest ∙ version_as b.swept.shares.rest) (λ k. symbols_new k ∙ symbols_if (in_tree (superior_at old.jobs) r k) (symbols_at old.symbols.items k)) links_new
 
   pub stripped_row : Becomes old new (after_removal (superior_at old.jobs) r (machine_of old))
-  stripped_row = record { machine = stripped_machine; place = b.place ∙ b.swept.shares.place; touched = b.touched ∙ b.swept.shares.touched }
+  stripped_row = record { machine = stripped_machine; place = place_as b.rest ∙ place_as b.swept.shares.rest; touched = touched_as b.rest ∙ (touched_as b.swept.shares.rest) }
 
   channels_new : (k n : ℕ) → channel_at new.jobs k n ≡ channel_left (in_tree (superior_at old.jobs) r) (channel_at old.jobs k n)
   channels_new k n = elim (cases_Bool (in_tree (superior_at old.jobs) r k)) [
@@ -410,7 +369,7 @@ module _ (old mid new : Plain) (r : ℕ) (low : r < slots) (tree : IsTree old.jo
 
   pub stripped_tidy : Tidy new
   stripped_tidy = record {
-    unreserved = λ k. ap (λ c. clear_at c k) b.core ∙ b.swept.shares.reserved k ∙ tidy.unreserved k;
+    unreserved = λ k. ap (λ c. clear_at c k) (core_as b.rest) ∙ b.swept.shares.reserved k ∙ tidy.unreserved k;
     unmarked = ap (λ (x : Store). x.mark) files_new ∙ tidy.unmarked;
     across = subst (λ (x : Store). Across x new.jobs) (sym files_new) (across_alike old.files old.jobs new.jobs tidy.across (λ k n. left_alike (in_tree (superior_at old.jobs) r) (channel_at old.jobs k n) (channel_at new.jobs k n) (channels_new k n)));
     blank = λ k h. elim (cases_Bool (in_tree (superior_at old.jobs) r k)) [
@@ -429,7 +388,7 @@ module _ (old mid new : Plain) (r : ℕ) (low : r < slots) (tree : IsTree old.jo
       | inl g ↦ subst IsPlaced (sym (job_gone k g)) tt
       | inr f ↦ subst IsPlaced (sym (job_stays k f)) (placed_bare (job_at mid.jobs k) (job_at old.jobs k) ((slot_swept k).job f).bare (tidy.addressed k))
     ];
-    timed = subst (λ t. t < clock_end) (sym (b.clock ∙ b.swept.shares.clock)) tidy.timed;
+    timed = subst (λ t. t < clock_end) (sym (clock_as b.rest ∙ clock_as b.swept.shares.rest)) tidy.timed;
   }
 
 -- the channels of the tree are closed first

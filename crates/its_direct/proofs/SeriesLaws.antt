@@ -38,6 +38,7 @@ use Rattle.its_direct.proofs.ActLaws.{twice}
 use Rattle.its_direct.proofs.SlotLaws.{put_then, slot_machine, slot_tidy, touched_machine, touched_tidy}
 use Rattle.its_direct.proofs.TouchLaws.{or_none, slot_some}
 use Rattle.its_direct.proofs.UserLaws.{becomes_raw, nobody_is, own_is, own_of}
+use Rattle.its_direct.proofs.ContentsLaws.{place_as}
 
 -- what is left of a job
 abbrev with_left : Left → Whole → Whole
@@ -156,7 +157,7 @@ module _ (old mid put new : Plain) (s n : ℕ) (i k : Job) (c : Core) (had : job
   series_jobs x = ap (λ (m : Machine). is_some (m.jobs x)) series_machine ∙ slot_some (machine_of old).jobs s (with_left (left c k)) x
 
   pub series_place : new.place ≡ old.place
-  series_place = ap (λ (p : Plain). p.place) e ∙ both.aside.place
+  series_place = ap (λ (p : Plain). p.place) e ∙ place_as both.aside.is
 
 -- one of them is the step of the job
 pub one_stepped : (old new : Plain) (s n : ℕ) → Series n (machine_of old) s (machine_of new) → n ≡ 1 → ((k : ℕ) → is_some ((machine_of new).jobs k) ≡ is_some ((machine_of old).jobs k))

@@ -30,20 +30,21 @@ use Rattle.its_direct.proofs.LineLaws.{only_touched, put_slot}
 use Rattle.its_direct.proofs.SlotLaws.{IsPlaced, core_machine, touched_machine, touched_tidy}
 use Rattle.its_direct.proofs.TouchLaws.{none_touched}
 use Rattle.its_direct.proofs.UserLaws.{own_of, own_is, nobody_is}
+use Rattle.its_direct.proofs.ContentsLaws.{core_as, jobs_as, consoles_as, holders_as, files_as, clock_as, alarms_as, version_as, symbols_as, pipes_as, place_as}
 
 -- VERSION
 version_machine : (old new : Plain) (v : ℕ) → VersionBecomes old new v → machine_of new ≡ record (machine_of old) { version = v }
 unfolding machine_of
 version_machine old new v b = machine_is _ _
-    (λ k t. raw_of (b.files t) (core_at (b.core t) k) (superior_in (b.superiors t) k) (alarm_at (b.alarms t).items k) (b.jobs.each k t))
-    (λ k. ap (λ l. console_at l.items k) b.consoles) (λ k. ap (λ l. holder_at l k) b.holders) (ap directory b.files) b.clock b.version (λ k. ap (λ l. symbols_at l.items k) b.symbols) (λ k. ap (λ l. piped l k) b.pipes)
+    (λ k t. raw_of (b.rest t).files (core_at (b.rest t).core k) (superior_in (b.superiors t) k) (alarm_at (b.rest t).alarms.items k) (b.jobs.each k t))
+    (λ k. ap (λ l. console_at l.items k) (consoles_as b.rest)) (λ k. ap (λ l. holder_at l k) (holders_as b.rest)) (ap directory (files_as b.rest)) (clock_as b.rest) (version_as b.rest) (λ k. ap (λ l. symbols_at l.items k) (symbols_as b.rest)) (λ k. ap (λ l. piped l k) (pipes_as b.rest))
 
 pub version_put : (old put new : Plain) (v : ℕ) (b : Bool) → b ≡ no_job (job_at old.jobs) → b ≡ true → VersionBecomes old put v → new ≡ record put { touched = no_slots }
     → Stands old new (with_version (machine_of old) v)
 version_put old put new v b is empty h t = record {
   machine = touched_machine put new no_slots t ∙ version_machine old put v h ∙ sym (version_set (machine_of old) v (empty_is old ∙ sym is ∙ empty));
   touched = none_touched new.touched (ap (λ (p : Plain). p.touched) t);
-  place = ap (λ (p : Plain). p.place) t ∙ h.place;
+  place = ap (λ (p : Plain). p.place) t ∙ place_as h.rest;
 }
 
 pub version_stays : (old new : Plain) (v : ℕ) (b : Bool) → b ≡ no_job (job_at old.jobs) → b ≡ false → new ≡ record old { touched = no_slots } → Stands old new (with_version (machine_of old) v)
@@ -55,14 +56,14 @@ version_stays old new v b is full t = record {
 
 version_keeps : (old new : Plain) (v : ℕ) → VersionBecomes old new v → Tidy old → Tidy new
 version_keeps old new v b tidy = record {
-  unreserved = λ k. ap (λ m. clear_at m k) b.core ∙ tidy.unreserved k;
-  unmarked = ap (λ (s : Store). s.mark) b.files ∙ tidy.unmarked;
-  across = subst (λ (s : Store). Across s new.jobs) (sym b.files) (across_table old.files old.jobs new.jobs tidy.across (λ k n. ap (λ o. channel_by o n) (b.jobs.each k)));
-  blank = λ k h. ap (λ m. core_at m k) b.core ∙ tidy.blank k (sym (b.jobs.each k) ∙ h);
-  quiet = λ k h. ap (λ l. alarm_at l.items k) b.alarms ∙ tidy.quiet k (sym (b.jobs.each k) ∙ h);
-  nameless = λ k h. ap (λ l. symbols_at l.items k) b.symbols ∙ tidy.nameless k (sym (b.jobs.each k) ∙ h);
+  unreserved = λ k. ap (λ m. clear_at m k) (core_as b.rest) ∙ tidy.unreserved k;
+  unmarked = ap (λ (s : Store). s.mark) (files_as b.rest) ∙ tidy.unmarked;
+  across = subst (λ (s : Store). Across s new.jobs) (sym (files_as b.rest)) (across_table old.files old.jobs new.jobs tidy.across (λ k n. ap (λ o. channel_by o n) (b.jobs.each k)));
+  blank = λ k h. ap (λ m. core_at m k) (core_as b.rest) ∙ tidy.blank k (sym (b.jobs.each k) ∙ h);
+  quiet = λ k h. ap (λ l. alarm_at l.items k) (alarms_as b.rest) ∙ tidy.quiet k (sym (b.jobs.each k) ∙ h);
+  nameless = λ k h. ap (λ l. symbols_at l.items k) (symbols_as b.rest) ∙ tidy.nameless k (sym (b.jobs.each k) ∙ h);
   addressed = λ k. subst IsPlaced (sym (b.jobs.each k)) (tidy.addressed k);
-  timed = subst (λ t. t < clock_end) (sym b.clock) tidy.timed;
+  timed = subst (λ t. t < clock_end) (sym (clock_as b.rest)) tidy.timed;
 }
 
 pub version_tidy : (old put new : Plain) (v : ℕ) → VersionBecomes old put v → new ≡ record put { touched = no_slots } → Tidy old → Tidy new
@@ -96,7 +97,7 @@ read_only_done old put new s k i b l had has there r e = record {
       ∙ ap Ok (sym (touched_machine put new (one_slot s) e ∙ core_machine old put s (with_page (core_at old.core s) k (marked (page_of (core_at old.core s) k) false)) i r had
       ∙ put_slot (machine_of old) s (own_of old s i) (λ q. record q { core = with_page (core_at old.core s) k (marked (page_of (core_at old.core s) k) false) }) (own_is old s i had)));
   touched = only_touched put new s l e;
-  place = ap (λ (p : Plain). p.place) e ∙ r.aside.place;
+  place = ap (λ (p : Plain). p.place) e ∙ place_as r.aside.is;
 }
 
 pub read_only_absent : (p : Plain) (s k : ℕ) (i : Job) (o : Option Job) (b : Bool) → o ≡ job_at p.jobs s → o ≡ Some i → b ≡ is_some (page_of (core_at p.core s) k) → b ≡ false
@@ -115,9 +116,9 @@ symbols_is p s = refl
 symbols_machine : (old new : Plain) (s : ℕ) (x : Symbol) → SymbolsBecome old new s (symbols_at old.symbols.items s ++ x ∷ []) → machine_of new ≡ with_symbol (machine_of old) s x
 unfolding machine_of
 symbols_machine old new s x b = machine_is _ _
-    (λ k t. raw_at (b.files t) (b.core t) (b.jobs t) (b.alarms t).items k) (λ k. ap (λ l. console_at l.items k) b.consoles)
-    (λ k. ap (λ l. holder_at l k) b.holders) (ap directory b.files) b.clock b.version (changed_at _ _ s _ b.symbols.here b.symbols.others)
-    (λ k. ap (λ l. piped l k) b.pipes)
+    (λ k t. raw_at (b.rest t).files (b.rest t).core (b.rest t).jobs (b.rest t).alarms.items k) (λ k. ap (λ l. console_at l.items k) (consoles_as b.rest))
+    (λ k. ap (λ l. holder_at l k) (holders_as b.rest)) (ap directory (files_as b.rest)) (clock_as b.rest) (version_as b.rest) (changed_at _ _ s _ b.symbols.here b.symbols.others)
+    (λ k. ap (λ l. piped l k) (pipes_as b.rest))
 
 symbol_own : (p : Plain) (s name a : ℕ) (i : Job) → job_at p.jobs s ≡ Some i → with_symbol_kept (machine_of p) s name a ≡ with_symbol_kept_if (machine_of p) s (name, a) (nat_lt (length (symbols_at p.symbols.items s)) most_symbols)
 unfolding with_symbol_kept
@@ -129,7 +130,7 @@ symbol_done old put new s name a i o b is some has room r t = record {
   is = symbol_own old s name a i (sym is ∙ some) ∙ ap (with_symbol_kept_if (machine_of old) s (name, a)) (sym has ∙ room)
       ∙ ap Ok (sym (touched_machine put new no_slots t ∙ symbols_machine old put s (name, a) r));
   touched = none_touched new.touched (ap (λ (p : Plain). p.touched) t);
-  place = ap (λ (p : Plain). p.place) t ∙ r.place;
+  place = ap (λ (p : Plain). p.place) t ∙ place_as r.rest;
 }
 
 pub symbol_full : (p : Plain) (s name a : ℕ) (i : Job) (o : Option Job) (b : Bool) → o ≡ job_at p.jobs s → o ≡ Some i → b ≡ nat_lt (length (symbols_at p.symbols.items s)) most_symbols → b ≡ false
@@ -142,18 +143,18 @@ symbol_refused p s name a o is none = ap (with_symbol_kept_of (machine_of p) s (
 
 symbols_keep : (old new : Plain) (s : ℕ) (i : Job) (ss : List Symbol) → job_at old.jobs s ≡ Some i → SymbolsBecome old new s ss → Tidy old → Tidy new
 symbols_keep old new s i ss had b tidy = record {
-  unreserved = λ k. ap (λ m. clear_at m k) b.core ∙ tidy.unreserved k;
-  unmarked = ap (λ (x : Store). x.mark) b.files ∙ tidy.unmarked;
-  across = subst (λ (x : Store). Across x new.jobs) (sym b.files) (subst (Across old.files) (sym b.jobs) tidy.across);
-  blank = λ k h. ap (λ m. core_at m k) b.core ∙ tidy.blank k (sym (ap (λ t. job_at t k) b.jobs) ∙ h);
-  quiet = λ k h. ap (λ l. alarm_at l.items k) b.alarms ∙ tidy.quiet k (sym (ap (λ t. job_at t k) b.jobs) ∙ h);
-  nameless = λ k h. b.symbols.others k (apart k h) ∙ tidy.nameless k (sym (ap (λ t. job_at t k) b.jobs) ∙ h);
-  addressed = λ k. subst IsPlaced (sym (ap (λ t. job_at t k) b.jobs)) (tidy.addressed k);
-  timed = subst (λ t. t < clock_end) (sym b.clock) tidy.timed;
+  unreserved = λ k. ap (λ m. clear_at m k) (core_as b.rest) ∙ tidy.unreserved k;
+  unmarked = ap (λ (x : Store). x.mark) (files_as b.rest) ∙ tidy.unmarked;
+  across = subst (λ (x : Store). Across x new.jobs) (sym (files_as b.rest)) (subst (Across old.files) (sym (jobs_as b.rest)) tidy.across);
+  blank = λ k h. ap (λ m. core_at m k) (core_as b.rest) ∙ tidy.blank k (sym (ap (λ t. job_at t k) (jobs_as b.rest)) ∙ h);
+  quiet = λ k h. ap (λ l. alarm_at l.items k) (alarms_as b.rest) ∙ tidy.quiet k (sym (ap (λ t. job_at t k) (jobs_as b.rest)) ∙ h);
+  nameless = λ k h. b.symbols.others k (apart k h) ∙ tidy.nameless k (sym (ap (λ t. job_at t k) (jobs_as b.rest)) ∙ h);
+  addressed = λ k. subst IsPlaced (sym (ap (λ t. job_at t k) (jobs_as b.rest))) (tidy.addressed k);
+  timed = subst (λ t. t < clock_end) (sym (clock_as b.rest)) tidy.timed;
 }
   where
     apart : (k : ℕ) → job_at new.jobs k ≡ None → k ≢ s
-    apart k h e = let wrong : None ≡ Some i = sym h ∙ ap (job_at new.jobs) e ∙ ap (λ t. job_at t s) b.jobs ∙ had in absurd cc
+    apart k h e = let wrong : None ≡ Some i = sym h ∙ ap (job_at new.jobs) e ∙ ap (λ t. job_at t s) (jobs_as b.rest) ∙ had in absurd cc
 
 pub symbol_tidy : (old put new : Plain) (s : ℕ) (i : Job) (o : Option Job) (ss : List Symbol) → o ≡ job_at old.jobs s → o ≡ Some i → SymbolsBecome old put s ss → new ≡ record put { touched = no_slots }
     → Tidy old → Tidy new

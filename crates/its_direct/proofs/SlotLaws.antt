@@ -24,6 +24,7 @@ use Rattle.its_machine.proofs.CoreLaws.{same_clear}
 use Rattle.its_machine.proofs.PartLaws.{raw_job, raw_some, slot_at}
 use Rattle.its_direct.specs.Plain.{machine_of, Tidy, Aside, SlotBecomes, CoreBecomes, JobBecomes}
 use Rattle.its_direct.specs.declared.plain.Plain.{Plain}
+use Rattle.its_direct.proofs.ContentsLaws.{consoles_as, holders_as, files_as, clock_as, alarms_as, version_as, symbols_as, pipes_as}
 
 pub alike : {X : Type 0} → (f g : ℕ → X) (s : ℕ) → ((k : ℕ) → g k ≡ f k) → Only f g s (f s)
 alike f g s h = record { here = h s; others = λ k n. h k }
@@ -54,18 +55,7 @@ only_then : {X : Type 0} → (f g h : ℕ → X) (s : ℕ) (x y : X) → Only f 
 only_then f g h s x y a b = record { here = b.here; others = λ k n. b.others k n ∙ a.others k n }
 
 pub aside_then : (old mid new : Plain) → Aside old mid → Aside mid new → Aside old new
-aside_then old mid new a b = record {
-  consoles = b.consoles ∙ a.consoles;
-  holders = b.holders ∙ a.holders;
-  files = b.files ∙ a.files;
-  clock = b.clock ∙ a.clock;
-  alarms = b.alarms ∙ a.alarms;
-  version = b.version ∙ a.version;
-  symbols = b.symbols ∙ a.symbols;
-  pipes = b.pipes ∙ a.pipes;
-  place = b.place ∙ a.place;
-  touched = b.touched ∙ a.touched;
-}
+aside_then old mid new a b = record { is = b.is ∙ (λ t. record (a.is t) { core = new.core; jobs = new.jobs }) }
 
 pub put_then : (old mid new : Plain) (s : ℕ) (c : Core) (j : Job) → CoreBecomes old mid s c → JobBecomes mid new s j → SlotBecomes old new s c (Some j)
 put_then old mid new s c j a b = record {
@@ -79,10 +69,10 @@ put_then old mid new s c j a b = record {
 -- the machine after it
 module _ (old new : Plain) (s : ℕ) (c : Core) (j : Option Job) (b : SlotBecomes old new s c j) where
   raw_other : (k : ℕ) → k ≢ s → raw_at new.files new.core new.jobs new.alarms.items k ≡ raw_at old.files old.core old.jobs old.alarms.items k
-  raw_other k ne = λ t. raw_of (b.aside.files t) (b.core.others k ne t) (slice_index_or (b.superiors t) k None) (alarm_at (b.aside.alarms t).items k) (b.job.others k ne t)
+  raw_other k ne = λ t. raw_of (b.aside.is t).files (b.core.others k ne t) (slice_index_or (b.superiors t) k None) (alarm_at (b.aside.is t).alarms.items k) (b.job.others k ne t)
 
   raw_here : raw_at new.files new.core new.jobs new.alarms.items s ≡ raw_of old.files c (superior_at old.jobs s) (alarm_at old.alarms.items s) j
-  raw_here = λ t. raw_of (b.aside.files t) (b.core.here t) (slice_index_or (b.superiors t) s None) (alarm_at (b.aside.alarms t).items s) (b.job.here t)
+  raw_here = λ t. raw_of (b.aside.is t).files (b.core.here t) (slice_index_or (b.superiors t) s None) (alarm_at (b.aside.is t).alarms.items s) (b.job.here t)
 
 pub slot_machine : (old new : Plain) (s : ℕ) (c : Core) (i k : Job) (h : Whole → Whole) → SlotBecomes old new s c (Some k) → job_at old.jobs s ≡ Some i
     → h (raw_job old.files (core_at old.core s) i (superior_at old.jobs s) (alarm_at old.alarms.items s)) ≡ raw_job old.files c k (superior_at old.jobs s) (alarm_at old.alarms.items s)
@@ -92,8 +82,8 @@ slot_machine old new s c i k h b had e = machine_is _ _
     (slot_at _ _ s h
     (raw_here old new s c (Some k) b ∙ ap Some (sym e) ∙ sym (ap (option_map h) (raw_some old.files old.core old.jobs old.alarms.items s i had)))
     (raw_other old new s c (Some k) b))
-    (λ x. ap (λ l. console_at l.items x) b.aside.consoles) (λ x. ap (λ l. holder_at l x) b.aside.holders) (ap directory b.aside.files)
-    b.aside.clock b.aside.version (λ x. ap (λ l. symbols_at l.items x) b.aside.symbols) (λ x. ap (λ l. piped l x) b.aside.pipes)
+    (λ x. ap (λ l. console_at l.items x) (consoles_as b.aside.is)) (λ x. ap (λ l. holder_at l x) (holders_as b.aside.is)) (ap directory (files_as b.aside.is))
+    (clock_as b.aside.is) (version_as b.aside.is) (λ x. ap (λ l. symbols_at l.items x) (symbols_as b.aside.is)) (λ x. ap (λ l. piped l x) (pipes_as b.aside.is))
 
 -- the PC of a job is an address
 abbrev pub IsPlaced : Option Job → Type 0
@@ -106,16 +96,16 @@ placed_at p s o j is some tidy = subst IsPlaced (sym is ∙ some) (tidy.addresse
 pub slot_tidy : (old new : Plain) (s : ℕ) (c : Core) (i k : Job) → SlotBecomes old new s c (Some k) → job_at old.jobs s ≡ Some i → k.channels ≡ i.channels → k.pc < 2 ^ 18 → Tidy old → Tidy new
 slot_tidy old new s c i k b had same placed tidy = record {
   unreserved = λ n. b.reserved.each n ∙ tidy.unreserved n;
-  unmarked = ap (λ (x : Store). x.mark) b.aside.files ∙ tidy.unmarked;
-  across = subst (λ (x : Store). Across x new.jobs) (sym b.aside.files) (across_table old.files old.jobs new.jobs tidy.across channels);
+  unmarked = ap (λ (x : Store). x.mark) (files_as b.aside.is) ∙ tidy.unmarked;
+  across = subst (λ (x : Store). Across x new.jobs) (sym (files_as b.aside.is)) (across_table old.files old.jobs new.jobs tidy.across channels);
   blank = λ n h. b.core.others n (apart n h) ∙ tidy.blank n (sym (b.job.others n (apart n h)) ∙ h);
-  quiet = λ n h. ap (λ l. alarm_at l.items n) b.aside.alarms ∙ tidy.quiet n (sym (b.job.others n (apart n h)) ∙ h);
-  nameless = λ n h. ap (λ l. symbols_at l.items n) b.aside.symbols ∙ tidy.nameless n (sym (b.job.others n (apart n h)) ∙ h);
+  quiet = λ n h. ap (λ l. alarm_at l.items n) (alarms_as b.aside.is) ∙ tidy.quiet n (sym (b.job.others n (apart n h)) ∙ h);
+  nameless = λ n h. ap (λ l. symbols_at l.items n) (symbols_as b.aside.is) ∙ tidy.nameless n (sym (b.job.others n (apart n h)) ∙ h);
   addressed = λ n. elim (cases_eq n s) [
     | inl e ↦ subst IsPlaced (sym (ap (job_at new.jobs) e ∙ b.job.here)) placed
     | inr ne ↦ subst IsPlaced (sym (b.job.others n ne)) (tidy.addressed n)
   ];
-  timed = subst (λ t. t < clock_end) (sym b.aside.clock) tidy.timed;
+  timed = subst (λ t. t < clock_end) (sym (clock_as b.aside.is)) tidy.timed;
 }
   where
     apart : (n : ℕ) → job_at new.jobs n ≡ None → n ≢ s

@@ -30,6 +30,7 @@ pub use Rattle.its_direct.specs.Steps.{own_of}
 use Rattle.its_direct.specs.declared.plain.Plain.{Plain}
 use Rattle.its_direct.proofs.SlotLaws.{placed_at, put_then, slot_machine, slot_tidy, touched_machine, touched_tidy}
 use Rattle.its_direct.proofs.TouchLaws.{none_touched, one_touched, or_none, slot_some, step_touched}
+use Rattle.its_direct.proofs.ContentsLaws.{place_as}
 
 pub own_is : (p : Plain) (s : ℕ) (j : Job) → job_at p.jobs s ≡ Some j → (machine_of p).jobs s ≡ Some (own_of p s j)
 unfolding machine_of
@@ -62,7 +63,7 @@ stepped_alone old put new s c i k f b had is row e = record {
   steps = record {
     machine = touched_machine put new no_slots e ∙ slot_machine old put s c i k f b had is;
     touched = step_touched new.touched (machine_of old) (in_job (machine_of old) s f) [] (none_touched new.touched (ap (λ (p : Plain). p.touched) e)) (slot_some (machine_of old).jobs s f);
-    place = ap (λ (p : Plain). p.place) e ∙ b.aside.place;
+    place = ap (λ (p : Plain). p.place) e ∙ place_as b.aside.is;
   };
 }
 
@@ -107,7 +108,7 @@ module _ (old mid put new : Plain) (s : ℕ) (i k : Job) (had : job_at old.jobs 
   delivery_superior = ap (λ (p : Plain). superior_at p.jobs s) e ∙ ap (λ (us : List (Option ℕ)). slice_index_or us s None) written.superiors
 
   pub delivery_place : new.place ≡ old.place
-  delivery_place = ap (λ (p : Plain). p.place) e ∙ written.aside.place
+  delivery_place = ap (λ (p : Plain). p.place) e ∙ place_as written.aside.is
 
 -- the step that it is
 module _ (old new : Plain) (s : ℕ) (i : Job) (had : job_at old.jobs s ≡ Some i) (runs : i.stopped ≡ false) (due : deliverable i ≡ true) where

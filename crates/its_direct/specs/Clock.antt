@@ -8,6 +8,7 @@ use Rattle.its_plain.specs.Machine.{Machine}
 use Rattle.its_plain.specs.OperatorClock.{due, after_alarm_if}
 use Rattle.its_stepped.specs.Alarmed.{Periodic}
 use Rattle.its_machine.specs.Parts.{alarm_at}
+use Rattle.its_direct.specs.Contents.{contents}
 use Rattle.its_direct.specs.Plain.{machine_of, is_touched}
 use Rattle.its_direct.specs.declared.plain.Plain.{Plain}
 
@@ -24,17 +25,7 @@ Periods p = (k : ℕ) → IfSome (alarm_at p.alarms.items k) Periodic
 -- only the alarm of slot s is another
 pub record AlarmBecomes (old new : Plain) (s : ℕ) (a : Option (ℕ × ℕ)) : Type 0 where
   pub alarms : Only (alarm_at old.alarms.items) (alarm_at new.alarms.items) s a
-  pub core : new.core ≡ old.core
-  pub jobs : new.jobs ≡ old.jobs
-  pub consoles : new.consoles ≡ old.consoles
-  pub holders : new.holders ≡ old.holders
-  pub files : new.files ≡ old.files
-  pub clock : new.clock ≡ old.clock
-  pub version : new.version ≡ old.version
-  pub symbols : new.symbols ≡ old.symbols
-  pub pipes : new.pipes ≡ old.pipes
-  pub place : new.place ≡ old.place
-  pub touched : new.touched ≡ old.touched
+  pub rest : contents new ≡ record (contents old) { alarms = new.alarms }
 
 -- the alarms that are due at clock c of the slots that pass a test have gone, these slots are also touched, and nothing else has
 -- changed

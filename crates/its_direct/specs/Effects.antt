@@ -9,6 +9,7 @@ use Rattle.its_files.specs.Files.{Store}
 use Rattle.its_pipes.specs.Pipes.{piped}
 use Rattle.its_plain.specs.Machine.{Pipe, Machine}
 use Rattle.its_machine.specs.Channels.{OnlyChannel}
+use Rattle.its_direct.specs.Contents.{contents}
 use Rattle.its_direct.specs.Plain.{machine_of, Tidy}
 use Rattle.its_direct.specs.declared.plain.Plain.{Plain}
 
@@ -23,46 +24,16 @@ pub record ChannelBecomes (old new : Plain) (s n : ℕ) (x : Channel) (t : Store
   pub jobs : OnlyChannel old.jobs new.jobs s n x
   pub core : Same (core_at old.core) (core_at new.core)
   pub reserved : Same (clear_at old.core) (clear_at new.core)
-  pub consoles : new.consoles ≡ old.consoles
-  pub holders : new.holders ≡ old.holders
-  pub files : new.files ≡ t
-  pub clock : new.clock ≡ old.clock
-  pub alarms : new.alarms ≡ old.alarms
-  pub version : new.version ≡ old.version
-  pub symbols : new.symbols ≡ old.symbols
-  pub pipes : new.pipes ≡ old.pipes
-  pub place : new.place ≡ old.place
-  pub touched : new.touched ≡ old.touched
+  pub rest : contents new ≡ record (contents old) { core = new.core; jobs = new.jobs; files = t }
 
 -- only the store of files is another
 pub record OnlyStore (old new : Plain) (t : Store) : Type 0 where
-  pub core : new.core ≡ old.core
-  pub jobs : new.jobs ≡ old.jobs
-  pub consoles : new.consoles ≡ old.consoles
-  pub holders : new.holders ≡ old.holders
-  pub files : new.files ≡ t
-  pub clock : new.clock ≡ old.clock
-  pub alarms : new.alarms ≡ old.alarms
-  pub version : new.version ≡ old.version
-  pub symbols : new.symbols ≡ old.symbols
-  pub pipes : new.pipes ≡ old.pipes
-  pub place : new.place ≡ old.place
-  pub touched : new.touched ≡ old.touched
+  pub is : contents new ≡ record (contents old) { files = t }
 
 -- only the link of this number is another
 pub record LinkBecomes (old new : Plain) (l : ℕ) (o : Option Pipe) : Type 0 where
   pub links : Only (piped old.pipes) (piped new.pipes) l o
-  pub core : new.core ≡ old.core
-  pub jobs : new.jobs ≡ old.jobs
-  pub consoles : new.consoles ≡ old.consoles
-  pub holders : new.holders ≡ old.holders
-  pub files : new.files ≡ old.files
-  pub clock : new.clock ≡ old.clock
-  pub alarms : new.alarms ≡ old.alarms
-  pub version : new.version ≡ old.version
-  pub symbols : new.symbols ≡ old.symbols
-  pub place : new.place ≡ old.place
-  pub touched : new.touched ≡ old.touched
+  pub rest : contents new ≡ record (contents old) { pipes = new.pipes }
 
 -- the effect of a change: the machine is this one, and no call is in progress
 pub record Comes (old new : Plain) (m : Machine) : Type 0 where

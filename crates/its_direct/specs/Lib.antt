@@ -1,4 +1,5 @@
 pub mod Plain
+pub mod Contents
 pub mod Steps
 pub mod Lines
 pub mod Asking

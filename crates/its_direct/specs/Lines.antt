@@ -11,6 +11,7 @@ use Rattle.its_plain.specs.Machine.{Console, Symbol, Machine}
 use Rattle.its_plain.specs.Operator.{nobody, only}
 pub use Rattle.its_machine.specs.Refusals.{refusal_of}
 use Rattle.its_machine.specs.Parts.{bare, console_at, symbols_at}
+use Rattle.its_direct.specs.Contents.{contents}
 use Rattle.its_direct.specs.Plain.{machine_of, is_touched, no_slots}
 use Rattle.its_direct.specs.declared.plain.Plain.{Plain}
 use Rattle.its_direct.specs.declared.plain.Spot.TheVariants as spots
@@ -59,47 +60,18 @@ pub record Keeps (old new : Plain) (r : Result Machine Reason) : Type 0 where
 -- only console c is another
 pub record ConsoleBecomes (old new : Plain) (c : ℕ) (x : Console) : Type 0 where
   pub consoles : Only (console_at old.consoles.items) (console_at new.consoles.items) c x
-  pub core : new.core ≡ old.core
-  pub jobs : new.jobs ≡ old.jobs
-  pub holders : new.holders ≡ old.holders
-  pub files : new.files ≡ old.files
-  pub clock : new.clock ≡ old.clock
-  pub alarms : new.alarms ≡ old.alarms
-  pub version : new.version ≡ old.version
-  pub symbols : new.symbols ≡ old.symbols
-  pub pipes : new.pipes ≡ old.pipes
-  pub place : new.place ≡ old.place
-  pub touched : new.touched ≡ old.touched
+  pub rest : contents new ≡ record (contents old) { consoles = new.consoles }
 
 -- only the symbols of slot s are others
 pub record SymbolsBecome (old new : Plain) (s : ℕ) (ss : List Symbol) : Type 0 where
   pub symbols : Only (symbols_at old.symbols.items) (symbols_at new.symbols.items) s ss
-  pub core : new.core ≡ old.core
-  pub jobs : new.jobs ≡ old.jobs
-  pub consoles : new.consoles ≡ old.consoles
-  pub holders : new.holders ≡ old.holders
-  pub files : new.files ≡ old.files
-  pub clock : new.clock ≡ old.clock
-  pub alarms : new.alarms ≡ old.alarms
-  pub version : new.version ≡ old.version
-  pub pipes : new.pipes ≡ old.pipes
-  pub place : new.place ≡ old.place
-  pub touched : new.touched ≡ old.touched
+  pub rest : contents new ≡ record (contents old) { symbols = new.symbols }
 
--- only the version is another, and with it the limit of its jobs
+-- only the version is another, and with it the limit of its jobs; slots may be touched
 pub record VersionBecomes (old new : Plain) (v : ℕ) : Type 0 where
-  pub version : new.version ≡ v
   pub jobs : Same (job_at old.jobs) (job_at new.jobs)
   pub superiors : new.jobs.superiors ≡ old.jobs.superiors
-  pub core : new.core ≡ old.core
-  pub consoles : new.consoles ≡ old.consoles
-  pub holders : new.holders ≡ old.holders
-  pub files : new.files ≡ old.files
-  pub clock : new.clock ≡ old.clock
-  pub alarms : new.alarms ≡ old.alarms
-  pub symbols : new.symbols ≡ old.symbols
-  pub pipes : new.pipes ≡ old.pipes
-  pub place : new.place ≡ old.place
+  pub rest : contents new ≡ record (contents old) { version = v; jobs = new.jobs; touched = new.touched }
 
 -- how many of n pages of a core, from page k on, are absent
 abbrev pub one_unless : Bool → ℕ

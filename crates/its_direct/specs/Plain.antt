@@ -11,6 +11,7 @@ use Rattle.its_plain.specs.Machine.{Machine}
 use Rattle.its_plain.specs.OperatorClock.{clock_end}
 use Rattle.its_machine.specs.Across.{Across}
 use Rattle.its_machine.specs.Parts.{alarm_at, symbols_at, raw_machine}
+use Rattle.its_direct.specs.Contents.{contents}
 use Rattle.its_direct.specs.declared.plain.Plain.{Plain}
 
 -- the machine of its parts
@@ -39,16 +40,7 @@ pub record Tidy (p : Plain) : Type 0 where
 
 -- all but cores and jobs is as it was
 pub record Aside (old new : Plain) : Type 0 where
-  pub consoles : new.consoles ≡ old.consoles
-  pub holders : new.holders ≡ old.holders
-  pub files : new.files ≡ old.files
-  pub clock : new.clock ≡ old.clock
-  pub alarms : new.alarms ≡ old.alarms
-  pub version : new.version ≡ old.version
-  pub symbols : new.symbols ≡ old.symbols
-  pub pipes : new.pipes ≡ old.pipes
-  pub place : new.place ≡ old.place
-  pub touched : new.touched ≡ old.touched
+  pub is : contents new ≡ record (contents old) { core = new.core; jobs = new.jobs }
 
 -- only the core and the registers of slot s are others
 pub record SlotBecomes (old new : Plain) (s : ℕ) (c : Core) (j : Option Job) : Type 0 where

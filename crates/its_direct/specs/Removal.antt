@@ -10,6 +10,7 @@ use Rattle.its_plain.specs.Machine.{Shut}
 use Rattle.its_machine.specs.Across.{channel_by, channel_left}
 use Rattle.its_machine.specs.Can.{chan_in}
 use Rattle.its_machine.specs.Parts.{alarm_at, bare, symbols_at}
+use Rattle.its_direct.specs.Contents.{contents}
 use Rattle.its_direct.specs.Plain.{machine_of}
 use Rattle.its_direct.specs.declared.plain.Plain.{Plain}
 
@@ -35,14 +36,7 @@ pub record ClosesTree (gone : ℕ → Bool) (old new : Plain) (n : ℕ) : Type 0
 pub record Shares (old new : Plain) : Type 0 where
   pub superiors : new.jobs.superiors ≡ old.jobs.superiors
   pub reserved : (k : ℕ) → clear_at new.core k ≡ clear_at old.core k
-  pub consoles : new.consoles ≡ old.consoles
-  pub holders : new.holders ≡ old.holders
-  pub files : new.files ≡ old.files
-  pub clock : new.clock ≡ old.clock
-  pub version : new.version ≡ old.version
-  pub pipes : new.pipes ≡ old.pipes
-  pub place : new.place ≡ old.place
-  pub touched : new.touched ≡ old.touched
+  pub rest : contents new ≡ record (contents old) { core = new.core; jobs = new.jobs; alarms = new.alarms; symbols = new.symbols }
 
 -- slot s has no page, no alarm and no symbols any more
 pub record Bares (old new : Plain) (s : ℕ) : Type 0 where

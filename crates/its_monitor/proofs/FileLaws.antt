@@ -35,37 +35,32 @@ use Rattle.its_stepped.proofs.RefusalLaws.{error_of, made_alike, added_alike}
 use Rattle.its_world.specs.World.{alarm_at, chan_of, raw_of, mark_of, state_of}
 use Rattle.its_world.specs.Tidy.{channel_by, Tidy}
 use Rattle.its_world.specs.declared.world.World.{World}
-use Rattle.its_world.proofs.PlaceLaws.{ringed_alike}
+use Rattle.its_world.specs.Storage.{OnlyStore}
 use Rattle.its_machine.proofs.RoomLaws.{full_on}
 use Rattle.its_machine.proofs.KeptLaws.{Stays, made_stays, lengthened_stays, helped_stays}
 use Rattle.its_world.proofs.MarkLaws.{none_marked, mark_none, made_none, help_step}
 use Rattle.its_machine.proofs.StoreLaws.{found_named, has_named, found_self}
-use Rattle.its_pclsr.proofs.PartLaws.{store_state, store_tidy}
-use Rattle.its_world.proofs.StorageLaws.{files_are, chans_are, marks_are}
+use Rattle.its_world.proofs.StorageLaws.{files_are, chans_are, marks_are, store_state, store_tidy}
 use Rattle.its_records.specs.Refusals.{reason_of}
-use Rattle.its_monitor.specs.Kept.{Kept, Lands, Helped, FileRefused}
+use Rattle.its_monitor.specs.Kept.{Kept, Lands, CloseMade, Helped, FileRefused}
 use Rattle.its_monitor.proofs.KeptLaws.{alike_kept, error_is, Made, made_sound, made_plain, made_forest, made_timed, made_alarmed}
 use Rattle.its_monitor.proofs.LoadLaws.{and_ok}
 use Rattle.its_monitor.proofs.StartLaws.{quiet_by}
 use Rattle.its_tick.proofs.WaitsLaws.{kept_is}
+use Rattle.its_world.proofs.ContentsLaws.{files_as}
 
 -- the pending parts of a close are performed
-module _ (old new : World) (whole : IsStore old.files) (kept : Kept old) (files : new.files ≡ after_help old.files) (core : new.core ≡ old.core) (jobs : new.jobs ≡ old.jobs) where
-  stays : Stays old.files new.files old.jobs
-  stays = helped_stays old.files new.files old.jobs whole kept.tidy.across files
-
-  pub helped_is : new.frames ≡ old.frames → new.consoles ≡ old.consoles → new.holders ≡ old.holders → new.clock ≡ old.clock → new.alarms ≡ old.alarms → new.version ≡ old.version → new.symbols ≡ old.symbols → new.pipes ≡ old.pipes → new.rings ≡ old.rings → Helped old new
-  helped_is frames consoles holders clock alarms version symbols pipes rings =
-      let state : state_of new ≡ help (state_of old) =
-      store_state old new stays core jobs frames consoles holders clock alarms version symbols pipes
-      ∙ ap (λ t. record (state_of old) { raw = record (state_of old).raw { files = directory t }; mark = mark_of t }) files
-      ∙ sym (help_step old.files whole (state_of old) (marks_are old) (files_are old)) in
-      record {
-        alone = record { core = core; jobs = jobs; frames = frames; consoles = consoles; holders = holders; clock = clock; alarms = alarms; version = version; symbols = symbols; pipes = pipes; rings = rings; files = files };
-        files = files;
-        state = state;
-        kept = alike_kept old new kept (ap plain state ∙ help_plain (state_of old)) (subst Sound (sym state) (help_sound (state_of old) kept.sound)) (store_tidy old new stays core jobs alarms clock symbols (ringed_alike old new jobs frames consoles holders clock pipes rings) kept.tidy);
-      }
+pub helped_is : (old new : World) → IsStore old.files → Kept old → CloseMade old new → Helped old new
+helped_is old new whole kept alone =
+    let stays : Stays old.files (after_help old.files) old.jobs = helped_stays old.files (after_help old.files) old.jobs whole kept.tidy.across refl in
+    let state : state_of new ≡ help (state_of old) =
+    store_state old new (after_help old.files) alone stays ∙ sym (help_step old.files whole (state_of old) (marks_are old) (files_are old)) in
+    record {
+      alone = alone;
+      files = files_as alone.is;
+      state = state;
+      kept = alike_kept old new kept (ap plain state ∙ help_plain (state_of old)) (subst Sound (sym state) (help_sound (state_of old) kept.sound)) (store_tidy old new (after_help old.files) alone stays kept.tidy);
+    }
 
 -- the plain machine is the same then, and no close is half made
 module _ (old new : World) (h : Helped old new) where
@@ -112,15 +107,13 @@ record Filed (old new : World) (fs : List File) : Type 0 where
   state : state_of new ≡ with_raw (state_of old) (with_files (state_of old).raw fs)
   tidy : Tidy new
 
-module _ (old new : World) (fs : List File) (core : new.core ≡ old.core) (jobs : new.jobs ≡ old.jobs) (frames : new.frames ≡ old.frames)
-    (consoles : new.consoles ≡ old.consoles) (holders : new.holders ≡ old.holders) (clock : new.clock ≡ old.clock) (alarms : new.alarms ≡ old.alarms) (version : new.version ≡ old.version) (symbols : new.symbols ≡ old.symbols) (pipes : new.pipes ≡ old.pipes) (rings : new.rings ≡ old.rings) where
-  filed : Tidy old → Stays old.files new.files old.jobs → old.files.mark ≡ None → new.files.mark ≡ None → directory new.files ≡ fs → Filed old new fs
-  filed tidy stays none still files =
-      let m : mark_of new.files ≡ (state_of old).mark = none_marked new.files still ∙ sym (marks_are old ∙ none_marked old.files none) in
-      record {
-        state = store_state old new stays core jobs frames consoles holders clock alarms version symbols pipes ∙ (λ i. record (state_of old) { raw = record (state_of old).raw { files = files i }; mark = m i });
-        tidy = store_tidy old new stays core jobs alarms clock symbols (ringed_alike old new jobs frames consoles holders clock pipes rings) tidy;
-      }
+filed : (old new : World) (fs : List File) → OnlyStore old new new.files → Tidy old → Stays old.files new.files old.jobs → old.files.mark ≡ None → new.files.mark ≡ None → directory new.files ≡ fs → Filed old new fs
+filed old new fs o tidy stays none still files =
+    let m : mark_of new.files ≡ (state_of old).mark = none_marked new.files still ∙ sym (marks_are old ∙ none_marked old.files none) in
+    record {
+      state = store_state old new new.files o stays ∙ (λ i. record (state_of old) { raw = record (state_of old).raw { files = files i }; mark = m i });
+      tidy = store_tidy old new new.files o stays tidy;
+    }
 
 filed_lands : (old new : World) (fs : List File) (r : Result Machine Reason) → Filed old new fs → r ≡ Ok (with_files (state_of old).raw fs) → Lands (state_of old) (state_of new) r
 filed_lands old new fs r f is = record {
@@ -156,12 +149,10 @@ made_on w n =
 
 module _ (old new : World) (id d x y : ℕ) (kept : Kept old) (none : old.files.mark ≡ None) (few : length old.files.order < most_files) (fresh : found old.files (names_of d x y) ≡ None)
     (free : entry_at old.files id ≡ None) (made : new.files ≡ with_file old.files id (names_of d x y)) (entry : Only (entry_at old.files) (entry_at new.files) id (Some (Standing (names_of d x y) 0)))
-    (words : Only (words_at old.files) (words_at new.files) id []) (files : directory new.files ≡ directory old.files ++ new_file (names_of d x y) ∷ [])
-    (core : new.core ≡ old.core) (jobs : new.jobs ≡ old.jobs) (frames : new.frames ≡ old.frames)
-    (consoles : new.consoles ≡ old.consoles) (holders : new.holders ≡ old.holders) (clock : new.clock ≡ old.clock) (alarms : new.alarms ≡ old.alarms) (version : new.version ≡ old.version) (symbols : new.symbols ≡ old.symbols) (pipes : new.pipes ≡ old.pipes) (rings : new.rings ≡ old.rings) where
+    (words : Only (words_at old.files) (words_at new.files) id []) (files : directory new.files ≡ directory old.files ++ new_file (names_of d x y) ∷ []) (o : OnlyStore old new new.files) where
   made_filed : Filed old new (directory old.files ++ new_file (names_of d x y) ∷ [])
   made_filed =
-      filed old new (directory old.files ++ new_file (names_of d x y) ∷ []) core jobs frames consoles holders clock alarms version symbols pipes rings kept.tidy
+      filed old new (directory old.files ++ new_file (names_of d x y) ∷ []) o kept.tidy
       (made_stays old.files new.files old.jobs id kept.tidy.across (names_of d x y) [] free made entry words) none (ap (λ (s : Store). s.mark) made ∙ none) files
 
   pub made_lands : Lands (state_of old) (state_of new) (with_file_made (state_of old).raw (names_of d x y))
@@ -238,12 +229,10 @@ module _ (w : World) (whole : IsStore w.files) (kept : Kept w) (none : w.files.m
   added_full x full = added_on x ∙ ap (with_word_added_if (state_of w).raw (names_at w.files id) x) full
 
   module _ (new : World) (x : ℕ) (made : new.files ≡ with_word w.files id x) (entry : Same (entry_at w.files) (entry_at new.files))
-      (words : Only (words_at w.files) (words_at new.files) id (words_at w.files id ++ x ∷ [])) (files : directory new.files ≡ with_changed (names_at w.files id) (longer x) (directory w.files))
-      (core : new.core ≡ w.core) (jobs : new.jobs ≡ w.jobs) (frames : new.frames ≡ w.frames)
-      (consoles : new.consoles ≡ w.consoles) (holders : new.holders ≡ w.holders) (clock : new.clock ≡ w.clock) (alarms : new.alarms ≡ w.alarms) (version : new.version ≡ w.version) (symbols : new.symbols ≡ w.symbols) (pipes : new.pipes ≡ w.pipes) (rings : new.rings ≡ w.rings) where
+      (words : Only (words_at w.files) (words_at new.files) id (words_at w.files id ++ x ∷ [])) (files : directory new.files ≡ with_changed (names_at w.files id) (longer x) (directory w.files)) (o : OnlyStore w new new.files) where
     added_filed : Filed w new (with_changed (names_at w.files id) (longer x) (directory w.files))
     added_filed =
-        filed w new (with_changed (names_at w.files id) (longer x) (directory w.files)) core jobs frames consoles holders clock alarms version symbols pipes rings kept.tidy
+        filed w new (with_changed (names_at w.files id) (longer x) (directory w.files)) o kept.tidy
         (lengthened_stays w.files new.files w.jobs id kept.tidy.across x (words_at w.files id ++ x ∷ []) file made entry words) none (ap (λ (s : Store). s.mark) made ∙ none) files
 
     pub added_lands : store_is_full w.files.stored id ≡ false → Lands (state_of w) (state_of new) (with_word_added (state_of w).raw (names_at w.files id) x)

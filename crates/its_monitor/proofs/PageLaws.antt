@@ -5,32 +5,26 @@ use Rattle.its_word.specs.Only.{Only, Same}
 use Rattle.its_word.specs.Core.{Core, store}
 use Rattle.its_core.specs.Cores.{core_at, reserved_at, clear_at}
 use Rattle.its_jobs.specs.Table.{job_at}
-use Rattle.its_world.proofs.PlaceLaws.{ringed_alike}
+use Rattle.its_world.proofs.PlaceLaws.{doors_in, ringed_alike}
+use Rattle.its_world.specs.Contents.{contents}
 use Rattle.its_world.specs.World.{frame_at, with_frames, CoreBecomes}
 use Rattle.its_world.specs.declared.world.World.{World}
-use Rattle.its_world.proofs.WorldLaws.{alike, frames_still}
+use Rattle.its_world.proofs.WorldLaws.{in_slot, alike, frames_still}
+use Rattle.its_world.proofs.ContentsLaws.{jobs_as, frames_as, rings_as}
 
 -- if the frames of pages are unchanged, the core of its slot alone would be another
-pub page_becomes : (old new : World) (s : ℕ) (c : Core) → Only (core_at old.core) (core_at new.core) s c → Same (clear_at old.core) (clear_at new.core)
-    → new.jobs ≡ old.jobs → new.frames ≡ old.frames → new.consoles ≡ old.consoles → new.holders ≡ old.holders → new.files ≡ old.files → new.clock ≡ old.clock → new.alarms ≡ old.alarms → new.version ≡ old.version → new.symbols ≡ old.symbols → new.pipes ≡ old.pipes → new.rings ≡ old.rings
+pub page_becomes : (old new : World) (s : ℕ) (c : Core) → Only (core_at old.core) (core_at new.core) s c → Same (clear_at old.core) (clear_at new.core) → contents new ≡ record (contents old) { core = new.core }
     → CoreBecomes old (with_frames new old.core.frames) s c
 unfolding core_at reserved_at
-page_becomes old new s c core reserved jobs frames consoles holders files clock alarms version symbols pipes rings = record {
+page_becomes old new s c core reserved e = record {
   core = core;
-  job = alike _ _ s (λ k. ap (λ t. job_at t k) jobs);
-  superiors = ap (λ t. t.superiors) jobs;
-  frame = alike _ _ s (λ k. ap (λ t. frame_at t.items k) frames);
+  job = alike _ _ s (λ k. ap (λ t. job_at t k) (jobs_as e));
+  superiors = ap (λ t. t.superiors) (jobs_as e);
+  frame = alike _ _ s (λ k. ap (λ t. frame_at t.items k) (frames_as e));
   reserved = alike _ _ s (reserved.each);
   pages = sym (frames_still (clear_at old.core s) s old.core.frames);
-  consoles = consoles;
-  holders = holders;
-  files = files;
-  clock = clock;
-  alarms = alarms;
-  version = version;
-  symbols = symbols;
-  pipes = pipes;
-  ringed = ringed_alike old (with_frames new old.core.frames) jobs frames consoles holders clock pipes rings;
+  rest = in_slot (with_frames new old.core.frames) e;
+  ringed = ringed_alike old (with_frames new old.core.frames) (jobs_as e) (frames_as e) (ap doors_in e) (rings_as e);
 }
 
 pub page_then_store : (old mid new : World) (s a x : ℕ) (c : Core) → CoreBecomes old (with_frames mid old.core.frames) s c → CoreBecomes mid new s (store (core_at mid.core s) a x)
@@ -43,15 +37,8 @@ page_then_store old mid new s a x c h t = record {
   frame = record { here = t.frame.here ∙ h.frame.here; others = λ k n. t.frame.others k n ∙ h.frame.others k n };
   reserved = record { here = t.reserved.here ∙ h.reserved.here; others = λ k n. t.reserved.others k n ∙ h.reserved.others k n };
   pages = sym (frames_still (clear_at old.core s) s old.core.frames);
-  consoles = t.consoles ∙ h.consoles;
-  holders = t.holders ∙ h.holders;
-  files = t.files ∙ h.files;
-  clock = t.clock ∙ h.clock;
-  alarms = t.alarms ∙ h.alarms;
-  version = t.version ∙ h.version;
-  symbols = t.symbols ∙ h.symbols;
-  pipes = t.pipes ∙ h.pipes;
+  rest = in_slot (with_frames new old.core.frames) t.rest ∙ in_slot (with_frames new old.core.frames) h.rest;
   ringed = λ r.
-      ringed_alike new (with_frames new old.core.frames) refl refl refl refl refl refl refl
-      (t.ringed (ringed_alike (with_frames mid old.core.frames) mid refl refl refl refl refl refl refl (h.ringed r)));
+      ringed_alike new (with_frames new old.core.frames) refl refl refl refl
+      (t.ringed (ringed_alike (with_frames mid old.core.frames) mid refl refl refl refl (h.ringed r)));
 }

@@ -32,6 +32,7 @@ use Rattle.its_pclsr.specs.Pages.{pages_unwound}
 use Rattle.its_commit.proofs.TidyLaws.{tidy_put}
 use Rattle.its_commit.proofs.RemovalLaws.{alarm_shown}
 use Rattle.its_monitor.specs.Rung.{Rousing, RangAt, RangBelow}
+use Rattle.its_world.proofs.ContentsLaws.{core_as, jobs_as, files_as, clock_as, symbols_as, alarms_as}
 
 -- slot after slot is unwound
 range_from : (n : ℕ) → n < slots → range_with_len n (slots - n) ≡ n ∷ range_with_len (n + 1) (slots - (n + 1))
@@ -177,32 +178,20 @@ kept_periods old new a same tidy k =
 -- the clock is set
 pub clock_state : (old new : World) (c : ℕ) → ClockBecomes old new c → state_of new ≡ with_raw (state_of old) (record (state_of old).raw { clock = c })
 unfolding state_of
-clock_state old new c b =
-    let files = b.files in
-    let core = b.core in
-    let jobs = b.jobs in
-    let alarms = b.alarms in
-    let consoles = b.consoles in
-    let holders = b.holders in
-    let clock = b.clock in
-    let version = b.version in
-    let symbols = b.symbols in
-    let pipes = b.pipes in
-    let frames = b.frames in
-    λ t. record {
-      raw = raw_machine (files t) (core t) (jobs t) (alarms t).items (consoles t).items (holders t) (clock t) (version t) (symbols t).items (pipes t);
-      frames = frame_at (frames t).items;
-      reserved = clear_at (core t);
-      mark = mark_of (files t);
-    }
+clock_state old new c b = λ t. let p = b.rest t in record {
+  raw = raw_machine p.files p.core p.jobs p.alarms.items p.consoles.items p.holders p.clock p.version p.symbols.items p.pipes;
+  frames = frame_at p.frames.items;
+  reserved = clear_at p.core;
+  mark = mark_of p.files;
+}
 
 pub clock_tidy : (old new : World) (c : ℕ) → ClockBecomes old new c → c < clock_end → Tidy old → Tidy new
 clock_tidy old new c b below tidy = record {
-  blank = λ k h. ap (λ x. core_at x k) b.core ∙ tidy.blank k (sym (ap (λ t. job_at t k) b.jobs) ∙ h);
-  quiet = λ k h. ap (λ l. alarm_at l.items k) b.alarms ∙ tidy.quiet k (sym (ap (λ t. job_at t k) b.jobs) ∙ h);
-  nameless = λ k h. ap (λ l. symbols_at l.items k) b.symbols ∙ tidy.nameless k (sym (ap (λ t. job_at t k) b.jobs) ∙ h);
-  timed = subst (λ t. t < clock_end) (sym b.clock) below;
-  across = subst (λ (x : Store). Across x new.jobs) (sym b.files) (subst (Across old.files) (sym b.jobs) tidy.across);
+  blank = λ k h. ap (λ x. core_at x k) (core_as b.rest) ∙ tidy.blank k (sym (ap (λ t. job_at t k) (jobs_as b.rest)) ∙ h);
+  quiet = λ k h. ap (λ l. alarm_at l.items k) (alarms_as b.rest) ∙ tidy.quiet k (sym (ap (λ t. job_at t k) (jobs_as b.rest)) ∙ h);
+  nameless = λ k h. ap (λ l. symbols_at l.items k) (symbols_as b.rest) ∙ tidy.nameless k (sym (ap (λ t. job_at t k) (jobs_as b.rest)) ∙ h);
+  timed = subst (λ t. t < clock_end) (sym (clock_as b.rest)) below;
+  across = subst (λ (x : Store). Across x new.jobs) (sym (files_as b.rest)) (subst (Across old.files) (sym (jobs_as b.rest)) tidy.across);
   ringed = b.ringed tidy.ringed;
 }
 

@@ -44,6 +44,7 @@ use Rattle.its_monitor.proofs.RegisterLaws.{block_of}
 use Rattle.its_world.proofs.MadeLaws.{least_raw, made_state, made_tidy, least_nameless}
 use Rattle.its_world.specs.Made.{JobMade}
 use Rattle.its_tick.proofs.WaitsLaws.{kept_is}
+use Rattle.its_world.proofs.ContentsLaws.{core_as, jobs_as, files_as, clock_as, symbols_as, alarms_as, pipes_as}
 
 loaded_by : (r : Result (Machine × ℕ) Reason) (n : Machine) (s : ℕ) (out : List Line) (touched : ℕ → Bool) → Done (by_load no_block r) ≡ Done (Does n out touched (block_of s)) → r ≡ Ok (n, s)
 loaded_by (Ok (m, i)) n s out touched h = let a : m ≡ n = cc in let b : block_of i ≡ block_of s = cc in ap (λ (x : Machine). Ok (x, i)) a ∙ ap (λ (k : Block). Ok (n, k.slot)) b
@@ -79,13 +80,13 @@ unfolding state_of
 console_given old new c s o i f b = record {
   state = holder_state old new c (Some s) b
       ∙ ap (λ (o : Option ℕ). with_raw (state_of old) (record (state_of old).raw { holders = changed (state_of old).raw.holders c o })) (sym (ap (held_by s) (sym i ∙ f)));
-  core = b.core;
-  jobs = b.jobs;
-  files = b.files;
-  clock = b.clock;
-  alarms = b.alarms;
-  symbols = b.symbols;
-  pipes = b.pipes;
+  core = core_as b.rest;
+  jobs = jobs_as b.rest;
+  files = files_as b.rest;
+  clock = clock_as b.rest;
+  alarms = alarms_as b.rest;
+  symbols = symbols_as b.rest;
+  pipes = pipes_as b.rest;
   ringed = b.ringed;
 }
 

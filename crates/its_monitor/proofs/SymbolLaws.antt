@@ -36,6 +36,7 @@ use Rattle.its_monitor.proofs.KeptLaws.{error_is, Made, made_sound, made_plain, 
 use Rattle.its_monitor.proofs.RegisterLaws.{block_of}
 use Rattle.its_monitor.proofs.StartLaws.{quiet_by}
 use Rattle.its_tick.proofs.WaitsLaws.{kept_is, raw_is, raw_is_none}
+use Rattle.its_world.proofs.ContentsLaws.{core_as, jobs_as, frames_as, consoles_as, holders_as, files_as, clock_as, version_as, symbols_as, alarms_as, pipes_as}
 
 -- VERSION: if a slot has a job, nothing changes
 pub version_stays : (w : World) (v : ℕ) (b : Bool) → b ≡ no_job (job_at w.jobs) → b ≡ false → Lands (state_of w) (state_of w) (Ok (with_version (state_of w).raw v))
@@ -47,18 +48,18 @@ version_same w v b e f = same_version (plain (state_of w)) v (empty_plain (state
 -- and else the version is set
 version_raw : (old new : World) (v k : ℕ) → VersionBecomes old new v → raw_at new.files new.core new.jobs new.alarms.items k ≡ raw_at old.files old.core old.jobs old.alarms.items k
 version_raw old new v k b =
-    ap (λ t. raw_of t (core_at new.core k) (superior_at new.jobs k) (alarm_at new.alarms.items k) (job_at new.jobs k)) b.files
-    ∙ ap (λ t. raw_of old.files (core_at t k) (superior_at new.jobs k) (alarm_at new.alarms.items k) (job_at new.jobs k)) b.core
+    ap (λ t. raw_of t (core_at new.core k) (superior_at new.jobs k) (alarm_at new.alarms.items k) (job_at new.jobs k)) (files_as b.rest)
+    ∙ ap (λ t. raw_of old.files (core_at t k) (superior_at new.jobs k) (alarm_at new.alarms.items k) (job_at new.jobs k)) (core_as b.rest)
     ∙ ap (λ t. raw_of old.files (core_at old.core k) (slice_index_or t k None) (alarm_at new.alarms.items k) (job_at new.jobs k)) b.superiors
-    ∙ ap (λ t. raw_of old.files (core_at old.core k) (superior_at old.jobs k) (alarm_at t.items k) (job_at new.jobs k)) b.alarms
+    ∙ ap (λ t. raw_of old.files (core_at old.core k) (superior_at old.jobs k) (alarm_at t.items k) (job_at new.jobs k)) (alarms_as b.rest)
     ∙ ap (raw_of old.files (core_at old.core k) (superior_at old.jobs k) (alarm_at old.alarms.items k)) (b.jobs.each k)
 
 version_state : (old new : World) (v : ℕ) → VersionBecomes old new v → state_of new ≡ with_raw (state_of old) (record (state_of old).raw { version = v })
 unfolding state_of
 version_state old new v b = state_is _ _
-    (machine_is _ _ (λ k. version_raw old new v k b) (λ k. ap (λ l. console_at l.items k) b.consoles) (λ k. ap (λ l. holder_at l k) b.holders) (ap directory b.files) b.clock b.version
-    (λ k. ap (λ l. symbols_at l.items k) b.symbols) (λ k. ap (λ p. piped p k) b.pipes))
-    (λ k. ap (λ l. frame_at l.items k) b.frames) (λ k. ap (λ t. clear_at t k) b.core) (ap mark_of b.files)
+    (machine_is _ _ (λ k. version_raw old new v k b) (λ k. ap (λ l. console_at l.items k) (consoles_as b.rest)) (λ k. ap (λ l. holder_at l k) (holders_as b.rest)) (ap directory (files_as b.rest)) (clock_as b.rest) (version_as b.rest)
+    (λ k. ap (λ l. symbols_at l.items k) (symbols_as b.rest)) (λ k. ap (λ p. piped p k) (pipes_as b.rest)))
+    (λ k. ap (λ l. frame_at l.items k) (frames_as b.rest)) (λ k. ap (λ t. clear_at t k) (core_as b.rest)) (ap mark_of (files_as b.rest))
 
 module _ (old new : World) (v : ℕ) (b : Bool) (test : b ≡ no_job (job_at old.jobs)) (empty : b ≡ true) where
   none_raw : no_job (state_of old).raw.jobs ≡ true
@@ -94,11 +95,11 @@ module _ (old new : World) (v : ℕ) (b : Bool) (test : b ≡ no_job (job_at old
 
   version_tidy : VersionBecomes old new v → Tidy old → Tidy new
   version_tidy b tidy = record {
-    blank = λ k h. ap (λ c. core_at c k) b.core ∙ tidy.blank k (sym (b.jobs.each k) ∙ h);
-    quiet = λ k h. ap (λ l. alarm_at l.items k) b.alarms ∙ tidy.quiet k (sym (b.jobs.each k) ∙ h);
-    timed = subst (λ t. t < clock_end) (sym b.clock) tidy.timed;
-    across = subst (λ s. Across s new.jobs) (sym b.files) (across_table old.files old.jobs new.jobs tidy.across (λ k n. ap (λ o. channel_by o n) (b.jobs.each k)));
-    nameless = λ k h. ap (λ l. symbols_at l.items k) b.symbols ∙ tidy.nameless k (sym (b.jobs.each k) ∙ h);
+    blank = λ k h. ap (λ c. core_at c k) (core_as b.rest) ∙ tidy.blank k (sym (b.jobs.each k) ∙ h);
+    quiet = λ k h. ap (λ l. alarm_at l.items k) (alarms_as b.rest) ∙ tidy.quiet k (sym (b.jobs.each k) ∙ h);
+    timed = subst (λ t. t < clock_end) (sym (clock_as b.rest)) tidy.timed;
+    across = subst (λ s. Across s new.jobs) (sym (files_as b.rest)) (across_table old.files old.jobs new.jobs tidy.across (λ k n. ap (λ o. channel_by o n) (b.jobs.each k)));
+    nameless = λ k h. ap (λ l. symbols_at l.items k) (symbols_as b.rest) ∙ tidy.nameless k (sym (b.jobs.each k) ∙ h);
     ringed = b.ringed tidy.ringed;
   }
 
@@ -121,10 +122,10 @@ symbols_raw w s = refl
 symbols_state : (old new : World) (s : ℕ) (x : Symbol) → SymbolsBecome old new s (symbols_at old.symbols.items s ++ x ∷ []) → state_of new ≡ with_raw (state_of old) (with_symbol (state_of old).raw s x)
 unfolding state_of
 symbols_state old new s x b = state_is _ _
-    (machine_is _ _ (raw_same old new b.files b.core b.jobs b.alarms)
-    (λ k. ap (λ l. console_at l.items k) b.consoles) (λ k. ap (λ l. holder_at l k) b.holders) (ap directory b.files) b.clock b.version
-    (changed_at _ _ s _ b.symbols.here b.symbols.others) (λ k. ap (λ p. piped p k) b.pipes))
-    (λ k. ap (λ l. frame_at l.items k) b.frames) (λ k. ap (λ t. clear_at t k) b.core) (ap mark_of b.files)
+    (machine_is _ _ (raw_same old new (files_as b.rest) (core_as b.rest) (jobs_as b.rest) (alarms_as b.rest))
+    (λ k. ap (λ l. console_at l.items k) (consoles_as b.rest)) (λ k. ap (λ l. holder_at l k) (holders_as b.rest)) (ap directory (files_as b.rest)) (clock_as b.rest) (version_as b.rest)
+    (changed_at _ _ s _ b.symbols.here b.symbols.others) (λ k. ap (λ p. piped p k) (pipes_as b.rest)))
+    (λ k. ap (λ l. frame_at l.items k) (frames_as b.rest)) (λ k. ap (λ t. clear_at t k) (core_as b.rest)) (ap mark_of (files_as b.rest))
 
 symbol_on : (w : World) (s : ℕ) (x : Symbol) (b : Bool) → is_some (job_at w.jobs s) ≡ true → b ≡ nat_lt (length (symbols_at w.symbols.items s)) most_symbols
     → with_symbol_kept (state_of w).raw s x.0 x.1 ≡ with_symbol_kept_if (state_of w).raw s x b
@@ -166,13 +167,13 @@ module _ (old new : World) (s name a : ℕ) (b : Bool) where
 
   symbol_tidy : is_some (job_at old.jobs s) ≡ true → SymbolsBecome old new s (symbols_at old.symbols.items s ++ (name, a) ∷ []) → Tidy old → Tidy new
   symbol_tidy some c tidy = record {
-    blank = λ k h. ap (λ t. core_at t k) c.core ∙ tidy.blank k (sym (ap (λ t. job_at t k) c.jobs) ∙ h);
-    quiet = λ k h. ap (λ l. alarm_at l.items k) c.alarms ∙ tidy.quiet k (sym (ap (λ t. job_at t k) c.jobs) ∙ h);
-    timed = subst (λ t. t < clock_end) (sym c.clock) tidy.timed;
-    across = subst (λ t. Across t new.jobs) (sym c.files) (subst (Across old.files) (sym c.jobs) tidy.across);
+    blank = λ k h. ap (λ t. core_at t k) (core_as c.rest) ∙ tidy.blank k (sym (ap (λ t. job_at t k) (jobs_as c.rest)) ∙ h);
+    quiet = λ k h. ap (λ l. alarm_at l.items k) (alarms_as c.rest) ∙ tidy.quiet k (sym (ap (λ t. job_at t k) (jobs_as c.rest)) ∙ h);
+    timed = subst (λ t. t < clock_end) (sym (clock_as c.rest)) tidy.timed;
+    across = subst (λ t. Across t new.jobs) (sym (files_as c.rest)) (subst (Across old.files) (sym (jobs_as c.rest)) tidy.across);
     nameless = λ k h. elim (cases_eq k s) [
-      | inl is ↦ let none : is_some (job_at old.jobs s) ≡ false = ap is_some (sym (ap (λ t. job_at t s) c.jobs) ∙ sym (ap (job_at new.jobs) is) ∙ h) in absurd cc
-      | inr ne ↦ c.symbols.others k ne ∙ tidy.nameless k (sym (ap (λ t. job_at t k) c.jobs) ∙ h)
+      | inl is ↦ let none : is_some (job_at old.jobs s) ≡ false = ap is_some (sym (ap (λ t. job_at t s) (jobs_as c.rest)) ∙ sym (ap (job_at new.jobs) is) ∙ h) in absurd cc
+      | inr ne ↦ c.symbols.others k ne ∙ tidy.nameless k (sym (ap (λ t. job_at t k) (jobs_as c.rest)) ∙ h)
     ];
     ringed = c.ringed tidy.ringed;
   }

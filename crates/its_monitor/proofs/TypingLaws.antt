@@ -20,6 +20,7 @@ use Rattle.its_commit.proofs.TidyLaws.{tidy_alike}
 use Rattle.its_monitor.specs.Kept.{Kept, Lands}
 use Rattle.its_monitor.proofs.KeptLaws.{Made, made_sound, made_plain, made_forest, made_timed, made_alarmed}
 use Rattle.its_tick.proofs.WaitsLaws.{kept_is}
+use Rattle.its_world.proofs.ContentsLaws.{core_as, jobs_as, files_as, clock_as, symbols_as, alarms_as}
 
 -- a console of the state is that of the world
 pub type_room : (w : World) (c : ℕ) (r : Bool) → (IsTrue r ↔ (length (console_at w.consoles.items c).input < most_waiting))
@@ -64,7 +65,7 @@ module _ (old new : World) (c : ℕ) (f : Console → Console) (e : Event) (out 
       kept_is new
       (made_sound (state_of old) (state_of new) no_block e kept.sound made)
       (made_forest (state_of old) (state_of new) no_block e kept.sound kept.forest made)
-      (tidy_alike old new b.core b.jobs b.files b.alarms b.clock b.symbols b.ringed kept.tidy)
+      (tidy_alike old new (core_as b.rest) (jobs_as b.rest) (files_as b.rest) (alarms_as b.rest) (clock_as b.rest) (symbols_as b.rest) b.ringed kept.tidy)
       (λ k. subst (λ (m : Machine). IfSome (m.jobs k) (λ q. q.job.pc < 2 ^ 18)) (sym (plain_done kept)) (kept.addressed k))
       (λ k. subst (λ (m : Machine). IfSome (m.jobs k) (λ q. IfSome q.job.console (λ c. c < 8))) (sym (plain_done kept)) (kept.consoled k))
       (made_timed (state_of old) (state_of new) no_block e kept.sound kept.timed made)

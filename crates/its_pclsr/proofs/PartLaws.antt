@@ -1,28 +1,18 @@
 -- The next part of a close is made in the store of a world.
-use Rattle.std.specs.Prelude.{◌≡◌, ◌<◌, Option, Some, None, List, [], ◌∷◌, refl}
+use Rattle.std.specs.Prelude.{◌≡◌, Option, Some, None, List, [], ◌∷◌, refl}
 use Rattle.std.proofs.Common.{sym, ap, ◌∙◌, subst}
-use Rattle.its_core.specs.Cores.{core_at}
 use Rattle.its_files.specs.Files.{Store, IsStore, directory, after_unlink_old_at, after_link_new_at, after_free_old_at}
-use Rattle.its_jobs.specs.Table.{job_at}
 use Rattle.its_stepped.specs.State.{Part, UnlinkOld, LinkNew, FreeOld, Mark, State}
 use Rattle.its_stepped.specs.Unwind.{with_part}
-use Rattle.its_plain.specs.OperatorClock.{clock_end}
-use Rattle.its_world.specs.Filed.{Ringed}
-use Rattle.its_world.specs.Tidy.{Across, Tidy}
-use Rattle.its_world.specs.World.{alarm_at, mark_of, state_of, symbols_at}
+use Rattle.its_world.specs.Storage.{OnlyStore}
+use Rattle.its_world.specs.World.{mark_of, state_of}
 use Rattle.its_world.specs.declared.world.World.{World}
-use Rattle.its_world.proofs.StorageLaws.{files_are, marks_are, stored_state}
+use Rattle.its_world.proofs.StorageLaws.{files_are, marks_are, store_state}
 use Rattle.its_world.proofs.MarkLaws.{mark_none, made, part_step}
 use Rattle.its_machine.proofs.KeptLaws.{Stays}
 use Rattle.its_pclsr.specs.Owed.{FirstPart, IsNext}
 use Rattle.its_pclsr.specs.Parts.{NextMade}
-
--- another store that shows the same to all channels
-pub store_state : (old new : World) → Stays old.files new.files old.jobs → new.core ≡ old.core → new.jobs ≡ old.jobs → new.frames ≡ old.frames
-    → new.consoles ≡ old.consoles → new.holders ≡ old.holders → new.clock ≡ old.clock → new.alarms ≡ old.alarms → new.version ≡ old.version → new.symbols ≡ old.symbols → new.pipes ≡ old.pipes
-    → state_of new ≡ record (state_of old) { raw = record (state_of old).raw { files = directory new.files }; mark = mark_of new.files }
-store_state old new stays core jobs frames consoles holders clock alarms version symbols pipes =
-    stored_state old new new.files core jobs frames consoles holders clock alarms version symbols pipes refl stays
+use Rattle.its_world.proofs.ContentsLaws.{core_as, jobs_as, symbols_as, pipes_as}
 
 -- nothing is marked
 none_made : (p : Part) (s : Store) → s.mark ≡ None → made p s ≡ s
@@ -51,26 +41,14 @@ next_state w s p (Some m) whole files marked e next =
     let ps = next_begins m.parts p next in
     sym (part_step s whole w m p ps.0 marked files e ps.1)
 
-pub next_made : (old new : World) (p : Part) → IsStore old.files → IsNext (state_of old).mark p → new.files ≡ made p old.files → Stays old.files new.files old.jobs
-    → new.core ≡ old.core → new.jobs ≡ old.jobs → new.frames ≡ old.frames → new.consoles ≡ old.consoles → new.holders ≡ old.holders → new.clock ≡ old.clock → new.alarms ≡ old.alarms → new.version ≡ old.version → new.symbols ≡ old.symbols → new.pipes ≡ old.pipes → NextMade old new
-next_made old new p whole next files stays core jobs frames consoles holders clock alarms version symbols pipes = record {
+pub next_made : (old new : World) (p : Part) → IsStore old.files → IsNext (state_of old).mark p → new.files ≡ made p old.files → Stays old.files new.files old.jobs → OnlyStore old new new.files → NextMade old new
+next_made old new p whole next files stays o = record {
   row =
-      store_state old new stays core jobs frames consoles holders clock alarms version symbols pipes
+      store_state old new new.files o stays
       ∙ ap (λ t. record (state_of old) { raw = record (state_of old).raw { files = directory t }; mark = mark_of t }) files
       ∙ next_state (state_of old) old.files p (mark_of old.files) whole (files_are old) (marks_are old) refl (subst (λ m. IsNext m p) (marks_are old) next);
-  core = core;
-  jobs = jobs;
-  symbols = symbols;
-  pipes = pipes;
-}
-
--- and the world stays tidy
-pub store_tidy : (old new : World) → Stays old.files new.files old.jobs → new.core ≡ old.core → new.jobs ≡ old.jobs → new.alarms ≡ old.alarms → new.clock ≡ old.clock → new.symbols ≡ old.symbols → (Ringed old → Ringed new) → Tidy old → Tidy new
-store_tidy old new stays core jobs alarms clock symbols ringed tidy = record {
-  blank = λ k h. ap (λ c. core_at c k) core ∙ tidy.blank k (sym (ap (λ t. job_at t k) jobs) ∙ h);
-  quiet = λ k h. ap (λ l. alarm_at l.items k) alarms ∙ tidy.quiet k (sym (ap (λ t. job_at t k) jobs) ∙ h);
-  timed = subst (λ t. t < clock_end) (sym clock) tidy.timed;
-  across = subst (λ t. Across new.files t) (sym jobs) stays.across;
-  nameless = λ k h. ap (λ l. symbols_at l.items k) symbols ∙ tidy.nameless k (sym (ap (λ t. job_at t k) jobs) ∙ h);
-  ringed = ringed tidy.ringed;
+  core = core_as o.is;
+  jobs = jobs_as o.is;
+  symbols = symbols_as o.is;
+  pipes = pipes_as o.is;
 }

@@ -168,8 +168,8 @@ units_in w s c i j named places size count nodes heads_are limit number n k none
   had = had;
   is = is;
   becomes = put_then w (record w { core = c }) _ s (core_at c s) j
-      (core_becomes w (record w { core = c }) s (core_at c s) (record { here = refl; others = others }) reserved pages refl refl refl refl refl refl refl refl refl refl refl)
-      (user_becomes (record w { core = c }) _ s j none (job_put w.jobs s i j had) refl refl refl refl refl refl refl refl refl refl refl refl);
+      (core_becomes w (record w { core = c }) s (core_at c s) (record { here = refl; others = others }) reserved pages refl)
+      (user_becomes (record w { core = c }) _ s j none (job_put w.jobs s i j had) refl refl);
   most = most;
 }
 

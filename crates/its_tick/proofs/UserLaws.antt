@@ -38,13 +38,14 @@ use Rattle.its_stepped.proofs.FrameLaws.{on_slot_other}
 use Rattle.its_stepped.proofs.GivenLaws.{given}
 use Rattle.its_stepped.proofs.TickLaws.{seen_at, seen_none}
 use Rattle.its_stepped.proofs.UnwindLaws.{all_unwound_others, slot_same, slot_then}
+use Rattle.its_world.specs.Contents.{contents}
 use Rattle.its_world.specs.Tidy.{Tidy}
 use Rattle.its_world.specs.World.{symbols_at, alarm_at, bare, chan_of, chans_of, mark_of, raw_of, raw_at, frame_at, state_of, Becomes, CoreBecomes, FrameBecomes, JobBecomes, console_at, holder_at}
 use Rattle.its_world.specs.declared.world.World.{World}
 use Rattle.its_machine.proofs.BareLaws.{bare_delivered, bare_outcome, delivered_bare, delivered_channels, delivered_stops, unit_bare, unit_channels}
 use Rattle.its_world.proofs.StateLaws.{kept_slot, raw_job, raw_some, state_is, turned_state}
-use Rattle.its_world.proofs.WorldLaws.{then_becomes, alike, frames_still}
-use Rattle.its_world.proofs.PlaceLaws.{user_ringed}
+use Rattle.its_world.proofs.WorldLaws.{in_slot, then_becomes, alike, frames_still}
+use Rattle.its_world.proofs.PlaceLaws.{doors_in, user_ringed}
 use Rattle.its_world.specs.Rings.{heads}
 use Rattle.its_commit.proofs.TidyLaws.{tidy_put}
 use Rattle.its_tick.specs.Kept.{Kept}
@@ -54,6 +55,7 @@ use Rattle.pdp_exec.specs.Near.{near_site}
 use Rattle.pdp_exec.specs.Units.{Left, after_outcome}
 use Rattle.pdp_exec.specs.declared.near.Near.{Near}
 use Rattle.its_world.proofs.StorageLaws.{frame_is}
+use Rattle.its_world.proofs.ContentsLaws.{core_as, frames_as, consoles_as, holders_as, files_as, clock_as, rings_as, version_as, symbols_as, alarms_as, pipes_as}
 
 raw_addressed : (w : World) (s : ℕ) (q : Whole) → Kept w → frame_at w.frames.items s ≡ None → (state_of w).raw.jobs s ≡ Some q → q.job.pc < 2 ^ 18
 raw_addressed w s q kept none is =
@@ -86,25 +88,19 @@ put_then old mid new s c j a b = then_becomes old mid new s c c (job_at old.jobs
 
 -- a job that is in no call is written, and waits in no list
 pub user_becomes : (old new : World) (s : ℕ) (j : Job) → frame_at old.frames.items s ≡ None → Only (job_at old.jobs) (job_at new.jobs) s (Some j) → new.jobs.superiors ≡ old.jobs.superiors
-    → new.core ≡ old.core → new.frames ≡ old.frames → new.consoles ≡ old.consoles → new.holders ≡ old.holders → new.files ≡ old.files → new.clock ≡ old.clock → new.version ≡ old.version → new.symbols ≡ old.symbols → new.pipes ≡ old.pipes → new.alarms ≡ old.alarms → new.rings ≡ old.rings
-    → JobBecomes old new s j
-user_becomes old new s j none job superiors core frames consoles holders files clock version symbols pipes alarms rings = record {
-  core = alike _ _ s (λ k. ap (λ t. core_at t k) core);
-  job = job;
-  superiors = superiors;
-  frame = alike _ _ s (λ k. ap (λ t. frame_at t.items k) frames);
-  reserved = alike _ _ s (λ k. ap (λ t. clear_at t k) core);
-  pages = ap (λ t. t.frames) core ∙ sym (frames_still (clear_at old.core s) s old.core.frames);
-  consoles = consoles;
-  holders = holders;
-  files = files;
-  clock = clock;
-  version = version;
-  symbols = symbols;
-  pipes = pipes;
-  alarms = alarms;
-  ringed = user_ringed old new s job.others none frames consoles holders clock pipes rings;
-}
+    → contents new ≡ record (contents old) { jobs = new.jobs } → JobBecomes old new s j
+user_becomes old new s j none job superiors e =
+    let core : new.core ≡ old.core = core_as e in
+    record {
+      core = alike _ _ s (λ k. ap (λ t. core_at t k) core);
+      job = job;
+      superiors = superiors;
+      frame = alike _ _ s (λ k. ap (λ t. frame_at t.items k) (frames_as e));
+      reserved = alike _ _ s (λ k. ap (λ t. clear_at t k) core);
+      pages = ap (λ t. t.frames) core ∙ sym (frames_still (clear_at old.core s) s old.core.frames);
+      rest = in_slot new e;
+      ringed = user_ringed old new s job.others none (frames_as e) (ap doors_in e) (rings_as e);
+    }
 
 -- a unit, on the core and the registers in place
 pub job_put : (t : Table) (s : ℕ) (i j : Job) → job_at t s ≡ Some i → Only (job_at t) (job_at (record t { jobs = slice_set t.jobs s (Some j) })) s (Some j)
@@ -264,11 +260,11 @@ core_same old mid s c b e =
     let cores : (k : ℕ) → core_at mid.core k ≡ core_at old.core k = all_same (core_at old.core) (core_at mid.core) s (subst (λ (x : Core). Only (core_at old.core) (core_at mid.core) s x) e b.core) in
     let jobs : (k : ℕ) → job_at mid.jobs k ≡ job_at old.jobs k = all_same (job_at old.jobs) (job_at mid.jobs) s b.job in
     state_is _ _
-    (machine_is _ _ (λ k t. raw_of (b.files t) (cores k t) (slice_index_or (b.superiors t) k None) (alarm_at (b.alarms t).items k) (jobs k t)) (λ c. ap (λ l. console_at l.items c) b.consoles) (λ c. ap (λ l. holder_at l c) b.holders)
-    (ap directory b.files) b.clock b.version (λ k. ap (λ l. symbols_at l.items k) b.symbols) (λ k. ap (λ p. piped p k) b.pipes))
+    (machine_is _ _ (λ k t. raw_of (files_as b.rest t) (cores k t) (slice_index_or (b.superiors t) k None) (alarm_at (alarms_as b.rest t).items k) (jobs k t)) (λ c. ap (λ l. console_at l.items c) (consoles_as b.rest)) (λ c. ap (λ l. holder_at l c) (holders_as b.rest))
+    (ap directory (files_as b.rest)) (clock_as b.rest) (version_as b.rest) (λ k. ap (λ l. symbols_at l.items k) (symbols_as b.rest)) (λ k. ap (λ p. piped p k) (pipes_as b.rest)))
     (all_same (frame_at old.frames.items) (frame_at mid.frames.items) s b.frame)
     (all_same (clear_at old.core) (clear_at mid.core) s b.reserved)
-    (ap mark_of b.files)
+    (ap mark_of (files_as b.rest))
 
 pub stop_same : (old mid : World) (s : ℕ) (i : Job) → CoreBecomes old mid s (delivered (core_at old.core s) i).core → (delivered (core_at old.core s) i).stops ≡ true → state_of mid ≡ state_of old
 stop_same old mid s i b stops = core_same old mid s (delivered (core_at old.core s) i).core b (delivered_stops (core_at old.core s) i stops)

@@ -35,6 +35,7 @@ use Rattle.its_machine.proofs.SetLaws.{open_job, one_channel, set_kept, put_kept
 use Rattle.its_machine.proofs.ShowLaws.{draft_room, close_can}
 use Rattle.its_machine.proofs.KeptLaws.{Kept, Stays, opened_kept, closed_kept, drafted_kept, discarded_kept, appended_kept, closing_kept, deleted_stays, renamed_stays, delete_is, rename_is}
 use Rattle.its_world.proofs.StorageLaws.{Comes, channel_comes, still_unmarked, store_tidy, filed_state, filed_tidy, channel_still, still_state, store_state, has_job, chan_is, chan_shut, store_unmarked, files_are, shows}
+use Rattle.its_world.proofs.ContentsLaws.{jobs_as}
 
 -- a channel of the state is on a draft if that of the world is
 draft_by : (s : Store) (c : Channel) → ((d : ℕ) → c ≡ Writing d → ⊥) → IsDraft (chan_of s c) → ⊥
@@ -155,7 +156,7 @@ module _ (old new : World) (s n : ℕ) (ls : s < slots) (ln : n < 16) (tidy : Ti
         ∙ ap (λ c. longer_on w (chan_of old.files c)) was
 
     append_new : Kept old.files t old.jobs new.jobs s n
-    append_new = subst (λ j. Kept old.files t old.jobs j s n) (sym o.jobs) append_kept
+    append_new = subst (λ j. Kept old.files t old.jobs j s n) (sym (jobs_as o.is)) append_kept
 
     pub append_comes : Comes new (effect_on (Append n w) s (state_of old))
     unfolding effect_on effect

@@ -25,25 +25,13 @@ is_off false h = refl
 
 pub apart_already : (w : World) (i s : ℕ) (b : Bool) → i ≡ s → wait_list_of w s ≡ None → (IsTrue b ↔ (0 < times i w.rings.lists)) → not b ≡ true → Refiled w w s
 apart_already w i s b e none test off = record {
-  rest = record { core = refl; jobs = refl; frames = refl; consoles = refl; holders = refl; files = refl; clock = refl; version = refl; symbols = refl; pipes = refl; alarms = refl };
+  rest = record { is = refl };
   here = subst (StandsIn w.rings.lists s) (sym none) (not_linked w.rings i s b e (is_off b off) test).here;
   others = λ k ne h. refl;
 }
 
 only_then : (old mid new : World) → OnlyRings old mid → OnlyRings mid new → OnlyRings old new
-only_then old mid new a b = record {
-  core = b.core ∙ a.core;
-  jobs = b.jobs ∙ a.jobs;
-  frames = b.frames ∙ a.frames;
-  consoles = b.consoles ∙ a.consoles;
-  holders = b.holders ∙ a.holders;
-  files = b.files ∙ a.files;
-  clock = b.clock ∙ a.clock;
-  version = b.version ∙ a.version;
-  symbols = b.symbols ∙ a.symbols;
-  pipes = b.pipes ∙ a.pipes;
-  alarms = b.alarms ∙ a.alarms;
-}
+only_then old mid new a b = record { is = b.is ∙ (λ t. record (a.is t) { rings = new.rings }) }
 
 pub heads_within : (w : World) (h : ℕ) → h < heads → h < length w.rings.lists
 heads_within w h l = let e = w.ring_lists in omega arith
@@ -129,7 +117,7 @@ settled_link a b c d x i is p q r = subst (λ j. Resettled a d (link_lists j)) i
 
 pub settled_start : (w : World) → Resettled w w []
 settled_start w = record {
-  rest = record { core = refl; jobs = refl; frames = refl; consoles = refl; holders = refl; files = refl; clock = refl; version = refl; symbols = refl; pipes = refl; alarms = refl };
+  rest = record { is = refl };
   each = λ k. inr (tt, λ h. refl);
 }
 

@@ -1,4 +1,5 @@
 pub mod WorldLaws
+pub mod ContentsLaws
 pub mod StateLaws
 pub mod SiteLaws
 pub mod MarkLaws

@@ -19,6 +19,7 @@ use Rattle.its_world.specs.World.{alarm_at, chan_of, state_of, in_raw, symbols_a
 use Rattle.its_world.specs.declared.world.World.{World}
 use Rattle.its_world.proofs.StateLaws.{link_state}
 use Rattle.its_world.proofs.StorageLaws.{chan_is, chan_shut}
+use Rattle.its_world.proofs.ContentsLaws.{core_as, jobs_as, files_as, clock_as, symbols_as, alarms_as}
 
 -- a channel on a link is on no file and on no draft
 linked_elsewhere : (s : Store) (c : Channel) (l : ℕ) (write : Bool) → chan_of s c ≡ Linked l write → IsElsewhere c
@@ -29,16 +30,16 @@ linked_elsewhere s _ l write h = tt
 module _ (old mid : World) (l : ℕ) (p : Option Pipe) (b : LinkBecomes old mid l p) where
   pub link_tidy : Tidy old → Tidy mid
   link_tidy tidy = record {
-    blank = λ k h. ap (λ c. core_at c k) b.core ∙ tidy.blank k (sym (ap (λ t. job_at t k) b.jobs) ∙ h);
-    quiet = λ k h. ap (λ a. alarm_at a.items k) b.alarms ∙ tidy.quiet k (sym (ap (λ t. job_at t k) b.jobs) ∙ h);
-    timed = subst (λ t. t < clock_end) (sym b.clock) tidy.timed;
-    across = subst (λ (x : Store). Across x mid.jobs) (sym b.files) (subst (Across old.files) (sym b.jobs) tidy.across);
+    blank = λ k h. ap (λ c. core_at c k) (core_as b.rest) ∙ tidy.blank k (sym (ap (λ t. job_at t k) (jobs_as b.rest)) ∙ h);
+    quiet = λ k h. ap (λ a. alarm_at a.items k) (alarms_as b.rest) ∙ tidy.quiet k (sym (ap (λ t. job_at t k) (jobs_as b.rest)) ∙ h);
+    timed = subst (λ t. t < clock_end) (sym (clock_as b.rest)) tidy.timed;
+    across = subst (λ (x : Store). Across x mid.jobs) (sym (files_as b.rest)) (subst (Across old.files) (sym (jobs_as b.rest)) tidy.across);
     ringed = b.ringed tidy.ringed;
-    nameless = λ k h. ap (λ s. symbols_at s.items k) b.symbols ∙ tidy.nameless k (sym (ap (λ t. job_at t k) b.jobs) ∙ h);
+    nameless = λ k h. ap (λ s. symbols_at s.items k) (symbols_as b.rest) ∙ tidy.nameless k (sym (ap (λ t. job_at t k) (jobs_as b.rest)) ∙ h);
   }
 
   elsewhere_after : (s n : ℕ) → IsElsewhere (channel_at old.jobs s n) → IsElsewhere (channel_at mid.jobs s n)
-  elsewhere_after s n h = subst (λ (t : Table). IsElsewhere (channel_at t s n)) (sym b.jobs) h
+  elsewhere_after s n h = subst (λ (t : Table). IsElsewhere (channel_at t s n)) (sym (jobs_as b.rest)) h
 
   pub shut_elsewhere : (s n : ℕ) → chan_in (state_of old) s n ≡ Shut → IsElsewhere (channel_at mid.jobs s n)
   shut_elsewhere s n h = elsewhere_after s n (subst IsElsewhere (sym (chan_shut old s n h)) tt)

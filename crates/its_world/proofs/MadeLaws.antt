@@ -21,26 +21,27 @@ use Rattle.its_pipes.specs.Pipes.{piped}
 use Rattle.its_world.specs.declared.world.World.{World}
 use Rattle.its_machine.proofs.AcrossLaws.{across_table}
 use Rattle.its_machine.proofs.PartLaws.{fresh_closed, fresh_raw}
-use Rattle.its_world.proofs.PlaceLaws.{made_ringed}
+use Rattle.its_world.proofs.PlaceLaws.{doors_in, made_ringed}
 use Rattle.its_world.proofs.StateLaws.{state_is}
 use Rattle.its_world.proofs.StorageLaws.{raw_has}
+use Rattle.its_world.proofs.ContentsLaws.{core_as, frames_as, consoles_as, holders_as, files_as, clock_as, rings_as, version_as, symbols_as, alarms_as, pipes_as}
 
 module _ (old new : World) (s u n : ℕ) (superior console : Option ℕ) (made : JobMade old new s u n superior console) where
   made_here : core_at old.core s ≡ no_core → alarm_at old.alarms.items s ≡ None → raw_at new.files new.core new.jobs new.alarms.items s ≡ Some (whole no_core (fresh_job u n console) superior)
   made_here blank quiet =
-      ap (λ c. raw_of new.files (core_at c s) (superior_at new.jobs s) (alarm_at new.alarms.items s) (job_at new.jobs s)) made.core
+      ap (λ c. raw_of new.files (core_at c s) (superior_at new.jobs s) (alarm_at new.alarms.items s) (job_at new.jobs s)) (core_as made.rest)
       ∙ ap (λ c. raw_of new.files c (superior_at new.jobs s) (alarm_at new.alarms.items s) (job_at new.jobs s)) blank
       ∙ ap (λ i. raw_of new.files no_core i (alarm_at new.alarms.items s) (job_at new.jobs s)) made.superior.here
-      ∙ ap (λ l. raw_of new.files no_core superior (alarm_at l.items s) (job_at new.jobs s)) made.alarms
+      ∙ ap (λ l. raw_of new.files no_core superior (alarm_at l.items s) (job_at new.jobs s)) (alarms_as made.rest)
       ∙ ap (λ a. raw_of new.files no_core superior a (job_at new.jobs s)) quiet
       ∙ ap (raw_of new.files no_core superior None) made.job.here ∙ ap Some (fresh_raw new.files u n superior console)
 
   made_other : (k : ℕ) → k ≢ s → raw_at new.files new.core new.jobs new.alarms.items k ≡ raw_at old.files old.core old.jobs old.alarms.items k
   made_other k ne =
-      ap (λ x. raw_of x (core_at new.core k) (superior_at new.jobs k) (alarm_at new.alarms.items k) (job_at new.jobs k)) made.files
-      ∙ ap (λ c. raw_of old.files (core_at c k) (superior_at new.jobs k) (alarm_at new.alarms.items k) (job_at new.jobs k)) made.core
+      ap (λ x. raw_of x (core_at new.core k) (superior_at new.jobs k) (alarm_at new.alarms.items k) (job_at new.jobs k)) (files_as made.rest)
+      ∙ ap (λ c. raw_of old.files (core_at c k) (superior_at new.jobs k) (alarm_at new.alarms.items k) (job_at new.jobs k)) (core_as made.rest)
       ∙ ap (λ i. raw_of old.files (core_at old.core k) i (alarm_at new.alarms.items k) (job_at new.jobs k)) (made.superior.others k ne)
-      ∙ ap (λ l. raw_of old.files (core_at old.core k) (superior_at old.jobs k) (alarm_at l.items k) (job_at new.jobs k)) made.alarms
+      ∙ ap (λ l. raw_of old.files (core_at old.core k) (superior_at old.jobs k) (alarm_at l.items k) (job_at new.jobs k)) (alarms_as made.rest)
       ∙ ap (raw_of old.files (core_at old.core k) (superior_at old.jobs k) (alarm_at old.alarms.items k)) (made.job.others k ne)
 
   pub made_state : core_at old.core s ≡ no_core → alarm_at old.alarms.items s ≡ None → symbols_at old.symbols.items s ≡ [] → state_of new ≡ with_raw (state_of old) (with_new (state_of old).raw s (whole no_core (fresh_job u n console) superior))
@@ -52,32 +53,32 @@ module _ (old new : World) (s u n : ℕ) (superior console : Option ℕ) (made :
       (machine_is _ _ (λ k. elim (cases_eq k s) [
         | inl is ↦ ap (raw_at new.files new.core new.jobs new.alarms.items) is ∙ made_here blank quiet ∙ sym (ap (changed (raw_at old.files old.core old.jobs old.alarms.items) s (Some q)) is ∙ only.here)
         | inr ne ↦ made_other k ne ∙ sym (only.others k ne)
-      ]) (λ c. ap (λ l. console_at l.items c) made.consoles) (λ c. ap (λ l. holder_at l c) made.holders) (ap directory made.files) made.clock made.version
-      (λ k. ap (λ l. symbols_at l.items k) made.symbols ∙ changed_same (symbols_at old.symbols.items) s k [] nameless)
-      (λ k. ap (λ p. piped p k) made.pipes))
-      (λ k. ap (λ v. frame_at v.items k) made.frames)
-      (λ k. ap (λ c. clear_at c k) made.core)
-      (ap mark_of made.files)
+      ]) (λ c. ap (λ l. console_at l.items c) (consoles_as made.rest)) (λ c. ap (λ l. holder_at l c) (holders_as made.rest)) (ap directory (files_as made.rest)) (clock_as made.rest) (version_as made.rest)
+      (λ k. ap (λ l. symbols_at l.items k) (symbols_as made.rest) ∙ changed_same (symbols_at old.symbols.items) s k [] nameless)
+      (λ k. ap (λ p. piped p k) (pipes_as made.rest)))
+      (λ k. ap (λ v. frame_at v.items k) (frames_as made.rest))
+      (λ k. ap (λ c. clear_at c k) (core_as made.rest))
+      (ap mark_of (files_as made.rest))
 
   pub made_tidy : job_at old.jobs s ≡ None → Tidy old → Tidy new
   made_tidy none tidy = record {
-    blank = λ k h. ap (λ c. core_at c k) made.core ∙ elim (cases_eq k s) [
+    blank = λ k h. ap (λ c. core_at c k) (core_as made.rest) ∙ elim (cases_eq k s) [
       | inl is ↦ let wrong : None ≡ Some (fresh_job u n console) = sym h ∙ ap (job_at new.jobs) is ∙ made.job.here in absurd cc
       | inr ne ↦ tidy.blank k (sym (made.job.others k ne) ∙ h)
     ];
-    quiet = λ k h. ap (λ l. alarm_at l.items k) made.alarms ∙ elim (cases_eq k s) [
+    quiet = λ k h. ap (λ l. alarm_at l.items k) (alarms_as made.rest) ∙ elim (cases_eq k s) [
       | inl is ↦ let wrong : None ≡ Some (fresh_job u n console) = sym h ∙ ap (job_at new.jobs) is ∙ made.job.here in absurd cc
       | inr ne ↦ tidy.quiet k (sym (made.job.others k ne) ∙ h)
     ];
-    timed = subst (λ t. t < clock_end) (sym made.clock) tidy.timed;
-    across = subst (λ x. Across x new.jobs) (sym made.files) (across_table old.files old.jobs new.jobs tidy.across (λ k i. elim (cases_eq k s) [
+    timed = subst (λ t. t < clock_end) (sym (clock_as made.rest)) tidy.timed;
+    across = subst (λ x. Across x new.jobs) (sym (files_as made.rest)) (across_table old.files old.jobs new.jobs tidy.across (λ k i. elim (cases_eq k s) [
       | inl is ↦
           ap (λ x. channel_at new.jobs x i) is ∙ ap (λ o. channel_by o i) made.job.here ∙ fresh_closed u n console i
           ∙ sym (ap (λ x. channel_at old.jobs x i) is ∙ ap (λ o. channel_by o i) none)
       | inr ne ↦ ap (λ o. channel_by o i) (made.job.others k ne)
     ]));
-    ringed = made_ringed old new s u n console none made.job made.frames made.consoles made.holders made.clock made.pipes made.rings tidy.ringed;
-    nameless = λ k h. ap (λ l. symbols_at l.items k) made.symbols ∙ elim (cases_eq k s) [
+    ringed = made_ringed old new s u n console none made.job (frames_as made.rest) (ap doors_in made.rest) (rings_as made.rest) tidy.ringed;
+    nameless = λ k h. ap (λ l. symbols_at l.items k) (symbols_as made.rest) ∙ elim (cases_eq k s) [
       | inl is ↦ let wrong : None ≡ Some (fresh_job u n console) = sym h ∙ ap (job_at new.jobs) is ∙ made.job.here in absurd cc
       | inr ne ↦ tidy.nameless k (sym (made.job.others k ne) ∙ h)
     ];

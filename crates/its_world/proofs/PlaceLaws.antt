@@ -28,7 +28,9 @@ use Rattle.its_records.specs.Links.{most_links}
 use Rattle.its_pipes.specs.Pipes.{piped}
 use Rattle.its_machine.proofs.PartLaws.{all_closed}
 use Rattle.its_world.specs.Rings.{heads, post_of, is_within, Within, place_at, mark, StandsIn, AwayFrom, input_lists, output_lists, lists_at, lists_to, link_lists, link_lists_to, lists_of}
-use Rattle.its_world.specs.Filed.{frame_at, console_at, holder_at, kind_of, channel_of, wait_reason, if_within, place_for, place_by, doors_of, wait_list_of, Ringed, OnlyRings, Refiled, Resettled, SlotWritten, DoorsWritten}
+use Rattle.its_world.specs.Filed.{frame_at, console_at, holder_at, kind_of, channel_of, wait_reason, if_within, place_for, place_by, doors_of, wait_list_of, Ringed, OnlyRings, Refiled, Resettled, SlotWritten}
+use Rattle.its_world.specs.Contents.{Contents, contents}
+use Rattle.its_world.proofs.ContentsLaws.{jobs_as, frames_as, consoles_as, holders_as, clock_as, pipes_as, rings_as}
 use Rattle.its_world.specs.declared.world.World.{World}
 
 -- a slot without a frame belongs in no list
@@ -36,17 +38,16 @@ pub place_none : (w : World) (k : ℕ) → frame_at w.frames.items k ≡ None �
 unfolding wait_list_of
 place_none w k none = ap (place_by (doors_of w) k (job_at w.jobs k)) none
 
--- what a place looks at
-pub place_alike : (old new : World) (k : ℕ) → job_at new.jobs k ≡ job_at old.jobs k → frame_at new.frames.items k ≡ frame_at old.frames.items k
-    → ((c : ℕ) → console_at new.consoles.items c ≡ console_at old.consoles.items c) → ((c : ℕ) → holder_at new.holders c ≡ holder_at old.holders c)
-    → new.clock ≡ old.clock → ((l : ℕ) → piped new.pipes l ≡ piped old.pipes l) → wait_list_of new k ≡ wait_list_of old k
+-- what a place looks at: the job and the frame of its slot, and the doors
+abbrev pub doors_in : Contents → Doors
+doors_in p = record { consoles = console_at p.consoles.items; holders = holder_at p.holders; clock = p.clock; links = piped p.pipes }
+
+pub place_alike : (old new : World) (k : ℕ) → job_at new.jobs k ≡ job_at old.jobs k → frame_at new.frames.items k ≡ frame_at old.frames.items k → doors_of new ≡ doors_of old → wait_list_of new k ≡ wait_list_of old k
 unfolding wait_list_of
-place_alike old new k job frame consoles holders clock links =
-    λ t. place_by (record { consoles = λ c. consoles c t; holders = λ c. holders c t; clock = clock t; links = λ l. links l t }) k (job t) (frame t)
+place_alike old new k job frame doors = λ t. place_by (doors t) k (job t) (frame t)
 
 pub place_rings : (old new : World) → OnlyRings old new → (k : ℕ) → wait_list_of new k ≡ wait_list_of old k
-place_rings old new o k =
-    place_alike old new k (ap (λ t. job_at t k) o.jobs) (ap (λ f. frame_at f.items k) o.frames) (λ c. ap (λ l. console_at l.items c) o.consoles) (λ c. ap (λ l. holder_at l c) o.holders) o.clock (λ l. ap (λ p. piped p l) o.pipes)
+place_rings old new o k = place_alike old new k (ap (λ t. job_at t k) (jobs_as o.is)) (ap (λ f. frame_at f.items k) (frames_as o.is)) (ap doors_in o.is)
 
 -- a place is the head of a list
 within_at : (r : Wait) (b : Bool) → Within r → IfSome (place_at r b) (λ h. h < heads)
@@ -107,16 +108,6 @@ place_lists w k p e = subst (λ o. IfSome o (λ h. h < length w.rings.lists)) (s
 pub stands_on : (old new : List (List ℕ)) (k : ℕ) (p q : Option ℕ) → ((h : ℕ) → count k (list_at new h) ≡ count k (list_at old h)) → q ≡ p → StandsIn old k p → StandsIn new k q
 stands_on old new k p q same e s = record { at = λ h. same h ∙ s.at h ∙ ap (λ o. mark o h) (sym e) }
 
--- nothing that a place looks at is written
-pub ringed_alike : (old new : World) → new.jobs ≡ old.jobs → new.frames ≡ old.frames → new.consoles ≡ old.consoles → new.holders ≡ old.holders → new.clock ≡ old.clock → new.pipes ≡ old.pipes → new.rings ≡ old.rings
-    → Ringed old → Ringed new
-ringed_alike old new jobs frames consoles holders clock pipes rings r = record {
-  each = λ k. stands_on old.rings.lists new.rings.lists k (wait_list_of old k) (wait_list_of new k)
-      (λ h. ap (λ l. count k (list_at l.lists h)) rings)
-      (place_alike old new k (ap (λ t. job_at t k) jobs) (ap (λ f. frame_at f.items k) frames) (λ c. ap (λ l. console_at l.items c) consoles) (λ c. ap (λ l. holder_at l c) holders) clock (λ l. ap (λ p. piped p l) pipes))
-      (r.each k);
-}
-
 -- no job waits if none has a frame
 pub idle_ringed : (old new : World) → Ringed old → ((k : ℕ) → frame_at old.frames.items k ≡ None) → new.frames ≡ old.frames → new.rings ≡ old.rings → Ringed new
 idle_ringed old new r none frames rings = record {
@@ -124,15 +115,15 @@ idle_ringed old new r none frames rings = record {
       (place_none new k (ap (λ f. frame_at f.items k) frames ∙ none k) ∙ sym (place_none old k (none k))) (r.each k);
 }
 
--- the table of jobs is another, with the same jobs
-pub ringed_jobs : (old new : World) → Same (job_at old.jobs) (job_at new.jobs) → new.frames ≡ old.frames → new.consoles ≡ old.consoles → new.holders ≡ old.holders → new.clock ≡ old.clock → new.pipes ≡ old.pipes → new.rings ≡ old.rings
-    → Ringed old → Ringed new
-ringed_jobs old new jobs frames consoles holders clock pipes rings r = record {
-  each = λ k. stands_on old.rings.lists new.rings.lists k (wait_list_of old k) (wait_list_of new k)
-      (λ h. ap (λ l. count k (list_at l.lists h)) rings)
-      (place_alike old new k (jobs.each k) (ap (λ f. frame_at f.items k) frames) (λ c. ap (λ l. console_at l.items c) consoles) (λ c. ap (λ l. holder_at l c) holders) clock (λ l. ap (λ p. piped p l) pipes))
-      (r.each k);
+-- the table of jobs is another, with the same jobs, or is the same; and nothing else that a place looks at is written
+pub ringed_jobs : (old new : World) → Same (job_at old.jobs) (job_at new.jobs) → new.frames ≡ old.frames → doors_of new ≡ doors_of old → new.rings ≡ old.rings → Ringed old → Ringed new
+ringed_jobs old new jobs frames doors rings r = record {
+  each = λ k. stands_on old.rings.lists new.rings.lists k (wait_list_of old k) (wait_list_of new k) (λ h. ap (λ l. count k (list_at l.lists h)) rings)
+      (place_alike old new k (jobs.each k) (ap (λ f. frame_at f.items k) frames) doors) (r.each k);
 }
+
+pub ringed_alike : (old new : World) → new.jobs ≡ old.jobs → new.frames ≡ old.frames → doors_of new ≡ doors_of old → new.rings ≡ old.rings → Ringed old → Ringed new
+ringed_alike old new jobs = ringed_jobs old new (record { each = λ k. ap (λ t. job_at t k) jobs })
 
 -- the job or the frame of one slot is written, and the slot is put on the list to which it belongs
 pub slot_ringed : (old mid new : World) (s : ℕ) (j : Option Job) (f : Option Frame) → SlotWritten old mid s j f → Refiled mid new s → Ringed old → Ringed new
@@ -140,20 +131,19 @@ slot_ringed old mid new s j f w filed r = record {
   each = λ k. elim (cases_eq k s) [
     | inl e ↦ subst (λ i. StandsIn new.rings.lists i (wait_list_of new i)) (sym e) filed.here
     | inr ne ↦ stands_on old.rings.lists new.rings.lists k (wait_list_of old k) (wait_list_of new k)
-        (λ h. filed.others k ne h ∙ ap (λ l. count k (list_at l.lists h)) w.rings)
-        (place_rings mid new filed.rest k
-        ∙ place_alike old mid k (w.job.others k ne) (w.frame.others k ne) (λ c. ap (λ l. console_at l.items c) w.consoles) (λ c. ap (λ l. holder_at l c) w.holders) w.clock (λ l. ap (λ p. piped p l) w.pipes))
+        (λ h. filed.others k ne h ∙ ap (λ l. count k (list_at l.lists h)) (rings_as w.rest))
+        (place_rings mid new filed.rest k ∙ place_alike old mid k (w.job.others k ne) (w.frame.others k ne) (ap doors_in w.rest))
         (r.each k)
   ];
 }
 
 -- the job of a slot without a frame is written
 pub user_ringed : (old new : World) (s : ℕ) → ((k : ℕ) → k ≢ s → job_at new.jobs k ≡ job_at old.jobs k) → frame_at old.frames.items s ≡ None
-    → new.frames ≡ old.frames → new.consoles ≡ old.consoles → new.holders ≡ old.holders → new.clock ≡ old.clock → new.pipes ≡ old.pipes → new.rings ≡ old.rings → Ringed old → Ringed new
-user_ringed old new s others none frames consoles holders clock pipes rings r = record {
+    → new.frames ≡ old.frames → doors_of new ≡ doors_of old → new.rings ≡ old.rings → Ringed old → Ringed new
+user_ringed old new s others none frames doors rings r = record {
   each = λ k. stands_on old.rings.lists new.rings.lists k (wait_list_of old k) (wait_list_of new k) (λ h. ap (λ l. count k (list_at l.lists h)) rings) (elim (cases_eq k s) [
     | inl e ↦ place_none new k (ap (λ f. frame_at f.items k) frames ∙ ap (frame_at old.frames.items) e ∙ none) ∙ sym (place_none old k (ap (frame_at old.frames.items) e ∙ none))
-    | inr ne ↦ place_alike old new k (others k ne) (ap (λ f. frame_at f.items k) frames) (λ c. ap (λ l. console_at l.items c) consoles) (λ c. ap (λ l. holder_at l c) holders) clock (λ l. ap (λ p. piped p l) pipes)
+    | inr ne ↦ place_alike old new k (others k ne) (ap (λ f. frame_at f.items k) frames) doors
   ]) (r.each k);
 }
 
@@ -180,22 +170,20 @@ fresh_place d k u n console (Some (Waiting f)) = ap (place_for d k (input f.ask 
 fresh_place d k u n console _ = refl
 
 pub made_ringed : (old new : World) (s u n : ℕ) (console : Option ℕ) → job_at old.jobs s ≡ None → Only (job_at old.jobs) (job_at new.jobs) s (Some (fresh_job u n console))
-    → new.frames ≡ old.frames → new.consoles ≡ old.consoles → new.holders ≡ old.holders → new.clock ≡ old.clock → new.pipes ≡ old.pipes → new.rings ≡ old.rings → Ringed old → Ringed new
+    → new.frames ≡ old.frames → doors_of new ≡ doors_of old → new.rings ≡ old.rings → Ringed old → Ringed new
 unfolding wait_list_of
-made_ringed old new s u n console none job frames consoles holders clock pipes rings r =
-    let doors : doors_of new ≡ doors_of old = λ t. record { consoles = console_at (consoles t).items; holders = holder_at (holders t); clock = clock t; links = piped (pipes t) } in
-    record {
-      each = λ k. stands_on old.rings.lists new.rings.lists k (wait_list_of old k) (wait_list_of new k) (λ h. ap (λ l. count k (list_at l.lists h)) rings) (elim (cases_eq k s) [
-        | inl e ↦
-            ap (λ i. place_by (doors_of new) k (job_at new.jobs i) (frame_at new.frames.items k)) e
-            ∙ ap (λ o. place_by (doors_of new) k o (frame_at new.frames.items k)) job.here
-            ∙ fresh_place (doors_of new) k u n console (frame_at new.frames.items k)
-            ∙ ap (λ d. place_by d k None (frame_at new.frames.items k)) doors
-            ∙ ap (λ f. place_by (doors_of old) k None (frame_at f.items k)) frames
-            ∙ ap (λ o. place_by (doors_of old) k o (frame_at old.frames.items k)) (sym (ap (job_at old.jobs) e ∙ none))
-        | inr ne ↦ place_alike old new k (job.others k ne) (ap (λ f. frame_at f.items k) frames) (λ c. ap (λ l. console_at l.items c) consoles) (λ c. ap (λ l. holder_at l c) holders) clock (λ l. ap (λ p. piped p l) pipes)
-      ]) (r.each k);
-    }
+made_ringed old new s u n console none job frames doors rings r = record {
+  each = λ k. stands_on old.rings.lists new.rings.lists k (wait_list_of old k) (wait_list_of new k) (λ h. ap (λ l. count k (list_at l.lists h)) rings) (elim (cases_eq k s) [
+    | inl e ↦
+        ap (λ i. place_by (doors_of new) k (job_at new.jobs i) (frame_at new.frames.items k)) e
+        ∙ ap (λ o. place_by (doors_of new) k o (frame_at new.frames.items k)) job.here
+        ∙ fresh_place (doors_of new) k u n console (frame_at new.frames.items k)
+        ∙ ap (λ d. place_by d k None (frame_at new.frames.items k)) doors
+        ∙ ap (λ f. place_by (doors_of old) k None (frame_at f.items k)) frames
+        ∙ ap (λ o. place_by (doors_of old) k o (frame_at old.frames.items k)) (sym (ap (job_at old.jobs) e ∙ none))
+    | inr ne ↦ place_alike old new k (job.others k ne) (ap (λ f. frame_at f.items k) frames) doors
+  ]) (r.each k);
+}
 
 -- a slot that is not on a list does not belong to it
 away : (lists : List (List ℕ)) (k g : ℕ) → StandsIn lists k (Some g) → count k (list_at lists g) ≡ 0 → ⊥
@@ -263,10 +251,17 @@ cases_post (AtLink l) (AtLink m) = elim (cases_eq l m) [ inl e ↦ inl (ap AtLin
 cases_post (AtConsole c) (AtLink l) = inr (λ h. cc)
 cases_post (AtLink l) (AtConsole c) = inr (λ h. cc)
 
+-- the consoles, their holders or the links are others, and all else, the lists too, is as it was
+abbrev pub DoorsWritten : World → World → Type 0
+DoorsWritten old mid = contents mid ≡ record (contents old) { consoles = mid.consoles; holders = mid.holders; pipes = mid.pipes }
+
+pub doors_written : (mid : World) {q : Contents} → contents mid ≡ q → contents mid ≡ record q { consoles = mid.consoles; holders = mid.holders; pipes = mid.pipes }
+doors_written mid e = λ t. record (e t) { consoles = mid.consoles; holders = mid.holders; pipes = mid.pipes }
+
 -- of one console or one link
 pub post_ringed : (old mid new : World) (p : Device) → ((c : ℕ) → AtConsole c ≢ p → console_at mid.consoles.items c ≡ console_at old.consoles.items c) → ((c : ℕ) → AtConsole c ≢ p → holder_at mid.holders c ≡ holder_at old.holders c)
     → ((l : ℕ) → AtLink l ≢ p → piped mid.pipes l ≡ piped old.pipes l) → DoorsWritten old mid → Resettled mid new (lists_of p) → Ringed old → Ringed new
-post_ringed old mid new p consoles holders links w = settled_ringed old mid new (lists_of p) (λ k. inl (ap (λ t. job_at t k) w.jobs)) w.frames w.rings keeps
+post_ringed old mid new p consoles holders links w = settled_ringed old mid new (lists_of p) (λ k. inl (ap (λ t. job_at t k) (jobs_as w))) (frames_as w) (rings_as w) keeps
   where
     at_post : (k n : ℕ) (r : Wait) (q : Device) → post_of r ≡ Some q → (q ≢ p → held_up (doors_of mid) k n r ≡ held_up (doors_of old) k n r) → AwayFrom old.rings.lists k (lists_of p)
         → Keeps (doors_of old) (doors_of mid) old.rings.lists k n r
@@ -277,7 +272,7 @@ post_ringed old mid new p consoles holders links w = settled_ringed old mid new 
 
     keeps : (k n : ℕ) (r : Wait) → Within r → AwayFrom old.rings.lists k (lists_of p) → Keeps (doors_of old) (doors_of mid) old.rings.lists k n r
     keeps k n Hang l none = inl refl
-    keeps k n Clock l none = inl (ap (λ t. held_up (record (doors_of old) { clock = t }) k n Clock) w.clock)
+    keeps k n Clock l none = inl (ap (λ t. held_up (record (doors_of old) { clock = t }) k n Clock) (clock_as w))
     keeps k n (Input i) l none = at_post k n (Input i) (AtConsole i) refl (λ ne. λ t. held_up (record { consoles = λ _. consoles i ne t; holders = λ _. holders i ne t; clock = 0; links = λ _. None }) k n (Input 0)) none
     keeps k n (Output i) l none = at_post k n (Output i) (AtConsole i) refl (λ ne. λ t. held_up (record { consoles = λ _. consoles i ne t; holders = λ _. holders i ne t; clock = 0; links = λ _. None }) k n (Output 0)) none
     keeps k n (Drained i) l none = at_post k n (Drained i) (AtConsole i) refl (λ ne. λ t. held_up (record { consoles = λ _. consoles i ne t; holders = λ _. holders i ne t; clock = 0; links = λ _. None }) k n (Drained 0)) none
@@ -298,61 +293,60 @@ off_drained lists k c i true e none s = away lists k (18 + i) s (ap (λ x. count
 off_drained lists k c i false e none s = away lists k (26 + i) s (ap (λ x. count k (list_at lists (26 + x))) e ∙ none.1.1.0)
 
 pub heard_ringed : (old mid new : World) (c : ℕ) → ((i : ℕ) → i ≢ c → console_at mid.consoles.items i ≡ console_at old.consoles.items i) → ((i : ℕ) → (console_at mid.consoles.items i).output ≡ (console_at old.consoles.items i).output)
-    → mid.holders ≡ old.holders → mid.pipes ≡ old.pipes → DoorsWritten old mid → Resettled mid new (input_lists c) → Ringed old → Ringed new
-heard_ringed old mid new c consoles outputs holders pipes w = settled_ringed old mid new (input_lists c) (λ k. inl (ap (λ t. job_at t k) w.jobs)) w.frames w.rings keeps
+    → contents mid ≡ record (contents old) { consoles = mid.consoles } → Resettled mid new (input_lists c) → Ringed old → Ringed new
+heard_ringed old mid new c consoles outputs w = settled_ringed old mid new (input_lists c) (λ k. inl (ap (λ t. job_at t k) (jobs_as w))) (frames_as w) (rings_as w) keeps
   where
     keeps : (k n : ℕ) (r : Wait) → Within r → AwayFrom old.rings.lists k (input_lists c) → Keeps (doors_of old) (doors_of mid) old.rings.lists k n r
     keeps k n Hang l none = inl refl
-    keeps k n Clock l none = inl (ap (λ t. held_up (record (doors_of old) { clock = t }) k n Clock) w.clock)
+    keeps k n Clock l none = inl (ap (λ t. held_up (record (doors_of old) { clock = t }) k n Clock) (clock_as w))
     keeps k n (Input i) l none = elim (cases_eq i c) [
       | inl e ↦ inr (off_input old.rings.lists k c i (held_up (doors_of old) k n (Input i)) e none)
-      | inr ne ↦ inl (λ t. held_up (record { consoles = λ _. consoles i ne t; holders = λ _. holder_at (holders t) i; clock = 0; links = λ _. None }) k n (Input 0))
+      | inr ne ↦ inl (λ t. held_up (record { consoles = λ _. consoles i ne t; holders = λ _. holder_at (holders_as w t) i; clock = 0; links = λ _. None }) k n (Input 0))
     ]
-    keeps k n (Output i) l none = inl (λ t. held_up (record { consoles = λ _. record { input = []; output = outputs i t }; holders = λ _. holder_at (holders t) i; clock = 0; links = λ _. None }) k n (Output 0))
+    keeps k n (Output i) l none = inl (λ t. held_up (record { consoles = λ _. record { input = []; output = outputs i t }; holders = λ _. holder_at (holders_as w t) i; clock = 0; links = λ _. None }) k n (Output 0))
     keeps k n (Drained i) l none = inl (λ t. held_up (record { consoles = λ _. record { input = []; output = outputs i t }; holders = λ _. None; clock = 0; links = λ _. None }) k n (Drained 0))
-    keeps k n (Empty i) l none = inl (ap (λ p. is_dry (piped p i)) pipes)
-    keeps k n (Room i) l none = inl (ap (λ p. is_crowded (piped p i)) pipes)
+    keeps k n (Empty i) l none = inl (ap (λ p. is_dry (piped p i)) (pipes_as w))
+    keeps k n (Room i) l none = inl (ap (λ p. is_crowded (piped p i)) (pipes_as w))
 
 pub spoken_ringed : (old mid new : World) (c : ℕ) → ((i : ℕ) → i ≢ c → console_at mid.consoles.items i ≡ console_at old.consoles.items i) → ((i : ℕ) → (console_at mid.consoles.items i).input ≡ (console_at old.consoles.items i).input)
-    → mid.holders ≡ old.holders → mid.pipes ≡ old.pipes → DoorsWritten old mid → Resettled mid new (output_lists c) → Ringed old → Ringed new
-spoken_ringed old mid new c consoles inputs holders pipes w = settled_ringed old mid new (output_lists c) (λ k. inl (ap (λ t. job_at t k) w.jobs)) w.frames w.rings keeps
+    → contents mid ≡ record (contents old) { consoles = mid.consoles } → Resettled mid new (output_lists c) → Ringed old → Ringed new
+spoken_ringed old mid new c consoles inputs w = settled_ringed old mid new (output_lists c) (λ k. inl (ap (λ t. job_at t k) (jobs_as w))) (frames_as w) (rings_as w) keeps
   where
     keeps : (k n : ℕ) (r : Wait) → Within r → AwayFrom old.rings.lists k (output_lists c) → Keeps (doors_of old) (doors_of mid) old.rings.lists k n r
     keeps k n Hang l none = inl refl
-    keeps k n Clock l none = inl (ap (λ t. held_up (record (doors_of old) { clock = t }) k n Clock) w.clock)
-    keeps k n (Input i) l none = inl (λ t. held_up (record { consoles = λ _. record { input = inputs i t; output = [] }; holders = λ _. holder_at (holders t) i; clock = 0; links = λ _. None }) k n (Input 0))
+    keeps k n Clock l none = inl (ap (λ t. held_up (record (doors_of old) { clock = t }) k n Clock) (clock_as w))
+    keeps k n (Input i) l none = inl (λ t. held_up (record { consoles = λ _. record { input = inputs i t; output = [] }; holders = λ _. holder_at (holders_as w t) i; clock = 0; links = λ _. None }) k n (Input 0))
     keeps k n (Output i) l none = elim (cases_eq i c) [
       | inl e ↦ inr (off_output old.rings.lists k c i (held_up (doors_of old) k n (Output i)) e none)
-      | inr ne ↦ inl (λ t. held_up (record { consoles = λ _. consoles i ne t; holders = λ _. holder_at (holders t) i; clock = 0; links = λ _. None }) k n (Output 0))
+      | inr ne ↦ inl (λ t. held_up (record { consoles = λ _. consoles i ne t; holders = λ _. holder_at (holders_as w t) i; clock = 0; links = λ _. None }) k n (Output 0))
     ]
     keeps k n (Drained i) l none = elim (cases_eq i c) [
       | inl e ↦ inr (off_drained old.rings.lists k c i (held_up (doors_of old) k n (Drained i)) e none)
       | inr ne ↦ inl (λ t. held_up (record { consoles = λ _. consoles i ne t; holders = λ _. None; clock = 0; links = λ _. None }) k n (Drained 0))
     ]
-    keeps k n (Empty i) l none = inl (ap (λ p. is_dry (piped p i)) pipes)
-    keeps k n (Room i) l none = inl (ap (λ p. is_crowded (piped p i)) pipes)
+    keeps k n (Empty i) l none = inl (ap (λ p. is_dry (piped p i)) (pipes_as w))
+    keeps k n (Room i) l none = inl (ap (λ p. is_crowded (piped p i)) (pipes_as w))
 
 -- the clock, which gains: a sleeper whose time has come is on no list
 later_up : (a : Bool) (c m t : ℕ) → (a && nat_lt c t) ≡ false → (a && nat_lt (c + m) t) ≡ false
 later_up false c m t h = refl
 later_up true c m t h = grind (arith, nat_tests)
 
-pub clock_ringed : (old mid new : World) (m : ℕ) → mid.clock ≡ old.clock + m → mid.jobs ≡ old.jobs → mid.frames ≡ old.frames → mid.consoles ≡ old.consoles → mid.holders ≡ old.holders → mid.pipes ≡ old.pipes → mid.rings ≡ old.rings
-    → Resettled mid new (1 ∷ []) → Ringed old → Ringed new
-clock_ringed old mid new m clock jobs frames consoles holders pipes rings = settled_ringed old mid new (1 ∷ []) (λ k. inl (ap (λ t. job_at t k) jobs)) frames rings keeps
+pub clock_ringed : (old mid new : World) (m : ℕ) → contents mid ≡ record (contents old) { clock = old.clock + m } → Resettled mid new (1 ∷ []) → Ringed old → Ringed new
+clock_ringed old mid new m w = settled_ringed old mid new (1 ∷ []) (λ k. inl (ap (λ t. job_at t k) (jobs_as w))) (frames_as w) (rings_as w) keeps
   where
     sleeper : (k n : ℕ) (b : Bool) → held_up (doors_of old) k n Clock ≡ b → count k (list_at old.rings.lists 1) ≡ 0 → Keeps (doors_of old) (doors_of mid) old.rings.lists k n Clock
     sleeper k n true e none = inr (λ s. away old.rings.lists k 1 (subst (λ b. StandsIn old.rings.lists k (place_at Clock b)) e s) none)
-    sleeper k n false e none = inl (ap (λ t. held_up (record (doors_of old) { clock = t }) k n Clock) clock ∙ later_up _ old.clock m _ e ∙ sym e)
+    sleeper k n false e none = inl (ap (λ t. held_up (record (doors_of old) { clock = t }) k n Clock) (clock_as w) ∙ later_up _ old.clock m _ e ∙ sym e)
 
     keeps : (k n : ℕ) (r : Wait) → Within r → AwayFrom old.rings.lists k (1 ∷ []) → Keeps (doors_of old) (doors_of mid) old.rings.lists k n r
     keeps k n Hang l none = inl refl
     keeps k n Clock l none = sleeper k n (held_up (doors_of old) k n Clock) refl none.0
-    keeps k n (Input i) l none = inl (λ t. held_up (record { consoles = console_at (consoles t).items; holders = holder_at (holders t); clock = 0; links = λ _. None }) k n (Input i))
-    keeps k n (Output i) l none = inl (λ t. held_up (record { consoles = console_at (consoles t).items; holders = holder_at (holders t); clock = 0; links = λ _. None }) k n (Output i))
-    keeps k n (Drained i) l none = inl (λ t. held_up (record { consoles = console_at (consoles t).items; holders = holder_at (holders t); clock = 0; links = λ _. None }) k n (Drained i))
-    keeps k n (Empty i) l none = inl (ap (λ p. is_dry (piped p i)) pipes)
-    keeps k n (Room i) l none = inl (ap (λ p. is_crowded (piped p i)) pipes)
+    keeps k n (Input i) l none = inl (λ t. held_up (record { consoles = console_at (consoles_as w t).items; holders = holder_at (holders_as w t); clock = 0; links = λ _. None }) k n (Input i))
+    keeps k n (Output i) l none = inl (λ t. held_up (record { consoles = console_at (consoles_as w t).items; holders = holder_at (holders_as w t); clock = 0; links = λ _. None }) k n (Output i))
+    keeps k n (Drained i) l none = inl (λ t. held_up (record { consoles = console_at (consoles_as w t).items; holders = holder_at (holders_as w t); clock = 0; links = λ _. None }) k n (Drained i))
+    keeps k n (Empty i) l none = inl (ap (λ p. is_dry (piped p i)) (pipes_as w))
+    keeps k n (Room i) l none = inl (ap (λ p. is_crowded (piped p i)) (pipes_as w))
 
 -- of all consoles
 away_append : (lists : List (List ℕ)) (k : ℕ) (a b : List ℕ) → AwayFrom lists k (a ++ b) → AwayFrom lists k a × AwayFrom lists k b

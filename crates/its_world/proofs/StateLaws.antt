@@ -24,6 +24,7 @@ use Rattle.its_world.specs.World.{mark_of, alarm_at, raw_of, raw_at, frame_at, c
 use Rattle.its_pipes.specs.Pipes.{piped}
 use Rattle.its_world.specs.declared.world.World.{World}
 pub use Rattle.its_machine.proofs.PartLaws.{raw_job, changed_at, slot_at}
+use Rattle.its_world.proofs.ContentsLaws.{core_as, jobs_as, frames_as, consoles_as, holders_as, files_as, clock_as, version_as, symbols_as, alarms_as, pipes_as}
 
 pub state_is : (a b : State) → a.raw ≡ b.raw → ((k : ℕ) → a.frames k ≡ b.frames k) → ((k : ℕ) → a.reserved k ≡ b.reserved k) → a.mark ≡ b.mark → a ≡ b
 state_is a b raw frames reserved mark = λ t. record {
@@ -42,20 +43,20 @@ raw_none w s h = ap (raw_of w.files (core_at w.core s) (superior_at w.jobs s) (a
 pub raw_others : (old new : World) (s : ℕ) (c : Core) (j : Option Job) (f : Option Frame) (r : Option ℕ) → Becomes old new s c j f r
     → (k : ℕ) → k ≢ s → raw_at new.files new.core new.jobs new.alarms.items k ≡ raw_at old.files old.core old.jobs old.alarms.items k
 raw_others old new s c j f r b k n =
-    ap (λ x. raw_of x (core_at new.core k) (superior_at new.jobs k) (alarm_at new.alarms.items k) (job_at new.jobs k)) b.files
+    ap (λ x. raw_of x (core_at new.core k) (superior_at new.jobs k) (alarm_at new.alarms.items k) (job_at new.jobs k)) (files_as b.rest)
     ∙ ap (λ x. raw_of old.files x (superior_at new.jobs k) (alarm_at new.alarms.items k) (job_at new.jobs k)) (b.core.others k n)
     ∙ ap (λ x. raw_of old.files (core_at old.core k) (slice_index_or x k None) (alarm_at new.alarms.items k) (job_at new.jobs k)) b.superiors
-    ∙ ap (λ x. raw_of old.files (core_at old.core k) (superior_at old.jobs k) (alarm_at x.items k) (job_at new.jobs k)) b.alarms
+    ∙ ap (λ x. raw_of old.files (core_at old.core k) (superior_at old.jobs k) (alarm_at x.items k) (job_at new.jobs k)) (alarms_as b.rest)
     ∙ ap (raw_of old.files (core_at old.core k) (superior_at old.jobs k) (alarm_at old.alarms.items k)) (b.job.others k n)
 
 raw_here : (old new : World) (s : ℕ) (c : Core) (i j : Job) (f : Option Frame) (r : Option ℕ) (h : Whole → Whole) → Becomes old new s c (Some i) f r
     → job_at old.jobs s ≡ Some j → h (raw_job old.files (core_at old.core s) j (superior_at old.jobs s) (alarm_at old.alarms.items s)) ≡ raw_job old.files c i (superior_at old.jobs s) (alarm_at old.alarms.items s)
     → raw_at new.files new.core new.jobs new.alarms.items s ≡ option_map h (raw_at old.files old.core old.jobs old.alarms.items s)
 raw_here old new s c i j f r h b job e =
-    ap (λ x. raw_of x (core_at new.core s) (superior_at new.jobs s) (alarm_at new.alarms.items s) (job_at new.jobs s)) b.files
+    ap (λ x. raw_of x (core_at new.core s) (superior_at new.jobs s) (alarm_at new.alarms.items s) (job_at new.jobs s)) (files_as b.rest)
     ∙ ap (λ x. raw_of old.files x (superior_at new.jobs s) (alarm_at new.alarms.items s) (job_at new.jobs s)) b.core.here
     ∙ ap (λ x. raw_of old.files c (slice_index_or x s None) (alarm_at new.alarms.items s) (job_at new.jobs s)) b.superiors
-    ∙ ap (λ x. raw_of old.files c (superior_at old.jobs s) (alarm_at x.items s) (job_at new.jobs s)) b.alarms
+    ∙ ap (λ x. raw_of old.files c (superior_at old.jobs s) (alarm_at x.items s) (job_at new.jobs s)) (alarms_as b.rest)
     ∙ ap (raw_of old.files c (superior_at old.jobs s) (alarm_at old.alarms.items s)) b.job.here
     ∙ ap Some (sym e)
     ∙ ap (option_map h) (sym (raw_some old s j job))
@@ -66,23 +67,23 @@ pub written_state : (old new : World) (s : ℕ) (c : Core) (i j : Job) (f : Opti
     → state_of new ≡ reserving (with_slot (state_of old) s h f) s r
 unfolding state_of
 written_state old new s c i j f r h b job e = state_is _ _
-    (machine_is _ _ (slot_at _ _ s h (raw_here old new s c i j f r h b job e) (raw_others old new s c (Some i) f r b)) (λ k. ap (λ l. console_at l.items k) b.consoles) (λ k. ap (λ l. holder_at l k) b.holders) (ap directory b.files) b.clock b.version (λ k. ap (λ l. symbols_at l.items k) b.symbols) (λ k. ap (λ p. piped p k) b.pipes))
+    (machine_is _ _ (slot_at _ _ s h (raw_here old new s c i j f r h b job e) (raw_others old new s c (Some i) f r b)) (λ k. ap (λ l. console_at l.items k) (consoles_as b.rest)) (λ k. ap (λ l. holder_at l k) (holders_as b.rest)) (ap directory (files_as b.rest)) (clock_as b.rest) (version_as b.rest) (λ k. ap (λ l. symbols_at l.items k) (symbols_as b.rest)) (λ k. ap (λ p. piped p k) (pipes_as b.rest)))
     (changed_at _ _ s f b.frame.here b.frame.others)
     (changed_at _ _ s r b.reserved.here b.reserved.others)
-    (ap mark_of b.files)
+    (ap mark_of (files_as b.rest))
 
 pub turned_state : (old new : World) (s : ℕ) (c : Core) (i j : Job) (f : Option Frame) (h : Whole → Whole) → Becomes old new s c (Some i) f (clear_at old.core s)
     → job_at old.jobs s ≡ Some j → h (raw_job old.files (core_at old.core s) j (superior_at old.jobs s) (alarm_at old.alarms.items s)) ≡ raw_job old.files c i (superior_at old.jobs s) (alarm_at old.alarms.items s)
     → state_of new ≡ with_slot (state_of old) s h f
 unfolding state_of
 turned_state old new s c i j f h b job e = state_is _ _
-    (machine_is _ _ (slot_at _ _ s h (raw_here old new s c i j f _ h b job e) (raw_others old new s c (Some i) f _ b)) (λ k. ap (λ l. console_at l.items k) b.consoles) (λ k. ap (λ l. holder_at l k) b.holders) (ap directory b.files) b.clock b.version (λ k. ap (λ l. symbols_at l.items k) b.symbols) (λ k. ap (λ p. piped p k) b.pipes))
+    (machine_is _ _ (slot_at _ _ s h (raw_here old new s c i j f _ h b job e) (raw_others old new s c (Some i) f _ b)) (λ k. ap (λ l. console_at l.items k) (consoles_as b.rest)) (λ k. ap (λ l. holder_at l k) (holders_as b.rest)) (ap directory (files_as b.rest)) (clock_as b.rest) (version_as b.rest) (λ k. ap (λ l. symbols_at l.items k) (symbols_as b.rest)) (λ k. ap (λ p. piped p k) (pipes_as b.rest)))
     (changed_at _ _ s f b.frame.here b.frame.others)
     (λ k. elim (cases_Bool (k == s)) [
       | inl t ↦ let n : k ≡ s = grind (arith, nat_tests) in ap (clear_at new.core) n ∙ b.reserved.here ∙ ap (clear_at old.core) (sym n)
       | inr t ↦ let n : k ≢ s = grind (arith, nat_tests) in b.reserved.others k n
     ])
-    (ap mark_of b.files)
+    (ap mark_of (files_as b.rest))
 
 -- the frames of pages are no part of the state
 pub frames_state : (w : World) (f : Frames) → state_of (with_frames w f) ≡ state_of w
@@ -172,20 +173,20 @@ pub console_state : (old new : World) (c : ℕ) (f : Console → Console) → Co
     → state_of new ≡ with_raw (state_of old) (on_console (state_of old).raw c f)
 unfolding state_of
 console_state old new c f b = state_is _ _
-    (machine_is _ _ (raw_same old new b.files b.core b.jobs b.alarms) (changed_at _ _ c _ b.consoles.here b.consoles.others) (λ k. ap (λ l. holder_at l k) b.holders) (ap directory b.files) b.clock b.version (λ k. ap (λ l. symbols_at l.items k) b.symbols) (λ k. ap (λ p. piped p k) b.pipes))
-    (λ k. ap (λ l. frame_at l.items k) b.frames) (λ k. ap (λ t. clear_at t k) b.core) (ap mark_of b.files)
+    (machine_is _ _ (raw_same old new (files_as b.rest) (core_as b.rest) (jobs_as b.rest) (alarms_as b.rest)) (changed_at _ _ c _ b.consoles.here b.consoles.others) (λ k. ap (λ l. holder_at l k) (holders_as b.rest)) (ap directory (files_as b.rest)) (clock_as b.rest) (version_as b.rest) (λ k. ap (λ l. symbols_at l.items k) (symbols_as b.rest)) (λ k. ap (λ p. piped p k) (pipes_as b.rest)))
+    (λ k. ap (λ l. frame_at l.items k) (frames_as b.rest)) (λ k. ap (λ t. clear_at t k) (core_as b.rest)) (ap mark_of (files_as b.rest))
 
 pub holder_state : (old new : World) (c : ℕ) (h : Option ℕ) → HolderBecomes old new c h
     → state_of new ≡ with_raw (state_of old) (record (state_of old).raw { holders = changed (state_of old).raw.holders c h })
 unfolding state_of
 holder_state old new c h b = state_is _ _
-    (machine_is _ _ (raw_same old new b.files b.core b.jobs b.alarms) (λ k. ap (λ l. console_at l.items k) b.consoles) (changed_at _ _ c _ b.holders.here b.holders.others) (ap directory b.files) b.clock b.version (λ k. ap (λ l. symbols_at l.items k) b.symbols) (λ k. ap (λ p. piped p k) b.pipes))
-    (λ k. ap (λ l. frame_at l.items k) b.frames) (λ k. ap (λ t. clear_at t k) b.core) (ap mark_of b.files)
+    (machine_is _ _ (raw_same old new (files_as b.rest) (core_as b.rest) (jobs_as b.rest) (alarms_as b.rest)) (λ k. ap (λ l. console_at l.items k) (consoles_as b.rest)) (changed_at _ _ c _ b.holders.here b.holders.others) (ap directory (files_as b.rest)) (clock_as b.rest) (version_as b.rest) (λ k. ap (λ l. symbols_at l.items k) (symbols_as b.rest)) (λ k. ap (λ p. piped p k) (pipes_as b.rest)))
+    (λ k. ap (λ l. frame_at l.items k) (frames_as b.rest)) (λ k. ap (λ t. clear_at t k) (core_as b.rest)) (ap mark_of (files_as b.rest))
 
 pub link_state : (old new : World) (l : ℕ) (f : Option Pipe → Option Pipe) → LinkBecomes old new l (f (piped old.pipes l))
     → state_of new ≡ with_raw (state_of old) (on_link (state_of old).raw l f)
 unfolding state_of
 link_state old new l f b = state_is _ _
-    (machine_is _ _ (raw_same old new b.files b.core b.jobs b.alarms) (λ k. ap (λ l. console_at l.items k) b.consoles) (λ k. ap (λ l. holder_at l k) b.holders) (ap directory b.files) b.clock b.version (λ k. ap (λ l. symbols_at l.items k) b.symbols)
+    (machine_is _ _ (raw_same old new (files_as b.rest) (core_as b.rest) (jobs_as b.rest) (alarms_as b.rest)) (λ k. ap (λ l. console_at l.items k) (consoles_as b.rest)) (λ k. ap (λ l. holder_at l k) (holders_as b.rest)) (ap directory (files_as b.rest)) (clock_as b.rest) (version_as b.rest) (λ k. ap (λ l. symbols_at l.items k) (symbols_as b.rest))
     (changed_at _ _ l _ b.links.here b.links.others))
-    (λ k. ap (λ l. frame_at l.items k) b.frames) (λ k. ap (λ t. clear_at t k) b.core) (ap mark_of b.files)
+    (λ k. ap (λ l. frame_at l.items k) (frames_as b.rest)) (λ k. ap (λ t. clear_at t k) (core_as b.rest)) (ap mark_of (files_as b.rest))

@@ -16,6 +16,7 @@ use Rattle.its_stepped.specs.State.{State}
 use Rattle.its_world.specs.World.{chan_of, alarm_at, raw_at, frame_at, console_at, holder_at, mark_of, state_of, in_raw, symbols_at}
 use Rattle.its_plain.specs.OperatorClock.{clock_end}
 use Rattle.its_world.specs.Tidy.{channel_at, Across, Tidy}
+use Rattle.its_world.specs.Contents.{contents}
 use Rattle.its_world.specs.Storage.{HasJob, chan_in, ChannelBecomes, ChannelWritten, OnlyStore}
 use Rattle.its_world.specs.Filed.{Refiled, SlotWritten}
 use Rattle.its_word.specs.Only.{Only}
@@ -26,64 +27,39 @@ use Rattle.its_machine.proofs.ChanLaws.{raw_alike, job_by, chan_by, shut_by}
 use Rattle.its_machine.proofs.KeptLaws.{Kept, Stays}
 use Rattle.its_machine.proofs.SetLaws.{channel_put, channel_absent, channel_same, none_before, raw_channel}
 use Rattle.its_world.proofs.MarkLaws.{mark_none, none_marked}
-use Rattle.its_world.proofs.PlaceLaws.{ringed_alike, slot_ringed}
+use Rattle.its_world.proofs.PlaceLaws.{doors_in, ringed_alike, slot_ringed}
 use Rattle.its_world.proofs.WorldLaws.{alike}
 use Rattle.its_world.proofs.StateLaws.{state_is}
+use Rattle.its_world.proofs.ContentsLaws.{core_as, jobs_as, frames_as, consoles_as, holders_as, files_as, clock_as, rings_as, version_as, symbols_as, alarms_as, pipes_as}
 
 -- a channel written, and its slot put on the list to which it belongs
 pub channel_written : (old new : World) (s n : ℕ) (x : Channel) (j : Job) → job_at old.jobs s ≡ Some j → n < length j.channels
     → Only (job_at old.jobs) (job_at new.jobs) s (Some (record j { channels = slice_set j.channels n x })) → new.jobs.superiors ≡ old.jobs.superiors
-    → new.core ≡ old.core → new.frames ≡ old.frames → new.consoles ≡ old.consoles → new.holders ≡ old.holders → new.files ≡ old.files → new.clock ≡ old.clock → new.rings ≡ old.rings → new.version ≡ old.version → new.symbols ≡ old.symbols → new.pipes ≡ old.pipes → new.alarms ≡ old.alarms
-    → ChannelWritten old new s n x
-channel_written old new s n x j was lt job superiors core frames consoles holders files clock rings version symbols pipes alarms = record {
-  jobs = channel_put old.jobs new.jobs s n x j was lt job superiors;
-  core = core;
-  frames = frames;
-  consoles = consoles;
-  holders = holders;
-  files = files;
-  clock = clock;
-  rings = rings;
-  version = version;
-  symbols = symbols;
-  pipes = pipes;
-  alarms = alarms;
-}
+    → contents new ≡ record (contents old) { jobs = new.jobs } → ChannelWritten old new s n x
+channel_written old new s n x j was lt job superiors rest = record { jobs = channel_put old.jobs new.jobs s n x j was lt job superiors; rest = rest }
 
 slot_of : (old mid : World) (s n : ℕ) (x : Channel) → ChannelWritten old mid s n x → SlotWritten old mid s (job_at mid.jobs s) (frame_at old.frames.items s)
 slot_of old mid s n x w = record {
   job = record { here = refl; others = w.jobs.rows };
   superiors = w.jobs.superiors;
-  frame = alike _ _ s (λ k. ap (λ t. frame_at t.items k) w.frames);
-  core = w.core;
-  consoles = w.consoles;
-  holders = w.holders;
-  files = w.files;
-  clock = w.clock;
-  rings = w.rings;
-  version = w.version;
-  symbols = w.symbols;
-  pipes = w.pipes;
-  alarms = w.alarms;
+  frame = alike _ _ s (λ k. ap (λ t. frame_at t.items k) (frames_as w.rest));
+  rest = λ t. record (w.rest t) { frames = mid.frames };
 }
 
 pub channel_becomes : (old mid new : World) (s n : ℕ) (x : Channel) → ChannelWritten old mid s n x → Refiled mid new s → ChannelBecomes old new s n x old.files
-channel_becomes old mid new s n x w r = record {
-  jobs = subst (λ j. OnlyChannel old.jobs j s n x) (sym r.rest.jobs) w.jobs;
-  core = record { each = λ k. ap (λ c. core_at c k) (r.rest.core ∙ w.core) };
-  reserved = record { each = λ k. ap (λ c. clear_at c k) (r.rest.core ∙ w.core) };
-  pages = ap (λ c. c.frames) (r.rest.core ∙ w.core);
-  frames = record { each = λ k. ap (λ l. frame_at l.items k) (r.rest.frames ∙ w.frames) };
-  consoles = r.rest.consoles ∙ w.consoles;
-  holders = r.rest.holders ∙ w.holders;
-  clock = r.rest.clock ∙ w.clock;
-  version = r.rest.version ∙ w.version;
-  symbols = r.rest.symbols ∙ w.symbols;
-  pipes = r.rest.pipes ∙ w.pipes;
-  alarms = r.rest.alarms ∙ w.alarms;
-  files = r.rest.files ∙ w.files;
-  ringed = slot_ringed old mid new s (job_at mid.jobs s) (frame_at old.frames.items s) (slot_of old mid s n x w) r;
-}
+channel_becomes old mid new s n x w r =
+    let core : new.core ≡ old.core = core_as r.rest.is ∙ core_as w.rest in
+    record {
+      jobs = subst (λ j. OnlyChannel old.jobs j s n x) (sym (jobs_as r.rest.is)) w.jobs;
+      core = record { each = λ k. ap (λ c. core_at c k) core };
+      reserved = record { each = λ k. ap (λ c. clear_at c k) core };
+      pages = ap (λ c. c.frames) core;
+      frames = record { each = λ k. ap (λ l. frame_at l.items k) (frames_as r.rest.is ∙ frames_as w.rest) };
+      rest =
+          (λ t. record (r.rest.is t) { core = new.core; jobs = new.jobs; frames = new.frames })
+          ∙ (λ t. record (w.rest t) { core = new.core; jobs = new.jobs; frames = new.frames; rings = new.rings });
+      ringed = slot_ringed old mid new s (job_at mid.jobs s) (frame_at old.frames.items s) (slot_of old mid s n x w) r;
+    }
 
 -- a slot that has no job
 pub job_missing : (w : World) (s : ℕ) → is_some (job_at w.jobs s) ≡ false → job_at w.jobs s ≡ None
@@ -100,52 +76,31 @@ channel_missing w s n x none = record {
   reserved = record { each = λ k. refl };
   pages = refl;
   frames = record { each = λ k. refl };
-  consoles = refl;
-  holders = refl;
-  clock = refl;
-  version = refl;
-  symbols = refl;
-  pipes = refl;
-  alarms = refl;
-  files = refl;
+  rest = refl;
   ringed = λ r. r;
 }
 
 -- a channel is set after the store, or left as it is
 pub store_first : (old mid new : World) (s n : ℕ) (x : Channel) (t : Store) → OnlyStore old mid t → ChannelBecomes mid new s n x t → ChannelBecomes old new s n x t
 store_first old mid new s n x t o b = record {
-  jobs = subst (λ j. OnlyChannel j new.jobs s n x) o.jobs b.jobs;
-  core = record { each = λ k. b.core.each k ∙ ap (λ c. core_at c k) o.core };
-  reserved = record { each = λ k. b.reserved.each k ∙ ap (λ c. clear_at c k) o.core };
-  pages = b.pages ∙ ap (λ c. c.frames) o.core;
-  frames = record { each = λ k. b.frames.each k ∙ ap (λ l. frame_at l.items k) o.frames };
-  consoles = b.consoles ∙ o.consoles;
-  holders = b.holders ∙ o.holders;
-  clock = b.clock ∙ o.clock;
-  version = b.version ∙ o.version;
-  symbols = b.symbols ∙ o.symbols;
-  pipes = b.pipes ∙ o.pipes;
-  alarms = b.alarms ∙ o.alarms;
-  files = b.files;
-  ringed = λ r. b.ringed (ringed_alike old mid o.jobs o.frames o.consoles o.holders o.clock o.pipes o.rings r);
+  jobs = subst (λ j. OnlyChannel j new.jobs s n x) (jobs_as o.is) b.jobs;
+  core = record { each = λ k. b.core.each k ∙ ap (λ c. core_at c k) (core_as o.is) };
+  reserved = record { each = λ k. b.reserved.each k ∙ ap (λ c. clear_at c k) (core_as o.is) };
+  pages = b.pages ∙ ap (λ c. c.frames) (core_as o.is);
+  frames = record { each = λ k. b.frames.each k ∙ ap (λ l. frame_at l.items k) (frames_as o.is) };
+  rest = b.rest ∙ (λ i. record (o.is i) { core = new.core; jobs = new.jobs; frames = new.frames; files = t; rings = new.rings });
+  ringed = λ r. b.ringed (ringed_alike old mid (jobs_as o.is) (frames_as o.is) (ap doors_in o.is) (rings_as o.is) r);
 }
 
 pub channel_still : (old new : World) (s n : ℕ) (t : Store) → OnlyStore old new t → ChannelBecomes old new s n (channel_at old.jobs s n) t
 channel_still old new s n t o = record {
-  jobs = channel_same old.jobs new.jobs s n o.jobs;
-  core = record { each = λ k. ap (λ c. core_at c k) o.core };
-  reserved = record { each = λ k. ap (λ c. clear_at c k) o.core };
-  pages = ap (λ c. c.frames) o.core;
-  frames = record { each = λ k. ap (λ l. frame_at l.items k) o.frames };
-  consoles = o.consoles;
-  holders = o.holders;
-  clock = o.clock;
-  version = o.version;
-  symbols = o.symbols;
-  pipes = o.pipes;
-  alarms = o.alarms;
-  files = o.files;
-  ringed = ringed_alike old new o.jobs o.frames o.consoles o.holders o.clock o.pipes o.rings;
+  jobs = channel_same old.jobs new.jobs s n (jobs_as o.is);
+  core = record { each = λ k. ap (λ c. core_at c k) (core_as o.is) };
+  reserved = record { each = λ k. ap (λ c. clear_at c k) (core_as o.is) };
+  pages = ap (λ c. c.frames) (core_as o.is);
+  frames = record { each = λ k. ap (λ l. frame_at l.items k) (frames_as o.is) };
+  rest = λ i. record (o.is i) { core = new.core; jobs = new.jobs; frames = new.frames; rings = new.rings };
+  ringed = ringed_alike old new (jobs_as o.is) (frames_as o.is) (ap doors_in o.is) (rings_as o.is);
 }
 
 module _ (old new : World) (s n : ℕ) (x : Channel) (t : Store) (b : ChannelBecomes old new s n x t) where
@@ -156,9 +111,9 @@ module _ (old new : World) (s n : ℕ) (x : Channel) (t : Store) (b : ChannelBec
   unfolding state_of
   filed_state g others here = state_is _ _
       (machine_is _ _
-      (λ k. (λ i. raw_at (b.files i) new.core new.jobs (b.alarms i).items k) ∙ raw_channel old.jobs new.jobs s n x b.jobs old.files t old.core new.core old.alarms.items g b.core others here k)
-      (λ k. ap (λ l. console_at l.items k) b.consoles) (λ k. ap (λ l. holder_at l k) b.holders) (ap directory b.files) b.clock b.version (λ k. ap (λ l. symbols_at l.items k) b.symbols) (λ k. ap (λ p. piped p k) b.pipes))
-      (λ k. b.frames.each k) (λ k. b.reserved.each k) (ap mark_of b.files)
+      (λ k. (λ i. raw_at (files_as b.rest i) new.core new.jobs (alarms_as b.rest i).items k) ∙ raw_channel old.jobs new.jobs s n x b.jobs old.files t old.core new.core old.alarms.items g b.core others here k)
+      (λ k. ap (λ l. console_at l.items k) (consoles_as b.rest)) (λ k. ap (λ l. holder_at l k) (holders_as b.rest)) (ap directory (files_as b.rest)) (clock_as b.rest) (version_as b.rest) (λ k. ap (λ l. symbols_at l.items k) (symbols_as b.rest)) (λ k. ap (λ p. piped p k) (pipes_as b.rest)))
+      (λ k. b.frames.each k) (λ k. b.reserved.each k) (ap mark_of (files_as b.rest))
 
   -- and if the directory and the mark are the same
   pub channel_state : (g : Chan → Chan) → ((k m : ℕ) → (k ≡ s → m ≢ n) → chan_of t (channel_at new.jobs k m) ≡ chan_of old.files (channel_at old.jobs k m))
@@ -172,11 +127,11 @@ module _ (old new : World) (s n : ℕ) (x : Channel) (t : Store) (b : ChannelBec
   pub filed_tidy : Tidy old → Across t new.jobs → Tidy new
   filed_tidy tidy a = record {
     blank = λ k none. b.core.each k ∙ tidy.blank k (none_before old.jobs new.jobs s n x b.jobs k none);
-    quiet = λ k none. ap (λ l. alarm_at l.items k) b.alarms ∙ tidy.quiet k (none_before old.jobs new.jobs s n x b.jobs k none);
-    timed = subst (λ t. t < clock_end) (sym b.clock) tidy.timed;
-    across = subst (λ f. Across f new.jobs) (sym b.files) a;
+    quiet = λ k none. ap (λ l. alarm_at l.items k) (alarms_as b.rest) ∙ tidy.quiet k (none_before old.jobs new.jobs s n x b.jobs k none);
+    timed = subst (λ t. t < clock_end) (sym (clock_as b.rest)) tidy.timed;
+    across = subst (λ f. Across f new.jobs) (sym (files_as b.rest)) a;
     ringed = b.ringed tidy.ringed;
-    nameless = λ k none. ap (λ l. symbols_at l.items k) b.symbols ∙ tidy.nameless k (none_before old.jobs new.jobs s n x b.jobs k none);
+    nameless = λ k none. ap (λ l. symbols_at l.items k) (symbols_as b.rest) ∙ tidy.nameless k (none_before old.jobs new.jobs s n x b.jobs k none);
   }
 
 -- the result for a world: its state, and that it is tidy
@@ -194,34 +149,28 @@ channel_comes old new s n x t b tidy kept g here files mark = record {
 
 pub still_state : (w : World) (s n : ℕ) (g : Chan → Chan) → chan_of w.files (channel_at w.jobs s n) ≡ g (chan_of w.files (channel_at w.jobs s n)) → state_of w ≡ in_raw (state_of w) s (on_channel n g)
 still_state w s n g e =
-    let b = channel_still w w s n w.files (record { core = refl; jobs = refl; frames = refl; consoles = refl; holders = refl; clock = refl; version = refl; symbols = refl; pipes = refl; alarms = refl; files = refl; rings = refl }) in
+    let b = channel_still w w s n w.files (record { is = refl }) in
     channel_state w w s n (channel_at w.jobs s n) w.files b g (λ k m apart. refl) (λ some. e) refl refl
 
 -- a store that shows the same to all channels
-pub stored_state : (old new : World) (t : Store) → new.core ≡ old.core → new.jobs ≡ old.jobs → new.frames ≡ old.frames → new.consoles ≡ old.consoles → new.holders ≡ old.holders → new.clock ≡ old.clock
-    → new.alarms ≡ old.alarms → new.version ≡ old.version → new.symbols ≡ old.symbols → new.pipes ≡ old.pipes → new.files ≡ t → Stays old.files t old.jobs
-    → state_of new ≡ record (state_of old) { raw = record (state_of old).raw { files = directory t }; mark = mark_of t }
-unfolding state_of
-stored_state old new t core jobs frames consoles holders clock alarms version symbols pipes files stays = state_is _ _
-    (machine_is _ _
-    (λ k. ap (λ f. raw_at f new.core new.jobs new.alarms.items k) files ∙ ap (λ c. raw_at t c new.jobs new.alarms.items k) core
-    ∙ ap (λ j. raw_at t old.core j new.alarms.items k) jobs ∙ ap (λ l. raw_at t old.core old.jobs l.items k) alarms
-    ∙ raw_alike old.files t (core_at old.core k) (superior_at old.jobs k) (alarm_at old.alarms.items k) (job_at old.jobs k) (stays.chans k))
-    (λ k. ap (λ l. console_at l.items k) consoles) (λ k. ap (λ l. holder_at l k) holders) (ap directory files) clock version (λ k. ap (λ l. symbols_at l.items k) symbols) (λ k. ap (λ p. piped p k) pipes))
-    (λ k. ap (λ l. frame_at l.items k) frames) (λ k. ap (λ c. clear_at c k) core) (ap mark_of files)
-
 pub store_state : (old new : World) (t : Store) → OnlyStore old new t → Stays old.files t old.jobs
     → state_of new ≡ record (state_of old) { raw = record (state_of old).raw { files = directory t }; mark = mark_of t }
-store_state old new t o stays = stored_state old new t o.core o.jobs o.frames o.consoles o.holders o.clock o.alarms o.version o.symbols o.pipes o.files stays
+unfolding state_of
+store_state old new t o stays = state_is _ _
+    (machine_is _ _
+    (λ k. (λ i. raw_at (o.is i).files (o.is i).core (o.is i).jobs (o.is i).alarms.items k)
+    ∙ raw_alike old.files t (core_at old.core k) (superior_at old.jobs k) (alarm_at old.alarms.items k) (job_at old.jobs k) (stays.chans k))
+    (λ k. ap (λ l. console_at l.items k) (consoles_as o.is)) (λ k. ap (λ l. holder_at l k) (holders_as o.is)) (ap directory (files_as o.is)) (clock_as o.is) (version_as o.is) (λ k. ap (λ l. symbols_at l.items k) (symbols_as o.is)) (λ k. ap (λ p. piped p k) (pipes_as o.is)))
+    (λ k. ap (λ l. frame_at l.items k) (frames_as o.is)) (λ k. ap (λ c. clear_at c k) (core_as o.is)) (ap mark_of (files_as o.is))
 
 pub store_tidy : (old new : World) (t : Store) → OnlyStore old new t → Stays old.files t old.jobs → Tidy old → Tidy new
 store_tidy old new t o stays tidy = record {
-  blank = λ k none. ap (λ c. core_at c k) o.core ∙ tidy.blank k (sym (ap (λ j. job_at j k) o.jobs) ∙ none);
-  quiet = λ k none. ap (λ l. alarm_at l.items k) o.alarms ∙ tidy.quiet k (sym (ap (λ j. job_at j k) o.jobs) ∙ none);
-  timed = subst (λ t. t < clock_end) (sym o.clock) tidy.timed;
-  across = subst (λ f. Across f new.jobs) (sym o.files) (subst (λ j. Across t j) (sym o.jobs) stays.across);
-  ringed = ringed_alike old new o.jobs o.frames o.consoles o.holders o.clock o.pipes o.rings tidy.ringed;
-  nameless = λ k none. ap (λ l. symbols_at l.items k) o.symbols ∙ tidy.nameless k (sym (ap (λ j. job_at j k) o.jobs) ∙ none);
+  blank = λ k none. ap (λ c. core_at c k) (core_as o.is) ∙ tidy.blank k (sym (ap (λ j. job_at j k) (jobs_as o.is)) ∙ none);
+  quiet = λ k none. ap (λ l. alarm_at l.items k) (alarms_as o.is) ∙ tidy.quiet k (sym (ap (λ j. job_at j k) (jobs_as o.is)) ∙ none);
+  timed = subst (λ t. t < clock_end) (sym (clock_as o.is)) tidy.timed;
+  across = subst (λ f. Across f new.jobs) (sym (files_as o.is)) (subst (λ j. Across t j) (sym (jobs_as o.is)) stays.across);
+  ringed = ringed_alike old new (jobs_as o.is) (frames_as o.is) (ap doors_in o.is) (rings_as o.is) tidy.ringed;
+  nameless = λ k none. ap (λ l. symbols_at l.items k) (symbols_as o.is) ∙ tidy.nameless k (sym (ap (λ j. job_at j k) (jobs_as o.is)) ∙ none);
 }
 
 -- what the state says of a world

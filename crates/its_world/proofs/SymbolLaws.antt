@@ -8,10 +8,12 @@ use Rattle.its_word.specs.Only.{Only, Same}
 use Rattle.its_jobs.specs.Table.{job_at}
 use Rattle.its_plain.specs.Change.{symbols_after_removal}
 use Rattle.its_plain.specs.Machine.{Symbol}
+use Rattle.its_world.specs.Contents.{contents}
 use Rattle.its_world.specs.World.{no_symbols, symbols_at, VersionBecomes}
 use Rattle.its_world.specs.declared.world.World.{World}
-use Rattle.its_world.proofs.PlaceLaws.{ringed_jobs}
+use Rattle.its_world.proofs.PlaceLaws.{doors_in, ringed_jobs}
 use Rattle.its_machine.proofs.OpenLaws.{list_here}
+use Rattle.its_world.proofs.ContentsLaws.{frames_as, rings_as}
 
 -- the list in place s gains a symbol
 list_had : (xs : List (ArrayVec Symbol)) (s : ℕ) (x : ArrayVec Symbol) → s < length xs → x ≡ slice_index_or xs s x → x.items ≡ symbols_at xs s
@@ -25,22 +27,12 @@ list_gains xs s i x y b l is e more =
     subst (λ (k : ℕ). Only (symbols_at xs) (symbols_at (slice_set xs k y)) s (symbols_at xs s ++ b ∷ [])) (sym is)
     (list_here xs s y (symbols_at xs s ++ b ∷ []) l (more ∙ ap (λ (bs : List Symbol). bs ++ b ∷ []) (list_had xs s x l (e ∙ ap (λ (k : ℕ). slice_index_or xs k x) is))))
 
-pub version_becomes : (old new : World) (v : ℕ) → new.version ≡ v → Same (job_at old.jobs) (job_at new.jobs) → new.jobs.superiors ≡ old.jobs.superiors
-    → new.core ≡ old.core → new.frames ≡ old.frames → new.consoles ≡ old.consoles → new.holders ≡ old.holders → new.files ≡ old.files → new.clock ≡ old.clock → new.symbols ≡ old.symbols → new.pipes ≡ old.pipes → new.alarms ≡ old.alarms → new.rings ≡ old.rings → VersionBecomes old new v
-version_becomes old new v version jobs superiors core frames consoles holders files clock symbols pipes alarms rings = record {
-  version = version;
+pub version_becomes : (old new : World) (v : ℕ) → Same (job_at old.jobs) (job_at new.jobs) → new.jobs.superiors ≡ old.jobs.superiors → contents new ≡ record (contents old) { version = v; jobs = new.jobs } → VersionBecomes old new v
+version_becomes old new v jobs superiors e = record {
   jobs = jobs;
   superiors = superiors;
-  core = core;
-  frames = frames;
-  consoles = consoles;
-  holders = holders;
-  files = files;
-  clock = clock;
-  symbols = symbols;
-  pipes = pipes;
-  alarms = alarms;
-  ringed = ringed_jobs old new jobs frames consoles holders clock pipes rings;
+  rest = λ t. record (e t) { rings = new.rings };
+  ringed = ringed_jobs old new jobs (frames_as e) (ap doors_in e) (rings_as e);
 }
 
 -- the lists below n are done

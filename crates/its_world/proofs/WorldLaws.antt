@@ -1,5 +1,5 @@
 -- What a world keeps if one part is written.
-use Rattle.std.specs.Prelude.{◌≡◌, ◌<◌, ◌≤◌, ◌-◌, ℕ, true, Option, Some, None, IsSome, IfSome, is_some, List, [], ◌∷◌, ◌++◌, length, drop, option_map, refl}
+use Rattle.std.specs.Prelude.{◌≡◌, ◌<◌, ◌≤◌, ◌+◌, ◌-◌, ℕ, true, Option, Some, None, IsSome, IfSome, is_some, List, [], ◌∷◌, ◌++◌, length, drop, option_map, refl}
 use Rattle.std.proofs.Common.{ap, sym, arith, inl, inr, ◌∙◌}
 use Rattle.std.proofs.lemmas.Bool.{cases_eq}
 use Rattle.std.proofs.lemmas.List.{length-append, take-append-le, take_all}
@@ -11,16 +11,18 @@ use Rattle.its_frame.specs.declared.frame.Frame.{Frame}
 use Rattle.its_jobs.specs.Table.{job_at}
 use Rattle.its_plain.specs.Change.{rest_of}
 use Rattle.its_machine.proofs.CoreLaws.{same_core, same_clear}
+use Rattle.its_world.specs.Contents.{Contents, contents}
 use Rattle.its_world.specs.World.{frame_at, console_at, holder_at, frames_after, with_frames, Becomes, CoreBecomes, PageBecomes, ConsoleBecomes, HolderBecomes, LinkBecomes, ClockBecomes, typed_at}
 use Rattle.its_plain.specs.Machine.{Pipe}
 use Rattle.its_plain.specs.Moves.{AtConsole, AtLink}
 use Rattle.its_pipes.specs.Pipes.{piped}
 use Rattle.its_world.specs.Rings.{input_lists, lists_at, link_lists, output_lists}
 use Rattle.its_world.specs.Filed.{SlotWritten, ConsoleWritten, HolderWritten, LinkWritten, ClockWritten, OnlyRings, Refiled, Resettled, Ringed}
-use Rattle.its_world.proofs.PlaceLaws.{ringed_alike, slot_ringed, post_ringed, heard_ringed, spoken_ringed, clock_ringed}
+use Rattle.its_world.proofs.PlaceLaws.{doors_in, ringed_alike, slot_ringed, doors_written, post_ringed, heard_ringed, spoken_ringed, clock_ringed}
 use Rattle.its_world.specs.declared.world.World.{World}
 use Rattle.its_core.specs.Cores.{Cores, Reserved, core_at, reserved_at, clear_at}
 use Rattle.its_core.specs.Frames.{Frames, frames_give_back}
+use Rattle.its_world.proofs.ContentsLaws.{core_as, jobs_as, frames_as, consoles_as, holders_as, rings_as, pipes_as}
 
 -- nothing else changes
 unchanged : {X : Type 0} → (f : ℕ → X) (s : ℕ) → Only f f s (f s)
@@ -42,45 +44,39 @@ pub frames_backed : (o : Option ℕ) (s : ℕ) (f : Frames) → is_some o ≡ tr
 frames_backed (Some n) s f h = refl
 frames_backed None s f h = cc
 
+-- what is left of an equation of contents, if the core, the jobs, the frames and the lists are those of a new world
+pub in_slot : (new : World) {p q : Contents} → p ≡ q
+    → record p { core = new.core; jobs = new.jobs; frames = new.frames; rings = new.rings } ≡ record q { core = new.core; jobs = new.jobs; frames = new.frames; rings = new.rings }
+in_slot new e = λ t. record (e t) { core = new.core; jobs = new.jobs; frames = new.frames; rings = new.rings }
+
+-- a core is written, which keeps its frames of pages and its reserved page
 pub core_becomes : (old new : World) (s : ℕ) (c : Core) → Only (core_at old.core) (core_at new.core) s c → new.core.reserved ≡ old.core.reserved → new.core.frames ≡ old.core.frames
-    → new.jobs ≡ old.jobs → new.frames ≡ old.frames → new.consoles ≡ old.consoles → new.holders ≡ old.holders → new.files ≡ old.files → new.clock ≡ old.clock → new.rings ≡ old.rings → new.version ≡ old.version → new.symbols ≡ old.symbols → new.pipes ≡ old.pipes → new.alarms ≡ old.alarms → CoreBecomes old new s c
-core_becomes old new s c core reserved pages jobs frames consoles holders files clock rings version symbols pipes alarms = record {
+    → contents new ≡ record (contents old) { core = new.core } → CoreBecomes old new s c
+core_becomes old new s c core reserved pages e = record {
   core = core;
-  job = alike _ _ s (λ k. ap (λ t. job_at t k) jobs);
-  superiors = ap (λ t. t.superiors) jobs;
-  frame = alike _ _ s (λ k. ap (λ t. frame_at t.items k) frames);
+  job = alike _ _ s (λ k. ap (λ t. job_at t k) (jobs_as e));
+  superiors = ap (λ t. t.superiors) (jobs_as e);
+  frame = alike _ _ s (λ k. ap (λ t. frame_at t.items k) (frames_as e));
   reserved = alike _ _ s ((same_clear old.core new.core reserved).each);
   pages = pages ∙ sym (frames_still (clear_at old.core s) s old.core.frames);
-  consoles = consoles;
-  holders = holders;
-  files = files;
-  clock = clock;
-  ringed = ringed_alike old new jobs frames consoles holders clock pipes rings;
-  version = version;
-  symbols = symbols;
-  pipes = pipes;
-  alarms = alarms;
+  rest = in_slot new e;
+  ringed = ringed_alike old new (jobs_as e) (frames_as e) (ap doors_in e) (rings_as e);
 }
 
 -- the job or the frame of a slot is written, and the slot is put on the list to which it belongs
 pub slot_becomes : (old mid new : World) (s : ℕ) (j : Option Job) (f : Option Frame) → SlotWritten old mid s j f → Refiled mid new s → Becomes old new s (core_at old.core s) j f (clear_at old.core s)
-slot_becomes old mid new s j f w r = record {
-  core = alike _ _ s (λ k. ap (λ t. core_at t k) (r.rest.core ∙ w.core));
-  job = only_along _ _ _ s j w.job (λ k. ap (λ t. job_at t k) r.rest.jobs);
-  superiors = ap (λ t. t.superiors) r.rest.jobs ∙ w.superiors;
-  frame = only_along _ _ _ s f w.frame (λ k. ap (λ l. frame_at l.items k) r.rest.frames);
-  reserved = alike _ _ s (λ k. ap (λ t. clear_at t k) (r.rest.core ∙ w.core));
-  pages = ap (λ t. t.frames) (r.rest.core ∙ w.core) ∙ sym (frames_still (clear_at old.core s) s old.core.frames);
-  consoles = r.rest.consoles ∙ w.consoles;
-  holders = r.rest.holders ∙ w.holders;
-  files = r.rest.files ∙ w.files;
-  clock = r.rest.clock ∙ w.clock;
-  ringed = slot_ringed old mid new s j f w r;
-  version = r.rest.version ∙ w.version;
-  symbols = r.rest.symbols ∙ w.symbols;
-  pipes = r.rest.pipes ∙ w.pipes;
-  alarms = r.rest.alarms ∙ w.alarms;
-}
+slot_becomes old mid new s j f w r =
+    let core : new.core ≡ old.core = core_as r.rest.is ∙ core_as w.rest in
+    record {
+      core = alike _ _ s (λ k. ap (λ t. core_at t k) core);
+      job = only_along _ _ _ s j w.job (λ k. ap (λ t. job_at t k) (jobs_as r.rest.is));
+      superiors = ap (λ t. t.superiors) (jobs_as r.rest.is) ∙ w.superiors;
+      frame = only_along _ _ _ s f w.frame (λ k. ap (λ l. frame_at l.items k) (frames_as r.rest.is));
+      reserved = alike _ _ s (λ k. ap (λ t. clear_at t k) core);
+      pages = ap (λ t. t.frames) core ∙ sym (frames_still (clear_at old.core s) s old.core.frames);
+      rest = in_slot new r.rest.is ∙ in_slot new w.rest;
+      ringed = slot_ringed old mid new s j f w r;
+    }
 
 -- the same of a frame that depends on what was there
 pub if_becomes : {X : Type 0} → (o : Option X) (old mid new : World) (s : ℕ) (j : Option Job) (f : X → Option Frame) → IfSome o (λ x. SlotWritten old mid s j (f x)) → Refiled mid new s
@@ -88,51 +84,29 @@ pub if_becomes : {X : Type 0} → (o : Option X) (old mid new : World) (s : ℕ)
 if_becomes (Some x) old mid new s j f w r = slot_becomes old mid new s j (f x) w r
 if_becomes None old mid new s j f w r = w
 
-pub job_written : (old new : World) (s : ℕ) (j : Job) → Only (job_at old.jobs) (job_at new.jobs) s (Some j) → new.jobs.superiors ≡ old.jobs.superiors
-    → new.core ≡ old.core → new.frames ≡ old.frames → new.consoles ≡ old.consoles → new.holders ≡ old.holders → new.files ≡ old.files → new.clock ≡ old.clock → new.version ≡ old.version → new.symbols ≡ old.symbols → new.pipes ≡ old.pipes → new.alarms ≡ old.alarms → new.rings ≡ old.rings
+pub job_written : (old new : World) (s : ℕ) (j : Job) → Only (job_at old.jobs) (job_at new.jobs) s (Some j) → new.jobs.superiors ≡ old.jobs.superiors → contents new ≡ record (contents old) { jobs = new.jobs }
     → SlotWritten old new s (Some j) (frame_at old.frames.items s)
-job_written old new s j job superiors core frames consoles holders files clock version symbols pipes alarms rings = record {
+job_written old new s j job superiors e = record {
   job = job;
   superiors = superiors;
-  frame = alike _ _ s (λ k. ap (λ t. frame_at t.items k) frames);
-  core = core;
-  consoles = consoles;
-  holders = holders;
-  files = files;
-  clock = clock;
-  rings = rings;
-  version = version;
-  symbols = symbols;
-  pipes = pipes;
-  alarms = alarms;
+  frame = alike _ _ s (λ k. ap (λ t. frame_at t.items k) (frames_as e));
+  rest = λ t. record (e t) { frames = new.frames };
 }
 
-pub frame_written : (old new : World) (s : ℕ) (f : Option Frame) → Only (frame_at old.frames.items) (frame_at new.frames.items) s f
-    → new.core ≡ old.core → new.jobs ≡ old.jobs → new.consoles ≡ old.consoles → new.holders ≡ old.holders → new.files ≡ old.files → new.clock ≡ old.clock → new.version ≡ old.version → new.symbols ≡ old.symbols → new.pipes ≡ old.pipes → new.alarms ≡ old.alarms → new.rings ≡ old.rings
+pub frame_written : (old new : World) (s : ℕ) (f : Option Frame) → Only (frame_at old.frames.items) (frame_at new.frames.items) s f → contents new ≡ record (contents old) { frames = new.frames }
     → SlotWritten old new s (job_at old.jobs s) f
-frame_written old new s f frame core jobs consoles holders files clock version symbols pipes alarms rings = record {
-  job = alike _ _ s (λ k. ap (λ t. job_at t k) jobs);
-  superiors = ap (λ t. t.superiors) jobs;
+frame_written old new s f frame e = record {
+  job = alike _ _ s (λ k. ap (λ t. job_at t k) (jobs_as e));
+  superiors = ap (λ t. t.superiors) (jobs_as e);
   frame = frame;
-  core = core;
-  consoles = consoles;
-  holders = holders;
-  files = files;
-  clock = clock;
-  rings = rings;
-  version = version;
-  symbols = symbols;
-  pipes = pipes;
-  alarms = alarms;
+  rest = λ t. record (e t) { jobs = new.jobs };
 }
 
 -- a core is written, and its pages are in other frames then
-pub framed_becomes : (old new : World) (s : ℕ) (c : Core) → Only (core_at old.core) (core_at new.core) s c → new.core.reserved ≡ old.core.reserved
-    → new.jobs ≡ old.jobs → new.frames ≡ old.frames → new.consoles ≡ old.consoles → new.holders ≡ old.holders → new.files ≡ old.files → new.clock ≡ old.clock → new.rings ≡ old.rings → new.version ≡ old.version → new.symbols ≡ old.symbols → new.pipes ≡ old.pipes → new.alarms ≡ old.alarms
+pub framed_becomes : (old new : World) (s : ℕ) (c : Core) → Only (core_at old.core) (core_at new.core) s c → new.core.reserved ≡ old.core.reserved → contents new ≡ record (contents old) { core = new.core }
     → CoreBecomes old (with_frames new old.core.frames) s c
 unfolding core_at reserved_at
-framed_becomes old new s c core reserved jobs frames consoles holders files clock rings version symbols pipes alarms =
-    core_becomes old (with_frames new old.core.frames) s c core reserved refl jobs frames consoles holders files clock rings version symbols pipes alarms
+framed_becomes old new s c core reserved e = core_becomes old (with_frames new old.core.frames) s c core reserved refl (λ t. record (e t) { core = record new.core { frames = old.core.frames } })
 
 -- two changes of one slot, one after the other, of which the second reserves no page and gives none back
 only_then : {X : Type 0} → (f g h : ℕ → X) (s : ℕ) (x y : X) → Only f g s x → Only g h s y → Only f h s y
@@ -147,35 +121,21 @@ then_becomes old mid new s c d i j f g r a b = record {
   frame = only_then _ _ _ s f g a.frame b.frame;
   reserved = only_then _ _ _ s r r a.reserved b.reserved;
   pages = b.pages ∙ ap (λ o. frames_after o r s mid.core.frames) a.reserved.here ∙ frames_still r s mid.core.frames ∙ a.pages;
-  consoles = b.consoles ∙ a.consoles;
-  holders = b.holders ∙ a.holders;
-  files = b.files ∙ a.files;
-  clock = b.clock ∙ a.clock;
+  rest = b.rest ∙ in_slot new a.rest;
   ringed = λ r. b.ringed (a.ringed r);
-  version = b.version ∙ a.version;
-  symbols = b.symbols ∙ a.symbols;
-  pipes = b.pipes ∙ a.pipes;
-  alarms = b.alarms ∙ a.alarms;
 }
 
 pub page_becomes : (old new : World) (s : ℕ) (r : Option ℕ) → Only (clear_at old.core) (clear_at new.core) s r → new.core.cores ≡ old.core.cores
-    → new.core.frames ≡ frames_after (clear_at old.core s) r s old.core.frames → new.jobs ≡ old.jobs → new.frames ≡ old.frames → new.consoles ≡ old.consoles → new.holders ≡ old.holders → new.files ≡ old.files → new.clock ≡ old.clock → new.rings ≡ old.rings → new.version ≡ old.version → new.symbols ≡ old.symbols → new.pipes ≡ old.pipes → new.alarms ≡ old.alarms → PageBecomes old new s r
-page_becomes old new s r page cores pages jobs frames consoles holders files clock rings version symbols pipes alarms = record {
+    → new.core.frames ≡ frames_after (clear_at old.core s) r s old.core.frames → contents new ≡ record (contents old) { core = new.core } → PageBecomes old new s r
+page_becomes old new s r page cores pages e = record {
   core = alike _ _ s (λ k. same_core old.core new.core k cores);
-  job = alike _ _ s (λ k. ap (λ t. job_at t k) jobs);
-  superiors = ap (λ t. t.superiors) jobs;
-  frame = alike _ _ s (λ k. ap (λ t. frame_at t.items k) frames);
+  job = alike _ _ s (λ k. ap (λ t. job_at t k) (jobs_as e));
+  superiors = ap (λ t. t.superiors) (jobs_as e);
+  frame = alike _ _ s (λ k. ap (λ t. frame_at t.items k) (frames_as e));
   reserved = page;
   pages = pages;
-  consoles = consoles;
-  holders = holders;
-  files = files;
-  clock = clock;
-  ringed = ringed_alike old new jobs frames consoles holders clock pipes rings;
-  version = version;
-  symbols = symbols;
-  pipes = pipes;
-  alarms = alarms;
+  rest = in_slot new e;
+  ringed = ringed_alike old new (jobs_as e) (frames_as e) (ap doors_in e) (rings_as e);
 }
 
 some_by : (o : Option Reserved) → is_some (option_map (λ x. x.clear) o) ≡ true → IsSome o
@@ -189,18 +149,9 @@ reserved_some c s h = some_by (reserved_at c s) h
 -- belong
 console_settled : (old mid new : World) (c : ℕ) (x : Console) → ConsoleWritten old mid c x → OnlyRings mid new → (Ringed old → Ringed new) → ConsoleBecomes old new c x
 console_settled old mid new c x w o ringed = record {
-  consoles = only_along _ _ _ c x w.consoles (λ k. ap (λ l. console_at l.items k) o.consoles);
-  holders = o.holders ∙ w.holders;
-  core = o.core ∙ w.rest.core;
-  jobs = o.jobs ∙ w.rest.jobs;
-  frames = o.frames ∙ w.rest.frames;
-  files = o.files ∙ w.rest.files;
-  clock = o.clock ∙ w.rest.clock;
+  consoles = only_along _ _ _ c x w.consoles (λ k. ap (λ l. console_at l.items k) (consoles_as o.is));
+  rest = (λ t. record (o.is t) { consoles = new.consoles }) ∙ (λ t. record (w.rest t) { consoles = new.consoles; rings = new.rings });
   ringed = ringed;
-  version = o.version ∙ w.rest.version;
-  symbols = o.symbols ∙ w.rest.symbols;
-  pipes = o.pipes ∙ w.pipes;
-  alarms = o.alarms ∙ w.rest.alarms;
 }
 
 -- what stays of the console that is written, stays of all
@@ -213,85 +164,38 @@ stays_of f old mid c x w e k = elim (cases_eq k c) [
 
 -- the input of a console is written, or its output
 pub console_heard : (old mid new : World) (c : ℕ) (x : Console) → ConsoleWritten old mid c x → x.output ≡ (console_at old.consoles.items c).output → Resettled mid new (input_lists c) → ConsoleBecomes old new c x
-console_heard old mid new c x w e r = console_settled old mid new c x w r.rest (heard_ringed old mid new c w.consoles.others (stays_of (λ k. k.output) old mid c x w e) w.holders w.pipes w.rest r)
+console_heard old mid new c x w e r = console_settled old mid new c x w r.rest (heard_ringed old mid new c w.consoles.others (stays_of (λ k. k.output) old mid c x w e) w.rest r)
 
 pub console_spoken : (old mid new : World) (c : ℕ) (x : Console) → ConsoleWritten old mid c x → x.input ≡ (console_at old.consoles.items c).input → Resettled mid new (output_lists c) → ConsoleBecomes old new c x
-console_spoken old mid new c x w e r = console_settled old mid new c x w r.rest (spoken_ringed old mid new c w.consoles.others (stays_of (λ k. k.input) old mid c x w e) w.holders w.pipes w.rest r)
+console_spoken old mid new c x w e r = console_settled old mid new c x w r.rest (spoken_ringed old mid new c w.consoles.others (stays_of (λ k. k.input) old mid c x w e) w.rest r)
 
 pub holder_becomes : (old mid new : World) (c : ℕ) (h : Option ℕ) → HolderWritten old mid c h → Resettled mid new (lists_at c) → HolderBecomes old new c h
 holder_becomes old mid new c h w r = record {
-  holders = only_along _ _ _ c h w.holders (λ k. ap (λ l. holder_at l k) r.rest.holders);
-  consoles = r.rest.consoles ∙ w.consoles;
-  core = r.rest.core ∙ w.rest.core;
-  jobs = r.rest.jobs ∙ w.rest.jobs;
-  frames = r.rest.frames ∙ w.rest.frames;
-  files = r.rest.files ∙ w.rest.files;
-  clock = r.rest.clock ∙ w.rest.clock;
-  ringed = post_ringed old mid new (AtConsole c) (λ k ne. ap (λ l. console_at l.items k) w.consoles) (λ k ne. w.holders.others k (λ e. ne (ap AtConsole e))) (λ k ne. ap (λ p. piped p k) w.pipes) w.rest r;
-  version = r.rest.version ∙ w.rest.version;
-  symbols = r.rest.symbols ∙ w.rest.symbols;
-  pipes = r.rest.pipes ∙ w.pipes;
-  alarms = r.rest.alarms ∙ w.rest.alarms;
+  holders = only_along _ _ _ c h w.holders (λ k. ap (λ l. holder_at l k) (holders_as r.rest.is));
+  rest = (λ t. record (r.rest.is t) { holders = new.holders }) ∙ (λ t. record (w.rest t) { holders = new.holders; rings = new.rings });
+  ringed = post_ringed old mid new (AtConsole c) (λ k ne. ap (λ l. console_at l.items k) (consoles_as w.rest)) (λ k ne. w.holders.others k (λ e. ne (ap AtConsole e))) (λ k ne. ap (λ p. piped p k) (pipes_as w.rest)) (doors_written mid w.rest) r;
 }
 
 pub link_becomes : (old mid new : World) (l : ℕ) (p : Option Pipe) → LinkWritten old mid l p → Resettled mid new (link_lists l) → LinkBecomes old new l p
 link_becomes old mid new l p w r = record {
-  links = only_along _ _ _ l p w.links (λ k. ap (λ q. piped q k) r.rest.pipes);
-  consoles = r.rest.consoles ∙ w.consoles;
-  holders = r.rest.holders ∙ w.holders;
-  core = r.rest.core ∙ w.rest.core;
-  jobs = r.rest.jobs ∙ w.rest.jobs;
-  frames = r.rest.frames ∙ w.rest.frames;
-  files = r.rest.files ∙ w.rest.files;
-  clock = r.rest.clock ∙ w.rest.clock;
-  ringed = post_ringed old mid new (AtLink l) (λ k ne. ap (λ x. console_at x.items k) w.consoles) (λ k ne. ap (λ x. holder_at x k) w.holders) (λ k ne. w.links.others k (λ e. ne (ap AtLink e))) w.rest r;
-  version = r.rest.version ∙ w.rest.version;
-  symbols = r.rest.symbols ∙ w.rest.symbols;
-  alarms = r.rest.alarms ∙ w.rest.alarms;
+  links = only_along _ _ _ l p w.links (λ k. ap (λ q. piped q k) (pipes_as r.rest.is));
+  rest = (λ t. record (r.rest.is t) { pipes = new.pipes }) ∙ (λ t. record (w.rest t) { pipes = new.pipes; rings = new.rings });
+  ringed = post_ringed old mid new (AtLink l) (λ k ne. ap (λ x. console_at x.items k) (consoles_as w.rest)) (λ k ne. ap (λ x. holder_at x k) (holders_as w.rest)) (λ k ne. w.links.others k (λ e. ne (ap AtLink e))) (doors_written mid w.rest) r;
 }
 
 pub clock_becomes : (old mid new : World) (c : ℕ) → old.clock ≤ c → ClockWritten old mid c → Resettled mid new (1 ∷ []) → ClockBecomes old new c
-clock_becomes old mid new c later w r = record {
-  clock = r.rest.clock ∙ w.clock;
-  core = r.rest.core ∙ w.core;
-  jobs = r.rest.jobs ∙ w.jobs;
-  frames = r.rest.frames ∙ w.frames;
-  consoles = r.rest.consoles ∙ w.consoles;
-  holders = r.rest.holders ∙ w.holders;
-  files = r.rest.files ∙ w.files;
-  ringed = clock_ringed old mid new (c - old.clock) (w.clock ∙ omega arith) w.jobs w.frames w.consoles w.holders w.pipes w.rings r;
-  version = r.rest.version ∙ w.version;
-  symbols = r.rest.symbols ∙ w.symbols;
-  pipes = r.rest.pipes ∙ w.pipes;
-  alarms = r.rest.alarms ∙ w.alarms;
-}
+clock_becomes old mid new c later w r =
+    let gains : c ≡ old.clock + (c - old.clock) = omega arith in
+    record {
+      rest = r.rest.is ∙ (λ t. record (w.is t) { rings = new.rings });
+      ringed = clock_ringed old mid new (c - old.clock) (w.is ∙ ap (λ (t : ℕ). record (contents old) { clock = t }) gains) r;
+    }
 
-pub console_written : (old new : World) (c : ℕ) (x : Console) → Only (console_at old.consoles.items) (console_at new.consoles.items) c x
-    → new.holders ≡ old.holders → new.core ≡ old.core → new.jobs ≡ old.jobs → new.frames ≡ old.frames → new.files ≡ old.files → new.clock ≡ old.clock → new.version ≡ old.version → new.symbols ≡ old.symbols → new.pipes ≡ old.pipes → new.alarms ≡ old.alarms → new.rings ≡ old.rings → ConsoleWritten old new c x
-console_written old new c x consoles holders core jobs frames files clock version symbols pipes alarms rings = record {
-  consoles = consoles;
-  holders = holders;
-  pipes = pipes;
-  rest = record { core = core; jobs = jobs; frames = frames; files = files; clock = clock; rings = rings; version = version; symbols = symbols; alarms = alarms };
-}
+pub console_written : (old new : World) (c : ℕ) (x : Console) → Only (console_at old.consoles.items) (console_at new.consoles.items) c x → contents new ≡ record (contents old) { consoles = new.consoles } → ConsoleWritten old new c x
+console_written old new c x consoles rest = record { consoles = consoles; rest = rest }
 
-pub holder_written : (old new : World) (c : ℕ) (h : Option ℕ) → Only (holder_at old.holders) (holder_at new.holders) c h
-    → new.consoles ≡ old.consoles → new.core ≡ old.core → new.jobs ≡ old.jobs → new.frames ≡ old.frames → new.files ≡ old.files → new.clock ≡ old.clock → new.version ≡ old.version → new.symbols ≡ old.symbols → new.pipes ≡ old.pipes → new.alarms ≡ old.alarms → new.rings ≡ old.rings → HolderWritten old new c h
-holder_written old new c h holders consoles core jobs frames files clock version symbols pipes alarms rings = record {
-  holders = holders;
-  consoles = consoles;
-  pipes = pipes;
-  rest = record { core = core; jobs = jobs; frames = frames; files = files; clock = clock; rings = rings; version = version; symbols = symbols; alarms = alarms };
-}
-
-pub link_written : (old new : World) (l : ℕ) (p : Option Pipe) → Only (piped old.pipes) (piped new.pipes) l p
-    → new.consoles ≡ old.consoles → new.holders ≡ old.holders → new.core ≡ old.core → new.jobs ≡ old.jobs → new.frames ≡ old.frames → new.files ≡ old.files → new.clock ≡ old.clock → new.version ≡ old.version → new.symbols ≡ old.symbols → new.alarms ≡ old.alarms → new.rings ≡ old.rings → LinkWritten old new l p
-link_written old new l p links consoles holders core jobs frames files clock version symbols alarms rings = record {
-  links = links;
-  consoles = consoles;
-  holders = holders;
-  rest = record { core = core; jobs = jobs; frames = frames; files = files; clock = clock; rings = rings; version = version; symbols = symbols; alarms = alarms };
-}
+pub holder_written : (old new : World) (c : ℕ) (h : Option ℕ) → Only (holder_at old.holders) (holder_at new.holders) c h → contents new ≡ record (contents old) { holders = new.holders } → HolderWritten old new c h
+holder_written old new c h holders rest = record { holders = holders; rest = rest }
 
 pub rest_is : (bs : List ℕ) → drop 1 bs ≡ rest_of bs
 rest_is [] = refl

@@ -18,6 +18,7 @@ use Rattle.its_plain.specs.Reasons.{Doors, held_up, reason_by}
 use Rattle.its_pipes.specs.Pipes.{piped}
 use Rattle.its_word.specs.Console.{Console}
 pub use Rattle.its_machine.specs.Parts.{console_at, holder_at}
+use Rattle.its_world.specs.Contents.{contents}
 use Rattle.its_world.specs.Rings.{IsWaitRing, awake_of, place_at, is_within, StandsIn, Filed, AwayFrom}
 use Rattle.its_world.specs.declared.world.World.{World}
 
@@ -87,17 +88,7 @@ pub record Blocked (w : World) (k : ℕ) : Type 0 where
 
 -- of a world only the lists are others
 pub record OnlyRings (old new : World) : Type 0 where
-  pub core : new.core ≡ old.core
-  pub jobs : new.jobs ≡ old.jobs
-  pub frames : new.frames ≡ old.frames
-  pub consoles : new.consoles ≡ old.consoles
-  pub holders : new.holders ≡ old.holders
-  pub files : new.files ≡ old.files
-  pub clock : new.clock ≡ old.clock
-  pub version : new.version ≡ old.version
-  pub symbols : new.symbols ≡ old.symbols
-  pub pipes : new.pipes ≡ old.pipes
-  pub alarms : new.alarms ≡ old.alarms
+  pub is : contents new ≡ record (contents old) { rings = new.rings }
 
 -- slot s was put on the list to which it belongs
 pub record Refiled (old new : World) (s : ℕ) : Type 0 where
@@ -116,58 +107,20 @@ pub record SlotWritten (old new : World) (s : ℕ) (j : Option Job) (f : Option 
   pub job : Only (job_at old.jobs) (job_at new.jobs) s j
   pub superiors : new.jobs.superiors ≡ old.jobs.superiors
   pub frame : Only (frame_at old.frames.items) (frame_at new.frames.items) s f
-  pub core : new.core ≡ old.core
-  pub consoles : new.consoles ≡ old.consoles
-  pub holders : new.holders ≡ old.holders
-  pub files : new.files ≡ old.files
-  pub clock : new.clock ≡ old.clock
-  pub rings : new.rings ≡ old.rings
-  pub version : new.version ≡ old.version
-  pub symbols : new.symbols ≡ old.symbols
-  pub pipes : new.pipes ≡ old.pipes
-  pub alarms : new.alarms ≡ old.alarms
+  pub rest : contents new ≡ record (contents old) { jobs = new.jobs; frames = new.frames }
 
--- the consoles, their holders or the links are others, and all else, the lists too, is as it was
-pub record DoorsWritten (old new : World) : Type 0 where
-  pub core : new.core ≡ old.core
-  pub jobs : new.jobs ≡ old.jobs
-  pub frames : new.frames ≡ old.frames
-  pub files : new.files ≡ old.files
-  pub clock : new.clock ≡ old.clock
-  pub rings : new.rings ≡ old.rings
-  pub version : new.version ≡ old.version
-  pub symbols : new.symbols ≡ old.symbols
-  pub alarms : new.alarms ≡ old.alarms
-
--- console c alone was written; or its holder; or link l; or the clock
+-- console c alone was written; or its holder; or link l; or the clock. The lists are as they were
 pub record ConsoleWritten (old new : World) (c : ℕ) (x : Console) : Type 0 where
   pub consoles : Only (console_at old.consoles.items) (console_at new.consoles.items) c x
-  pub holders : new.holders ≡ old.holders
-  pub pipes : new.pipes ≡ old.pipes
-  pub rest : DoorsWritten old new
+  pub rest : contents new ≡ record (contents old) { consoles = new.consoles }
 
 pub record HolderWritten (old new : World) (c : ℕ) (h : Option ℕ) : Type 0 where
   pub holders : Only (holder_at old.holders) (holder_at new.holders) c h
-  pub consoles : new.consoles ≡ old.consoles
-  pub pipes : new.pipes ≡ old.pipes
-  pub rest : DoorsWritten old new
+  pub rest : contents new ≡ record (contents old) { holders = new.holders }
 
 pub record LinkWritten (old new : World) (l : ℕ) (p : Option Pipe) : Type 0 where
   pub links : Only (piped old.pipes) (piped new.pipes) l p
-  pub consoles : new.consoles ≡ old.consoles
-  pub holders : new.holders ≡ old.holders
-  pub rest : DoorsWritten old new
+  pub rest : contents new ≡ record (contents old) { pipes = new.pipes }
 
 pub record ClockWritten (old new : World) (c : ℕ) : Type 0 where
-  pub clock : new.clock ≡ c
-  pub core : new.core ≡ old.core
-  pub jobs : new.jobs ≡ old.jobs
-  pub frames : new.frames ≡ old.frames
-  pub consoles : new.consoles ≡ old.consoles
-  pub holders : new.holders ≡ old.holders
-  pub files : new.files ≡ old.files
-  pub rings : new.rings ≡ old.rings
-  pub version : new.version ≡ old.version
-  pub symbols : new.symbols ≡ old.symbols
-  pub pipes : new.pipes ≡ old.pipes
-  pub alarms : new.alarms ≡ old.alarms
+  pub is : contents new ≡ record (contents old) { clock = c }

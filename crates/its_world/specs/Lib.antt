@@ -1,4 +1,5 @@
 pub mod World
+pub mod Contents
 pub mod Tidy
 pub mod Storage
 pub mod Made

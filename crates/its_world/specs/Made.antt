@@ -4,20 +4,11 @@ use Rattle.std.specs.Prelude.{◌≡◌, ℕ, Option, Some}
 use Rattle.its_word.specs.Only.{Only}
 use Rattle.its_records.specs.Tree.{fresh_job}
 use Rattle.its_jobs.specs.Table.{job_at, superior_at}
+use Rattle.its_world.specs.Contents.{contents}
 use Rattle.its_world.specs.declared.world.World.{World}
 
 -- of the world only slot s changes: a job was made there, with these names, this superior and this console
 pub record JobMade (old new : World) (s u n : ℕ) (above console : Option ℕ) : Type 0 where
   pub job : Only (job_at old.jobs) (job_at new.jobs) s (Some (fresh_job u n console))
   pub superior : Only (superior_at old.jobs) (superior_at new.jobs) s above
-  pub core : new.core ≡ old.core
-  pub frames : new.frames ≡ old.frames
-  pub consoles : new.consoles ≡ old.consoles
-  pub holders : new.holders ≡ old.holders
-  pub files : new.files ≡ old.files
-  pub clock : new.clock ≡ old.clock
-  pub rings : new.rings ≡ old.rings
-  pub version : new.version ≡ old.version
-  pub symbols : new.symbols ≡ old.symbols
-  pub pipes : new.pipes ≡ old.pipes
-  pub alarms : new.alarms ≡ old.alarms
+  pub rest : contents new ≡ record (contents old) { jobs = new.jobs }

@@ -5,6 +5,7 @@ use Rattle.its_word.specs.Core.{Core}
 use Rattle.its_word.specs.Only.{Only}
 use Rattle.its_core.specs.Cores.{core_at, clear_at}
 use Rattle.its_core.specs.Frames.{frames_map}
+use Rattle.its_world.specs.Contents.{contents}
 use Rattle.its_world.specs.declared.world.World.{World}
 
 -- of the world only the core of slot t changes, and the page that slot s had reserved, which is gone: its frame is that of page
@@ -13,14 +14,4 @@ pub record PageMapped (old new : World) (s t k : ℕ) (c : Core) : Type 0 where
   pub core : Only (core_at old.core) (core_at new.core) t c
   pub reserved : Only (clear_at old.core) (clear_at new.core) s None
   pub pages : new.core.frames ≡ frames_map s t k old.core.frames
-  pub jobs : new.jobs ≡ old.jobs
-  pub frames : new.frames ≡ old.frames
-  pub consoles : new.consoles ≡ old.consoles
-  pub holders : new.holders ≡ old.holders
-  pub files : new.files ≡ old.files
-  pub clock : new.clock ≡ old.clock
-  pub rings : new.rings ≡ old.rings
-  pub version : new.version ≡ old.version
-  pub symbols : new.symbols ≡ old.symbols
-  pub pipes : new.pipes ≡ old.pipes
-  pub alarms : new.alarms ≡ old.alarms
+  pub rest : contents new ≡ record (contents old) { core = new.core }

@@ -13,6 +13,7 @@ use Rattle.its_files.specs.Files.{Store}
 pub use Rattle.its_machine.specs.Across.{IsElsewhere}
 use Rattle.its_machine.specs.Channels.{OnlyChannel}
 use Rattle.its_world.specs.World.{frame_at}
+use Rattle.its_world.specs.Contents.{contents}
 use Rattle.its_world.specs.Filed.{Ringed}
 use Rattle.its_world.specs.declared.world.World.{World}
 
@@ -51,42 +52,14 @@ pub record ChannelBecomes (old new : World) (s n : ℕ) (x : Channel) (t : Store
   pub reserved : Same (clear_at old.core) (clear_at new.core)
   pub pages : new.core.frames ≡ old.core.frames
   pub frames : Same (frame_at old.frames.items) (frame_at new.frames.items)
-  pub consoles : new.consoles ≡ old.consoles
-  pub holders : new.holders ≡ old.holders
-  pub clock : new.clock ≡ old.clock
-  pub version : new.version ≡ old.version
-  pub symbols : new.symbols ≡ old.symbols
-  pub pipes : new.pipes ≡ old.pipes
-  pub alarms : new.alarms ≡ old.alarms
-  pub files : new.files ≡ t
+  pub rest : contents new ≡ record (contents old) { core = new.core; jobs = new.jobs; frames = new.frames; files = t; rings = new.rings }
   pub ringed : Ringed old → Ringed new
 
 -- channel n of slot s's job, which has one, was written, and all else, the lists too, is as it was
 pub record ChannelWritten (old new : World) (s n : ℕ) (x : Channel) : Type 0 where
   pub jobs : OnlyChannel old.jobs new.jobs s n x
-  pub core : new.core ≡ old.core
-  pub frames : new.frames ≡ old.frames
-  pub consoles : new.consoles ≡ old.consoles
-  pub holders : new.holders ≡ old.holders
-  pub files : new.files ≡ old.files
-  pub clock : new.clock ≡ old.clock
-  pub rings : new.rings ≡ old.rings
-  pub version : new.version ≡ old.version
-  pub symbols : new.symbols ≡ old.symbols
-  pub pipes : new.pipes ≡ old.pipes
-  pub alarms : new.alarms ≡ old.alarms
+  pub rest : contents new ≡ record (contents old) { jobs = new.jobs }
 
 -- of the world only the store is another: jobs, cores, the frames of their pages and all else are as they were
 pub record OnlyStore (old new : World) (t : Store) : Type 0 where
-  pub core : new.core ≡ old.core
-  pub jobs : new.jobs ≡ old.jobs
-  pub frames : new.frames ≡ old.frames
-  pub consoles : new.consoles ≡ old.consoles
-  pub holders : new.holders ≡ old.holders
-  pub clock : new.clock ≡ old.clock
-  pub version : new.version ≡ old.version
-  pub symbols : new.symbols ≡ old.symbols
-  pub pipes : new.pipes ≡ old.pipes
-  pub alarms : new.alarms ≡ old.alarms
-  pub files : new.files ≡ t
-  pub rings : new.rings ≡ old.rings
+  pub is : contents new ≡ record (contents old) { files = t }

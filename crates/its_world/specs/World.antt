@@ -20,6 +20,7 @@ use Rattle.its_stepped.specs.State.{Part, UnlinkOld, LinkNew, FreeOld, Mark, Sta
 pub use Rattle.its_machine.specs.Parts.{chan_of, closed_channels, bare, chans_of, raw_of, alarm_at, raw_at, no_symbols, symbols_at, raw_machine}
 use Rattle.its_pipes.specs.Pipes.{piped}
 pub use Rattle.its_world.specs.Filed.{frame_at, console_at, holder_at}
+use Rattle.its_world.specs.Contents.{contents}
 use Rattle.its_world.specs.Filed.{Ringed}
 use Rattle.its_world.specs.declared.world.World.{World}
 
@@ -84,8 +85,7 @@ abbrev pub with_frames : World → Frames → World
 with_frames w f = record w { core = record w.core { frames = f } }
 
 -- of the world only slot s changes: its core, its job with the same superior, its frame, and how many quarters of its reserved page are
--- clear. Consoles, their holders, files, alarms, the version, symbols and links are unchanged, and each page stays in its page frame. If each
--- slot was on the list to which it belonged, it is again
+-- clear. Each page stays in its page frame. If each slot was on the list to which it belonged, it is again
 pub record Becomes (old new : World) (s : ℕ) (c : Core) (j : Option Job) (f : Option Frame) (r : Option ℕ) : Type 0 where
   pub core : Only (core_at old.core) (core_at new.core) s c
   pub job : Only (job_at old.jobs) (job_at new.jobs) s j
@@ -93,15 +93,8 @@ pub record Becomes (old new : World) (s : ℕ) (c : Core) (j : Option Job) (f : 
   pub frame : Only (frame_at old.frames.items) (frame_at new.frames.items) s f
   pub reserved : Only (clear_at old.core) (clear_at new.core) s r
   pub pages : new.core.frames ≡ frames_after (clear_at old.core s) r s old.core.frames
-  pub consoles : new.consoles ≡ old.consoles
-  pub holders : new.holders ≡ old.holders
-  pub files : new.files ≡ old.files
-  pub clock : new.clock ≡ old.clock
+  pub rest : contents new ≡ record (contents old) { core = new.core; jobs = new.jobs; frames = new.frames; rings = new.rings }
   pub ringed : Ringed old → Ringed new
-  pub version : new.version ≡ old.version
-  pub symbols : new.symbols ≡ old.symbols
-  pub pipes : new.pipes ≡ old.pipes
-  pub alarms : new.alarms ≡ old.alarms
 
 -- the same, if only its core, only its registers, or only its frame is written
 abbrev pub CoreBecomes : World → World → ℕ → Core → Type 0
@@ -116,93 +109,44 @@ FrameBecomes old new s f = Becomes old new s (core_at old.core s) (job_at old.jo
 abbrev pub PageBecomes : World → World → ℕ → Option ℕ → Type 0
 PageBecomes old new s r = Becomes old new s (core_at old.core s) (job_at old.jobs s) (frame_at old.frames.items s) r
 
--- of the world only console c changes, or only its holder, or only link l with its words
+-- of the world only console c changes, or only its holder, or only link l with its words; and each slot is on the list to which it belongs
+-- if it was before
 pub record ConsoleBecomes (old new : World) (c : ℕ) (x : Console) : Type 0 where
   pub consoles : Only (console_at old.consoles.items) (console_at new.consoles.items) c x
-  pub holders : new.holders ≡ old.holders
-  pub core : new.core ≡ old.core
-  pub jobs : new.jobs ≡ old.jobs
-  pub frames : new.frames ≡ old.frames
-  pub files : new.files ≡ old.files
-  pub clock : new.clock ≡ old.clock
+  pub rest : contents new ≡ record (contents old) { consoles = new.consoles; rings = new.rings }
   pub ringed : Ringed old → Ringed new
-  pub version : new.version ≡ old.version
-  pub symbols : new.symbols ≡ old.symbols
-  pub pipes : new.pipes ≡ old.pipes
-  pub alarms : new.alarms ≡ old.alarms
 
 pub record HolderBecomes (old new : World) (c : ℕ) (h : Option ℕ) : Type 0 where
   pub holders : Only (holder_at old.holders) (holder_at new.holders) c h
-  pub consoles : new.consoles ≡ old.consoles
-  pub core : new.core ≡ old.core
-  pub jobs : new.jobs ≡ old.jobs
-  pub frames : new.frames ≡ old.frames
-  pub files : new.files ≡ old.files
-  pub clock : new.clock ≡ old.clock
+  pub rest : contents new ≡ record (contents old) { holders = new.holders; rings = new.rings }
   pub ringed : Ringed old → Ringed new
-  pub version : new.version ≡ old.version
-  pub symbols : new.symbols ≡ old.symbols
-  pub pipes : new.pipes ≡ old.pipes
-  pub alarms : new.alarms ≡ old.alarms
 
 pub record LinkBecomes (old new : World) (l : ℕ) (p : Option Pipe) : Type 0 where
   pub links : Only (piped old.pipes) (piped new.pipes) l p
-  pub consoles : new.consoles ≡ old.consoles
-  pub holders : new.holders ≡ old.holders
-  pub core : new.core ≡ old.core
-  pub jobs : new.jobs ≡ old.jobs
-  pub frames : new.frames ≡ old.frames
-  pub files : new.files ≡ old.files
-  pub clock : new.clock ≡ old.clock
+  pub rest : contents new ≡ record (contents old) { pipes = new.pipes; rings = new.rings }
   pub ringed : Ringed old → Ringed new
-  pub version : new.version ≡ old.version
-  pub symbols : new.symbols ≡ old.symbols
-  pub alarms : new.alarms ≡ old.alarms
 
 -- the clock was set
 pub record ClockBecomes (old new : World) (c : ℕ) : Type 0 where
-  pub clock : new.clock ≡ c
-  pub core : new.core ≡ old.core
-  pub jobs : new.jobs ≡ old.jobs
-  pub frames : new.frames ≡ old.frames
-  pub consoles : new.consoles ≡ old.consoles
-  pub holders : new.holders ≡ old.holders
-  pub files : new.files ≡ old.files
+  pub rest : contents new ≡ record (contents old) { clock = c; rings = new.rings }
   pub ringed : Ringed old → Ringed new
-  pub version : new.version ≡ old.version
-  pub symbols : new.symbols ≡ old.symbols
-  pub pipes : new.pipes ≡ old.pipes
-  pub alarms : new.alarms ≡ old.alarms
 
--- of the world only the symbols of slot s change
+-- of the world only the symbols of slot s change, or only its alarm
 pub record SymbolsBecome (old new : World) (s : ℕ) (ss : List Symbol) : Type 0 where
   pub symbols : Only (symbols_at old.symbols.items) (symbols_at new.symbols.items) s ss
-  pub pipes : new.pipes ≡ old.pipes
-  pub core : new.core ≡ old.core
-  pub jobs : new.jobs ≡ old.jobs
-  pub frames : new.frames ≡ old.frames
-  pub consoles : new.consoles ≡ old.consoles
-  pub holders : new.holders ≡ old.holders
-  pub files : new.files ≡ old.files
-  pub clock : new.clock ≡ old.clock
-  pub version : new.version ≡ old.version
-  pub alarms : new.alarms ≡ old.alarms
+  pub rest : contents new ≡ record (contents old) { symbols = new.symbols; rings = new.rings }
+  pub ringed : Ringed old → Ringed new
+
+pub record AlarmBecomes (old new : World) (s : ℕ) (a : Option (ℕ × ℕ)) : Type 0 where
+  pub alarms : Only (alarm_at old.alarms.items) (alarm_at new.alarms.items) s a
+  pub rest : contents new ≡ record (contents old) { alarms = new.alarms; rings = new.rings }
   pub ringed : Ringed old → Ringed new
 
 -- of the world only the version changes, and with it the limit of its jobs
 pub record VersionBecomes (old new : World) (v : ℕ) : Type 0 where
-  pub version : new.version ≡ v
   pub jobs : Same (job_at old.jobs) (job_at new.jobs)
   pub superiors : new.jobs.superiors ≡ old.jobs.superiors
-  pub core : new.core ≡ old.core
-  pub frames : new.frames ≡ old.frames
-  pub consoles : new.consoles ≡ old.consoles
-  pub holders : new.holders ≡ old.holders
-  pub files : new.files ≡ old.files
-  pub clock : new.clock ≡ old.clock
-  pub symbols : new.symbols ≡ old.symbols
-  pub pipes : new.pipes ≡ old.pipes
-  pub alarms : new.alarms ≡ old.alarms
+  pub rest : contents new ≡ record (contents old) { version = v; jobs = new.jobs; rings = new.rings }
   pub ringed : Ringed old → Ringed new
 
 -- a console at which a byte was typed, if it has room, and one that a byte was drained from
@@ -211,18 +155,3 @@ typed_at b x = record x { input = take most_waiting (x.input ++ b ∷ []) }
 
 abbrev pub drained_at : Console → Console
 drained_at x = record x { output = drop 1 x.output }
-
--- of the world only the alarm of slot s changes
-pub record AlarmBecomes (old new : World) (s : ℕ) (a : Option (ℕ × ℕ)) : Type 0 where
-  pub alarms : Only (alarm_at old.alarms.items) (alarm_at new.alarms.items) s a
-  pub core : new.core ≡ old.core
-  pub jobs : new.jobs ≡ old.jobs
-  pub frames : new.frames ≡ old.frames
-  pub consoles : new.consoles ≡ old.consoles
-  pub holders : new.holders ≡ old.holders
-  pub files : new.files ≡ old.files
-  pub clock : new.clock ≡ old.clock
-  pub version : new.version ≡ old.version
-  pub symbols : new.symbols ≡ old.symbols
-  pub pipes : new.pipes ≡ old.pipes
-  pub ringed : Ringed old → Ringed new

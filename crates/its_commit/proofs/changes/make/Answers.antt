@@ -15,17 +15,7 @@ returns-clause-row c =
     (record {
       job = c.in-Ok.ensures.job;
       superior = rw c.number.ensures.value at c.in-Ok.ensures.superior;
-      core = refl;
-      frames = refl;
-      consoles = refl;
-      holders = refl;
-      files = refl;
-      clock = refl;
-      rings = refl;
-      alarms = refl;
-      version = refl;
-      symbols = refl;
-      pipes = refl;
+      rest = refl;
     })
     c.in-Ok.ensures.slot c.requires.tidy c.args.slot c.requires.free c.console_of-console.ensures
 
@@ -35,16 +25,6 @@ returns-clause-tidy c =
     (record {
       job = c.in-Ok.ensures.job;
       superior = rw c.number.ensures.value at c.in-Ok.ensures.superior;
-      core = refl;
-      frames = refl;
-      consoles = refl;
-      holders = refl;
-      files = refl;
-      clock = refl;
-      rings = refl;
-      alarms = refl;
-      version = refl;
-      symbols = refl;
-      pipes = refl;
+      rest = refl;
     })
     c.in-Ok.ensures.slot c.requires.tidy

@@ -4,7 +4,7 @@ use Rattle.its_commit.proofs.TidyLaws.{tidy_core}
 use Rattle.its_tick.proofs.users.run_delivery.Goals as goal
 
 pub returns-clause-core : goal.returns-clause-core
-returns-clause-core c = core_becomes _ _ _ _ c.deliver.ensures.core c.deliver.ensures.reserved c.deliver.ensures.frames refl refl refl refl refl refl refl refl refl refl refl
+returns-clause-core c = core_becomes _ _ _ _ c.deliver.ensures.core c.deliver.ensures.reserved c.deliver.ensures.frames refl
 
 pub returns-clause-tidy : goal.returns-clause-tidy
-returns-clause-tidy c = tidy_core _ _ _ _ _ _ c.requires.some (core_becomes _ _ _ _ c.deliver.ensures.core c.deliver.ensures.reserved c.deliver.ensures.frames refl refl refl refl refl refl refl refl refl refl refl) c.requires.tidy
+returns-clause-tidy c = tidy_core _ _ _ _ _ _ c.requires.some (core_becomes _ _ _ _ c.deliver.ensures.core c.deliver.ensures.reserved c.deliver.ensures.frames refl) c.requires.tidy

@@ -1,5 +1,5 @@
 use Rattle.std.proofs.Common.{refl, sym, arith}
-use Rattle.its_direct.proofs.FileLaws.{added_room, added_row, added_tidy}
+use Rattle.its_direct.proofs.FileLaws.{added_room, added_row, added_tidy, store_becomes}
 use Rattle.its_direct.proofs.plain.Plain.add_word.Goals as goal
 
 pub returns-clause-row : goal.returns-clause-row
@@ -7,7 +7,7 @@ returns-clause-row c =
     let h = c.in-Ok.ensures in
     let b = c.seen.ensures.blocks in
     added_row c.args.self.now c.seen.ensures.whole c.requires.tidy c.args.id c.requires.file (omega arith) _ c.args.w
-    (record { files = h.ok; core = refl; jobs = refl; consoles = refl; holders = refl; clock = refl; alarms = refl; version = refl; symbols = refl; pipes = refl; place = refl; touched = refl }) h.entry h.words (h.file c.requires.file)
+    (store_becomes c.args.self.now _ _ h.ok refl) h.entry h.words (h.file c.requires.file)
     (sym h.full)
 
 pub returns-clause-tidy : goal.returns-clause-tidy
@@ -15,7 +15,7 @@ returns-clause-tidy c =
     let h = c.in-Ok.ensures in
     let b = c.seen.ensures.blocks in
     added_tidy c.args.self.now c.seen.ensures.whole c.requires.tidy c.args.id c.requires.file (omega arith) _ c.args.w
-    (record { files = h.ok; core = refl; jobs = refl; consoles = refl; holders = refl; clock = refl; alarms = refl; version = refl; symbols = refl; pipes = refl; place = refl; touched = refl }) h.entry h.words (h.file c.requires.file)
+    (store_becomes c.args.self.now _ _ h.ok refl) h.entry h.words (h.file c.requires.file)
 
 pub unreachable-requires : goal.unreachable-requires
 unreachable-requires c =

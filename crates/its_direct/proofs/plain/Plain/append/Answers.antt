@@ -25,7 +25,7 @@ returns-in-Ok c =
     let p = c.args.self.now in
     let e = c.in-Ok.ensures in
     let stands = writing_stands p.files p.jobs c.requires.tidy.across c.args.slot c.args.n c.in-Writing.draft (sym c.in-Writing.ensures) in
-    let k = append_comes p _ c.args.slot c.args.n c.within.ensures c.requires.channel c.requires.tidy c.append.new.self c.in-Writing.draft c.args.word c.in-Writing.ensures e.ok (e.draft stands.draft) e.entry e.words (record { core = refl; jobs = refl; consoles = refl; holders = refl; files = refl; clock = refl; alarms = refl; version = refl; symbols = refl; pipes = refl; place = refl; touched = refl }) in
+    let k = append_comes p _ c.args.slot c.args.n c.within.ensures c.requires.channel c.requires.tidy c.append.new.self c.in-Writing.draft c.args.word c.in-Writing.ensures e.ok (e.draft stands.draft) e.entry e.words (record { is = refl }) in
     record { row = k.row; tidy = k.tidy }
 
 pub returns-in_default : goal.returns-in_default

@@ -18,7 +18,7 @@ pub returns-in-Ok : goal.returns-in-Ok
 returns-in-Ok c =
     let e = c.in-Ok.ensures in
     let h = c.help.ensures in
-    let b = store_first c.args.self.now _ _ c.args.slot c.args.n _ _ (record { core = refl; jobs = refl; consoles = refl; holders = refl; files = refl; clock = refl; alarms = refl; version = refl; symbols = refl; pipes = refl; place = refl; touched = refl }) c.set_channel.ensures in
+    let b = store_first c.args.self.now _ _ c.args.slot c.args.n _ _ (record { is = refl }) c.set_channel.ensures in
     let k = close_comes c.args.self.now c.set_channel.new.self c.args.slot c.args.n (rw c.number.ensures.value at c.number.ensures.below) c.requires.channel c.requires.tidy c.begin_close.new.self c.help.new.self c.in-Writing.draft b c.in-Writing.ensures (rw c.number.ensures.value at e.ok) e.plain e.entry e.words c.seen-in-Writing.ensures.whole h.made h.unmarked h.directory in
     record { row = k.row; tidy = k.tidy }
 

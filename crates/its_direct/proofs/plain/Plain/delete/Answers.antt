@@ -14,7 +14,7 @@ pub returns-in-Ok : goal.returns-in-Ok
 returns-in-Ok c =
     let e = c.in-Ok.ensures in
     let f = c.in-Some.ensures in
-    let k = delete_comes c.args.self.now _ c.requires.tidy c.args.d c.args.x c.args.y c.delete.new.self c.in-Some.file f.names f.file e.ok e.directory e.entry e.words (record { core = refl; jobs = refl; consoles = refl; holders = refl; files = refl; clock = refl; alarms = refl; version = refl; symbols = refl; pipes = refl; place = refl; touched = refl }) in
+    let k = delete_comes c.args.self.now _ c.requires.tidy c.args.d c.args.x c.args.y c.delete.new.self c.in-Some.file f.names f.file e.ok e.directory e.entry e.words (record { is = refl }) in
     record { row = k.row; tidy = k.tidy }
 
 pub returns-in_default : goal.returns-in_default

@@ -7,12 +7,12 @@ use Rattle.its_direct.proofs.plain.Plain.deliver.Goals as goal
 
 pub inform_superior-requires-clause-tidy : goal.inform_superior-requires-clause-tidy
 inform_superior-requires-clause-tidy c =
-    let a = core_becomes c.args.self.now _ _ _ c.deliver-stops.ensures.core c.deliver-stops.ensures.reserved refl (record { consoles = refl; holders = refl; files = refl; clock = refl; alarms = refl; version = refl; symbols = refl; pipes = refl; place = refl; touched = refl }) in
+    let a = core_becomes c.args.self.now _ _ _ c.deliver-stops.ensures.core c.deliver-stops.ensures.reserved refl (record { is = refl }) in
     delivery_tidy _ _ _ _ _ _ _ c.requires.job a c.put_job.ensures c.deliver-stops.ensures.job c.touch_none.ensures c.requires.tidy
 
 pub returns-then-stops-clause-row : goal.returns-then-stops-clause-row
 returns-then-stops-clause-row c =
-    let a = core_becomes c.args.self.now _ _ _ c.deliver-stops.ensures.core c.deliver-stops.ensures.reserved refl (record { consoles = refl; holders = refl; files = refl; clock = refl; alarms = refl; version = refl; symbols = refl; pipes = refl; place = refl; touched = refl }) in
+    let a = core_becomes c.args.self.now _ _ _ c.deliver-stops.ensures.core c.deliver-stops.ensures.reserved refl (record { is = refl }) in
     let b = c.put_job.ensures in
     let is = c.deliver-stops.ensures.job in
     let e = c.touch_none.ensures in
@@ -24,7 +24,7 @@ returns-then-stops-clause-row c =
 
 pub returns-else-stops-clause-row : goal.returns-else-stops-clause-row
 returns-else-stops-clause-row c =
-    let a = core_becomes c.args.self.now _ _ _ c.deliver-stops.ensures.core c.deliver-stops.ensures.reserved refl (record { consoles = refl; holders = refl; files = refl; clock = refl; alarms = refl; version = refl; symbols = refl; pipes = refl; place = refl; touched = refl }) in
+    let a = core_becomes c.args.self.now _ _ _ c.deliver-stops.ensures.core c.deliver-stops.ensures.reserved refl (record { is = refl }) in
     let b = c.put_job.ensures in
     let is = c.deliver-stops.ensures.job in
     let e = c.touch_none.ensures in
@@ -35,5 +35,5 @@ returns-else-stops-clause-row c =
 
 pub returns-else-stops-clause-tidy : goal.returns-else-stops-clause-tidy
 returns-else-stops-clause-tidy c =
-    let a = core_becomes c.args.self.now _ _ _ c.deliver-stops.ensures.core c.deliver-stops.ensures.reserved refl (record { consoles = refl; holders = refl; files = refl; clock = refl; alarms = refl; version = refl; symbols = refl; pipes = refl; place = refl; touched = refl }) in
+    let a = core_becomes c.args.self.now _ _ _ c.deliver-stops.ensures.core c.deliver-stops.ensures.reserved refl (record { is = refl }) in
     delivery_tidy _ _ _ _ _ _ _ c.requires.job a c.put_job.ensures c.deliver-stops.ensures.job c.touch_none.ensures c.requires.tidy

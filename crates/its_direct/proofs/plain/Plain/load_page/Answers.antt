@@ -3,4 +3,4 @@ use Rattle.its_direct.proofs.LoadedLaws.{page_becomes}
 use Rattle.its_direct.proofs.plain.Plain.load_page.Goals as goal
 
 pub returns : goal.returns
-returns c = page_becomes c.args.self.now _ _ _ c.lay_word.ensures.core c.lay_word.ensures.reserved refl (record { consoles = refl; holders = refl; files = refl; clock = refl; alarms = refl; version = refl; symbols = refl; pipes = refl; place = refl; touched = refl })
+returns c = page_becomes c.args.self.now _ _ _ c.lay_word.ensures.core c.lay_word.ensures.reserved refl (record { is = refl })

@@ -6,12 +6,12 @@ pub returns-in-Ok-clause-made : goal.returns-in-Ok-clause-made
 returns-in-Ok-clause-made c =
     rw c.new.ensures
     (made_machine c.args.self.now _ _ _ _ _ _ c.requires.tidy c.in-Ok.ensures.slot c.in-Ok.ensures.job c.in-Ok.ensures.superior refl
-    (record { consoles = refl; holders = refl; files = refl; clock = refl; alarms = refl; version = refl; symbols = refl; pipes = refl; place = refl; touched = refl }))
+    (record { is = refl }))
 
 pub returns-in-Ok-clause-tidy : goal.returns-in-Ok-clause-tidy
 returns-in-Ok-clause-tidy c =
     made_tidy c.args.self.now _ _ _ _ _ _ c.requires.tidy c.in-Ok.ensures.slot c.in-Ok.ensures.job c.in-Ok.ensures.superior refl
-    (record { consoles = refl; holders = refl; files = refl; clock = refl; alarms = refl; version = refl; symbols = refl; pipes = refl; place = refl; touched = refl })
+    (record { is = refl })
 
 pub returns-in-Ok-clause-slot : goal.returns-in-Ok-clause-slot
 returns-in-Ok-clause-slot c = rw c.new.ensures (least_is c.args.self.now ∙ c.in-Ok.ensures.slot)

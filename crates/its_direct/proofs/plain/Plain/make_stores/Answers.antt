@@ -4,4 +4,4 @@ use Rattle.its_direct.proofs.plain.Plain.make_stores.Goals as goal
 
 pub returns : goal.returns
 returns c = core_becomes c.args.self.now _ _ _ (rw c.number.ensures.value at c.make_all.ensures.stored) c.make_all.ensures.reserved refl
-    (record { consoles = refl; holders = refl; files = refl; clock = refl; alarms = refl; version = refl; symbols = refl; pipes = refl; place = refl; touched = refl })
+    (record { is = refl })

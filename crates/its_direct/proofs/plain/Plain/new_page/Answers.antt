@@ -7,4 +7,4 @@ map-requires-clause-absent c = rw c.number-number.ensures.value (absent_still _ 
 
 pub returns : goal.returns
 returns c = new_page_is c.args.self.now _ _ c.args.slot c.args.page c.requires.none c.reserve_clear.ensures.quarters c.reserve_clear.ensures.cores (rw c.number-number.ensures.value at c.in-Ok.ensures.mapped) (rw c.number-number.ensures.value at c.in-Ok.ensures.quarters) refl
-    (record { consoles = refl; holders = refl; files = refl; clock = refl; alarms = refl; version = refl; symbols = refl; pipes = refl; place = refl; touched = refl })
+    (record { is = refl })

@@ -12,6 +12,6 @@ draft-draft-requires-clause-few c =
 pub returns : goal.returns
 returns c =
     let e = c.draft-draft.ensures in
-    let b = store_first c.args.self.now _ _ c.args.slot c.args.n _ _ (record { core = refl; jobs = refl; consoles = refl; holders = refl; files = refl; clock = refl; alarms = refl; version = refl; symbols = refl; pipes = refl; place = refl; touched = refl }) c.set_channel.ensures in
+    let b = store_first c.args.self.now _ _ c.args.slot c.args.n _ _ (record { is = refl }) c.set_channel.ensures in
     let k = open_draft_comes c.args.self.now c.set_channel.new.self c.args.slot c.args.n c.within.ensures c.requires.channel c.requires.tidy c.draft-draft.new.self c.draft-draft.result c.args.d c.args.x c.args.y b c.requires.job c.requires.closed e.free e.made e.directory e.entry e.words in
     record { row = k.row; tidy = k.tidy }

@@ -13,7 +13,7 @@ pub returns-in-Some : goal.returns-in-Some
 returns-in-Some c =
     let e = c.open_read.ensures in
     let f = c.in-Some.ensures in
-    let b = store_first c.args.self.now _ _ c.args.slot c.args.n _ _ (record { core = refl; jobs = refl; consoles = refl; holders = refl; files = refl; clock = refl; alarms = refl; version = refl; symbols = refl; pipes = refl; place = refl; touched = refl }) c.set_channel.ensures in
+    let b = store_first c.args.self.now _ _ c.args.slot c.args.n _ _ (record { is = refl }) c.set_channel.ensures in
     let k = open_file_comes c.args.self.now c.set_channel.new.self c.args.slot c.args.n c.within.ensures c.requires.channel c.requires.tidy c.open_read.new.self c.in-Some.file c.args.d c.args.x c.args.y b c.requires.job c.requires.closed f.file f.names e.read e.directory e.entry e.words in
     record { row = k.row; tidy = k.tidy }
 

@@ -17,14 +17,14 @@ discard-requires c =
 pub returns-in-Reading : goal.returns-in-Reading
 returns-in-Reading c =
     let e = c.close_read.ensures in
-    let b = store_first c.args.self.now _ _ c.args.slot c.args.n _ _ (record { core = refl; jobs = refl; consoles = refl; holders = refl; files = refl; clock = refl; alarms = refl; version = refl; symbols = refl; pipes = refl; place = refl; touched = refl }) c.set_channel-in-Reading.ensures in
+    let b = store_first c.args.self.now _ _ c.args.slot c.args.n _ _ (record { is = refl }) c.set_channel-in-Reading.ensures in
     let k = shut_file_comes c.args.self.now c.set_channel-in-Reading.new.self c.args.slot c.args.n c.within.ensures c.requires.channel c.requires.tidy c.close_read.new.self c.in-Reading.file c.in-Reading.at b c.in-Reading.ensures e.read e.directory e.entry e.words in
     record { row = k.row; superiors = b.jobs.superiors; tidy = k.tidy }
 
 pub returns-in-Writing : goal.returns-in-Writing
 returns-in-Writing c =
     let e = c.discard.ensures in
-    let b = store_first c.args.self.now _ _ c.args.slot c.args.n _ _ (record { core = refl; jobs = refl; consoles = refl; holders = refl; files = refl; clock = refl; alarms = refl; version = refl; symbols = refl; pipes = refl; place = refl; touched = refl }) c.set_channel.ensures in
+    let b = store_first c.args.self.now _ _ c.args.slot c.args.n _ _ (record { is = refl }) c.set_channel.ensures in
     let k = shut_draft_comes c.args.self.now c.set_channel.new.self c.args.slot c.args.n c.within.ensures c.requires.channel c.requires.tidy c.discard.new.self c.in-Writing.draft b c.in-Writing.ensures e.dropped e.directory e.entry e.words in
     record { row = k.row; superiors = b.jobs.superiors; tidy = k.tidy }
 

@@ -1,5 +1,5 @@
 use Rattle.std.proofs.Common.{refl}
-use Rattle.its_direct.proofs.RemovalLaws.{removes, stripped_row, stripped_tidy}
+use Rattle.its_direct.proofs.RemovalLaws.{stripped_row, stripped_tidy}
 use Rattle.its_direct.proofs.plain.Plain.strip.Goals as goal
 
 pub returns-clause-row : goal.returns-clause-row
@@ -7,11 +7,11 @@ returns-clause-row c =
     let r = c.requires in
     let t = c.remove_tree.ensures in
     stripped_row c.args.self.now c.sweep.new.self _ c.args.root (rw c.number-number.ensures.value at c.number-number.ensures.below) c.tree.ensures r.closed r.tidy
-    (removes c.args.self.now c.sweep.new.self _ c.args.root c.sweep.ensures (rw c.number-number.ensures.value at t.job) (rw c.number-number.ensures.value at t.superior) (rw c.number-number.ensures.value at c.pass_on.ensures) refl refl refl refl refl refl refl (rw c.number-number.ensures.value at c.leave_links.ensures) refl refl)
+    (record { swept = c.sweep.ensures; jobs = rw c.number-number.ensures.value at t.job; superiors = rw c.number-number.ensures.value at t.superior; holders = rw c.number-number.ensures.value at c.pass_on.ensures; links = rw c.number-number.ensures.value at c.leave_links.ensures; rest = refl })
 
 pub returns-clause-tidy : goal.returns-clause-tidy
 returns-clause-tidy c =
     let r = c.requires in
     let t = c.remove_tree.ensures in
     stripped_tidy c.args.self.now c.sweep.new.self _ c.args.root (rw c.number-number.ensures.value at c.number-number.ensures.below) c.tree.ensures r.closed r.tidy
-    (removes c.args.self.now c.sweep.new.self _ c.args.root c.sweep.ensures (rw c.number-number.ensures.value at t.job) (rw c.number-number.ensures.value at t.superior) (rw c.number-number.ensures.value at c.pass_on.ensures) refl refl refl refl refl refl refl (rw c.number-number.ensures.value at c.leave_links.ensures) refl refl)
+    (record { swept = c.sweep.ensures; jobs = rw c.number-number.ensures.value at t.job; superiors = rw c.number-number.ensures.value at t.superior; holders = rw c.number-number.ensures.value at c.pass_on.ensures; links = rw c.number-number.ensures.value at c.leave_links.ensures; rest = refl })

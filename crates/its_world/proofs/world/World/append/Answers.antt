@@ -29,7 +29,7 @@ returns-in-Ok c =
     let e = c.in-Ok.ensures in
     let stands = writing_stands w.files w.jobs r.tidy.across c.args.slot c.args.n c.in-Writing.draft (sym c.in-Writing.ensures) in
     let k = append_comes w _ c.args.slot c.args.n c.within.ensures r.channel r.tidy c.append.new.self c.in-Writing.draft c.args.word c.in-Writing.ensures r.unmarked e.ok (e.draft stands.draft) e.entry e.words
-    (record { core = refl; jobs = refl; frames = refl; consoles = refl; holders = refl; clock = refl; version = refl; symbols = refl; pipes = refl; alarms = refl; files = refl; rings = refl }) in
+    (record { is = refl }) in
     record { row = k.row; tidy = k.tidy; pages = refl }
 
 pub returns-in_default : goal.returns-in_default

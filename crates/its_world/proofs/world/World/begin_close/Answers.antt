@@ -20,7 +20,7 @@ pub returns-in-Ok : goal.returns-in-Ok
 returns-in-Ok c =
     let r = c.requires in
     let e = c.in-Ok.ensures in
-    let b = store_first c.args.self.now _ _ _ _ _ _ (record { core = refl; jobs = refl; frames = refl; consoles = refl; holders = refl; clock = refl; version = refl; symbols = refl; pipes = refl; alarms = refl; files = refl; rings = refl }) c.set_channel.ensures in
+    let b = store_first c.args.self.now _ _ _ _ _ _ (record { is = refl }) c.set_channel.ensures in
     let k = begin_close_comes c.args.self.now c.set_channel.new.self c.args.slot c.args.n (rw c.number.ensures.value at c.number.ensures.below) r.channel r.tidy c.begin_close.new.self c.in-Writing.draft b c.in-Writing.ensures r.unmarked (rw c.number.ensures.value at e.ok) e.directory e.entry e.words in
     record { row = k.row; tidy = k.tidy; pages = c.set_channel.ensures.pages }
 

@@ -7,4 +7,4 @@ pub put-requires-clause-place : goal.put-requires-clause-place
 put-requires-clause-place c = place_lists c.args.self.now c.args.slot _ c.wait_list_of-place.ensures
 
 pub returns : goal.returns
-returns c = refiled c.args.self.now _ c.args.slot _ (record { core = refl; jobs = refl; frames = refl; consoles = refl; holders = refl; files = refl; clock = refl; version = refl; symbols = refl; pipes = refl; alarms = refl }) c.wait_list_of-place.ensures c.put.ensures
+returns c = refiled c.args.self.now _ c.args.slot _ (record { is = refl }) c.wait_list_of-place.ensures c.put.ensures

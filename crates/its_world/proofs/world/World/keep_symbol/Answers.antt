@@ -15,15 +15,6 @@ returns c =
     list_gains lists c.args.slot c.index.result c.index_mut.result.now c.push.new.self (c.args.name, c.args.a) (omega arith) c.index.ensures.value c.index_mut.ensures.value c.push.ensures.items in
     record {
       symbols = search;
-      pipes = refl;
-      core = refl;
-      jobs = refl;
-      frames = refl;
-      consoles = refl;
-      holders = refl;
-      files = refl;
-      clock = refl;
-      version = refl;
-      alarms = refl;
-      ringed = ringed_alike c.args.self.now _ refl refl refl refl refl refl refl;
+      rest = refl;
+      ringed = ringed_alike c.args.self.now _ refl refl refl refl;
     }

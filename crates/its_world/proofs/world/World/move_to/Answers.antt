@@ -14,7 +14,7 @@ seek-requires c =
 pub returns-in-Reading : goal.returns-in-Reading
 returns-in-Reading c =
     let r = c.requires in
-    let b = store_first c.args.self.now _ _ _ _ _ _ (record { core = refl; jobs = refl; frames = refl; consoles = refl; holders = refl; clock = refl; version = refl; symbols = refl; pipes = refl; alarms = refl; files = refl; rings = refl }) c.set_channel.ensures in
+    let b = store_first c.args.self.now _ _ _ _ _ _ (record { is = refl }) c.set_channel.ensures in
     let k = move_file_comes c.args.self.now c.set_channel.new.self c.args.slot c.args.n c.within.ensures r.channel r.tidy c.seek.new.self c.in-Reading.file c.in-Reading.at c.args.at b c.in-Reading.ensures c.seek.ensures in
     record { row = k.row; tidy = k.tidy; pages = c.set_channel.ensures.pages }
 

@@ -17,6 +17,6 @@ pub returns : goal.returns
 returns c =
     let r = c.requires in
     let e = c.draft-draft.ensures in
-    let b = store_first c.args.self.now _ _ _ _ _ _ (record { core = refl; jobs = refl; frames = refl; consoles = refl; holders = refl; clock = refl; version = refl; symbols = refl; pipes = refl; alarms = refl; files = refl; rings = refl }) c.set_channel.ensures in
+    let b = store_first c.args.self.now _ _ _ _ _ _ (record { is = refl }) c.set_channel.ensures in
     let k = open_draft_comes c.args.self.now c.set_channel.new.self c.args.slot c.args.n c.within.ensures r.channel r.tidy c.draft-draft.new.self c.draft-draft.result c.args.d c.args.x c.args.y b r.job r.closed r.unmarked e.free e.made e.directory e.entry e.words in
     record { row = k.row; tidy = k.tidy; pages = c.set_channel.ensures.pages }

@@ -21,7 +21,7 @@ returns-in-Ok c =
     let e = c.in-Ok.ensures in
     let f = c.in-Some.ensures in
     let k = rename_comes c.args.self.now _ r.tidy c.args.d c.args.x c.args.y r.unmarked c.rename.new.self c.in-Some.file c.args.new_x c.args.new_y (sym f.found) c.seen.ensures.whole f.file e.ok e.directory e.entry e.words
-    (record { core = refl; jobs = refl; frames = refl; consoles = refl; holders = refl; clock = refl; version = refl; symbols = refl; pipes = refl; alarms = refl; files = refl; rings = refl }) in
+    (record { is = refl }) in
     record { row = λ j. (k j).row; tidy = (k 0).tidy; pages = refl }
 
 pub returns-in_default : goal.returns-in_default

@@ -19,7 +19,7 @@ pub returns-in-Reading : goal.returns-in-Reading
 returns-in-Reading c =
     let r = c.requires in
     let e = c.close_read.ensures in
-    let b = store_first c.args.self.now _ _ _ _ _ _ (record { core = refl; jobs = refl; frames = refl; consoles = refl; holders = refl; clock = refl; version = refl; symbols = refl; pipes = refl; alarms = refl; files = refl; rings = refl }) c.set_channel.ensures in
+    let b = store_first c.args.self.now _ _ _ _ _ _ (record { is = refl }) c.set_channel.ensures in
     let k = shut_file_comes c.args.self.now c.set_channel.new.self c.args.slot c.args.n c.within.ensures r.channel r.tidy c.close_read.new.self c.in-Reading.file c.in-Reading.at b c.in-Reading.ensures e.read e.directory e.entry e.words in
     record { row = k.row; tidy = k.tidy; pages = c.set_channel.ensures.pages }
 
@@ -27,7 +27,7 @@ pub returns-in-Writing : goal.returns-in-Writing
 returns-in-Writing c =
     let r = c.requires in
     let e = c.discard.ensures in
-    let b = store_first c.args.self.now _ _ _ _ _ _ (record { core = refl; jobs = refl; frames = refl; consoles = refl; holders = refl; clock = refl; version = refl; symbols = refl; pipes = refl; alarms = refl; files = refl; rings = refl }) c.set_channel-in-Writing.ensures in
+    let b = store_first c.args.self.now _ _ _ _ _ _ (record { is = refl }) c.set_channel-in-Writing.ensures in
     let k = shut_draft_comes c.args.self.now c.set_channel-in-Writing.new.self c.args.slot c.args.n c.within.ensures r.channel r.tidy c.discard.new.self c.in-Writing.draft b c.in-Writing.ensures e.dropped e.directory e.entry e.words in
     record { row = k.row; tidy = k.tidy; pages = c.set_channel-in-Writing.ensures.pages }
 
