@@ -85,8 +85,10 @@ class Judged(unittest.TestCase):
         names = [row.name for row in self.rows()]
         for name in names:
             self.assertIn("| %s |" % name, page.replace("`", ""))
-        self.assertEqual(set(BENCH.most_against(page).values()), {1.2})
-        self.assertLessEqual(set(BENCH.most_against(page)), set(names))
+        limits = BENCH.most_against(page)
+        self.assertEqual(set(limits), set(names))
+        for name, limit in limits.items():
+            self.assertLessEqual(limit, 1.2 if name.startswith(("TICK in", "SIOT")) else 1.6, name)
 
     def test_sessions(self):
         for row in self.rows():

@@ -1,3 +1,5 @@
+pub mod ApartLaws
+pub mod SiotLaws
 pub mod FileLaws
 pub mod InferiorLaws
 pub mod PageLaws

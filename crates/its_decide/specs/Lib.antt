@@ -5,3 +5,4 @@ pub mod Directory
 pub mod Targets
 pub mod Reach
 pub mod Moving
+pub mod Apart

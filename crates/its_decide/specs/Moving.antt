@@ -9,9 +9,22 @@ use Rattle.its_plain.specs.View.{View}
 use Rattle.its_decide.specs.declared.moving.Halt.{Halt}
 use Rattle.its_decide.specs.declared.moving.Halt.TheVariants as halts
 use Rattle.its_decide.specs.declared.moving.Moved.{Moved}
+use Rattle.its_decide.specs.declared.moving.Shift.{Shift}
+use Rattle.its_decide.specs.declared.moving.Shift.TheVariants as shifts
+use Rattle.its_frame.specs.declared.change.Change.{Change}
+use Rattle.its_frame.specs.declared.change.Change.TheVariants as changes
+
+-- the change of a part
+abbrev pub change_of : Shift → Change
+change_of (shifts.Move n at) = changes.Move n at
+change_of (shifts.Append n w) = changes.Append n w
+change_of (shifts.Take c) = changes.Take c
+change_of (shifts.Put c b) = changes.Put c b
+change_of (shifts.Send l w) = changes.Send l w
+change_of (shifts.Receive l) = changes.Receive l
 
 abbrev pub moving : Moved → Decision
-moving m = goes (m.change ∷ []) m.held (m.next ∷ m.left ∷ [])
+moving m = goes (change_of m.shift ∷ []) m.held (m.next ∷ m.left ∷ [])
 
 abbrev pub halted : View → Ask → Halt → Decision
 halted v a (halts.Error n) = fails v a n

@@ -18,6 +18,7 @@ const ONES: u64 = 0o777777777777;
 
 impl Caller<'_> {
     /// The value of an input; 0 if there is none.
+    #[inline(always)]
     pub(crate) fn input(&self, k: usize) -> Word
         ensures { result ≡ input self.now.ask.now k }
     {
@@ -25,6 +26,7 @@ impl Caller<'_> {
     }
 
     /// The address of the word of an input; None if it is immediate or there is none.
+    #[inline(always)]
     pub(crate) fn place(&self, k: usize) -> Option<u32>
         ensures { result ≡ place_of_input self.now.ask.now k }
     {
@@ -42,6 +44,7 @@ impl Caller<'_> {
     }
 
     /// What a channel is on; one of a number above 17 (octal) is closed.
+    #[inline(always)]
     pub(crate) fn channel(&self, number: Word) -> Channel
         ensures { result ≡ channel_under self.now.job.now number }
     {
@@ -49,6 +52,7 @@ impl Caller<'_> {
     }
 
     /// Whether the word of an input is none of its own: it is immediate, or a decode word, or that of another argument.
+    #[inline(always)]
     #[tactic(auto, unfolding(its_plain::specs::Footprint::is_shared, its_plain::specs::Footprint::times))]
     pub(crate) fn is_shared(&self, k: usize) -> bool
         ensures { result ≡ shared_place self.now.ask.now (place_of_input self.now.ask.now k) }
@@ -63,6 +67,7 @@ impl Caller<'_> {
     }
 
     /// Whether the word of an input is there and cannot be stored.
+    #[inline(always)]
     pub(crate) fn is_read_only(&self, k: usize) -> bool
         ensures { result ≡ read_only (core_at self.now.seen.now.core.now self.now.slot) (place_of_input self.now.ask.now k) }
     {
@@ -73,6 +78,7 @@ impl Caller<'_> {
     }
 
     /// Whether a place is that of a decode word, or of the word of an input or of the control argument.
+    #[inline(always)]
     #[tactic(auto, unfolding(its_plain::specs::Footprint::in_footprint))]
     pub(crate) fn is_used(&self, place: u32) -> bool
         ensures { result ≡ in_footprint place self.now.ask.now }
@@ -82,6 +88,7 @@ impl Caller<'_> {
 }
 
 /// The value of an input; 0 if there is none.
+#[inline(always)]
 pub(crate) fn input(ask: &Ask, k: usize) -> Word
     ensures { result ≡ input ask.now k }
 {
@@ -92,6 +99,7 @@ pub(crate) fn input(ask: &Ask, k: usize) -> Word
 }
 
 /// What a job's channel is on; one of a number above 17 (octal) is closed.
+#[inline(always)]
 pub(crate) fn channel(job: &Job, number: Word) -> Channel
     ensures { result ≡ channel_under job.now number }
 {
@@ -102,6 +110,7 @@ pub(crate) fn channel(job: &Job, number: Word) -> Channel
 }
 
 /// Whether an argument names the caller itself.
+#[inline(always)]
 pub(crate) fn is_oneself(party: Word) -> bool
     ensures { result ≡ is_oneself party }
 {
@@ -109,6 +118,7 @@ pub(crate) fn is_oneself(party: Word) -> bool
 }
 
 /// Whether a place is among some.
+#[inline(always)]
 fn among(place: u32, places: &[u32]) -> bool
     ensures { result ≡ among place places.now }
 {

@@ -7,7 +7,7 @@ ghost use Rattle.its_jobs.specs.Table.{job_at};
 ghost use Rattle.its_plain.specs.Arguments.{input};
 ghost use Rattle.its_plain.specs.CallDevice.{close_call, iot_call, open_call, siot_call};
 ghost use Rattle.its_plain.specs.CallStep.{decision};
-ghost use Rattle.its_plain.specs.Decide.{call_named, decided, target};
+ghost use Rattle.its_plain.specs.Decide.{call_named, decided, reached_by, target};
 ghost use Rattle.its_plain.specs.OperatorClock.{clock_end};
 ghost use Rattle.its_plain.specs.Own.{with_advance, exit_of};
 ghost use Rattle.its_decide.specs.Called.{looks};
@@ -20,7 +20,7 @@ use super::directory::DSK;
 use super::links::LNK;
 use its_frame::{CallName, Change, Decision, Wait, error};
 use its_records::{Ask, Channel, Job};
-use its_word::Slot;
+use its_word::{Slot, Word};
 
 /// The device of jobs, in SIXBIT.
 const USR: u64 = 0o656362000000;
@@ -45,6 +45,7 @@ pub fn decide(seen: &Seen<'_>, slot: Slot, job: &Job, ask: &Ask) -> Decision
 }
 
 /// The slot of the job into which the call of a slot's job reaches, through an open channel on it.
+#[inline(always)]
 #[tactic(auto, using(its_machine::proofs::NumberLaws::under), unfolding(its_plain::specs::Decide::target))]
 pub(crate) fn target(seen: &Seen<'_>, slot: Slot, job: &Job, ask: &Ask) -> Option<u8>
     ensures { result ≡ target (raw_with seen.now slot job.now) ask.now }
@@ -59,6 +60,21 @@ pub(crate) fn target(seen: &Seen<'_>, slot: Slot, job: &Job, ask: &Ask) -> Optio
         },
         None => return None,
     };
+    if is_oneself(number) {
+        return None;
+    }
+    match channel(job, number) {
+        Channel::Usr { slot: inferior, .. } => Some(inferior),
+        _ => None,
+    }
+}
+
+/// The slot of the job that a channel is on, if its number does not name the caller itself.
+#[inline(always)]
+#[tactic(auto, using(its_machine::proofs::NumberLaws::under))]
+pub(crate) fn reached(seen: &Seen<'_>, slot: Slot, job: &Job, number: Word) -> Option<u8>
+    ensures { result ≡ reached_by (raw_with seen.now slot job.now) number }
+{
     if is_oneself(number) {
         return None;
     }
@@ -167,6 +183,7 @@ impl Caller<'_> {
     }
 
     /// SIOT by what the channel is on. Error 4.
+    #[inline(never)]
     #[tactic(auto, using(its_machine::proofs::NumberLaws::under), unfolding(its_plain::specs::CallDevice::siot_call, its_plain::specs::View::view))]
     fn siot(&self) -> Decision
         requires fail { self.now.ask.now.fail ≡ 0 }

@@ -11,7 +11,7 @@ ghost use Rattle.its_decide.specs.Moving.{outcome};
 use super::arguments::is_oneself;
 use super::caller::Caller;
 use super::ends::{ends, store_at};
-use super::moving::{Halt, Moved, one_moved};
+use super::moving::{Halt, Moved, Shift, one_moved};
 use arrayvec::ArrayVec;
 use its_bytes::load;
 use its_frame::{Change, Decision, Held, Opened, Wait, error};
@@ -29,6 +29,7 @@ const SHOWN: u64 = 0o177;
 
 impl Caller<'_> {
     /// The number of the caller's console. A channel on a console is opened only if its job has one.
+    #[inline(always)]
     fn console(&self) -> u8
         ensures { result ≡ unwrap_or self.now.job.now.console 0 }
     {
@@ -36,6 +37,7 @@ impl Caller<'_> {
     }
 
     /// The numbers of bytes that wait at the caller's console, as input and as output.
+    #[inline(always)]
     #[tactic(auto, unfolding(its_plain::specs::View::view))]
     fn waiting(&self) -> (u32, u32)
         ensures input { result.0 ≡ length ((looks self.now).consoles (view_console (looks self.now))).input }
@@ -48,6 +50,7 @@ impl Caller<'_> {
     }
 
     /// The first byte of its input; 0 if there is none.
+    #[inline(always)]
     #[tactic(auto, unfolding(its_plain::specs::View::view))]
     fn first_typed(&self) -> Word
         ensures { result ≡ first_typed (looks self.now) (view_console (looks self.now)) }
@@ -60,6 +63,7 @@ impl Caller<'_> {
     }
 
     /// Who holds it.
+    #[inline(always)]
     #[tactic(auto, unfolding(its_plain::specs::View::view))]
     fn holder(&self) -> Option<u8>
         ensures { result ≡ (looks self.now).holders (view_console (looks self.now)) }
@@ -72,6 +76,7 @@ impl Caller<'_> {
     }
 
     /// Whether another job holds it.
+    #[inline(always)]
     #[tactic(auto, unfolding(its_plain::specs::View::view))]
     fn is_other(&self) -> bool
         ensures { result ≡ is_other self.now.slot ((looks self.now).holders (view_console (looks self.now))) }
@@ -83,6 +88,7 @@ impl Caller<'_> {
     }
 
     /// Whether it gives the caller no byte.
+    #[inline(always)]
     #[tactic(auto, unfolding(its_plain::specs::View::view))]
     fn input_waits(&self) -> bool
         ensures { result ≡ input_waits (looks self.now) (view_console (looks self.now)) }
@@ -91,6 +97,7 @@ impl Caller<'_> {
     }
 
     /// Whether it takes no byte of the caller.
+    #[inline(always)]
     #[tactic(auto, unfolding(its_plain::specs::View::view))]
     fn output_waits(&self) -> bool
         ensures { result ≡ output_waits (looks self.now) (view_console (looks self.now)) }
@@ -276,6 +283,7 @@ impl Caller<'_> {
     }
 
     /// SIOT from a console: one byte, which is held and stored by the next step; pointer and count become those of the rest.
+    #[inline(always)]
     pub(crate) fn siot_in(&self) -> Result<Moved, Halt>
         ensures { outcome (looks self.now) self.now.ask.now result ≡ siot_by (looks self.now) self.now.ask.now false false (siot_in (looks self.now) self.now.ask.now (next_pointer (input self.now.ask.now 1)) (input self.now.ask.now 2) (view_console (looks self.now))) }
     {
@@ -286,6 +294,7 @@ impl Caller<'_> {
     }
 
     /// The byte of the next pointer comes from a console.
+    #[inline(always)]
     #[tactic(auto, unfolding(its_plain::specs::View::view))]
     fn takes_byte(&self, next: Word) -> Result<Moved, Halt>
         ensures { outcome (looks self.now) self.now.ask.now result ≡ siot_in (looks self.now) self.now.ask.now next (input self.now.ask.now 2) (view_console (looks self.now)) }
@@ -302,10 +311,11 @@ impl Caller<'_> {
             place,
             byte: self.first_typed(),
         };
-        Ok(one_moved(Change::Take { console }, Some(held), next, self.input(2)))
+        Ok(one_moved(Shift::Take { console }, Some(held), next, self.input(2)))
     }
 
     /// SIOT to a console: one byte; pointer and count become those of the rest.
+    #[inline(always)]
     pub(crate) fn siot_out(&self) -> Result<Moved, Halt>
         ensures { outcome (looks self.now) self.now.ask.now result ≡ siot_by (looks self.now) self.now.ask.now false false (siot_out (looks self.now) self.now.ask.now (next_pointer (input self.now.ask.now 1)) (input self.now.ask.now 2) (view_console (looks self.now))) }
     {
@@ -316,6 +326,7 @@ impl Caller<'_> {
     }
 
     /// The byte of the next pointer goes to a console.
+    #[inline(always)]
     #[tactic(auto, unfolding(its_plain::specs::View::view))]
     fn puts_byte(&self, next: Word) -> Result<Moved, Halt>
         requires { has_size next ≡ true }
@@ -329,11 +340,12 @@ impl Caller<'_> {
             return Err(Halt::Later(Wait::Output(console)));
         }
         let byte = shown(Word::new(load(next, word)));
-        Ok(one_moved(Change::Put { console, byte }, None, next, self.input(2)))
+        Ok(one_moved(Shift::Put { console, byte }, None, next, self.input(2)))
     }
 }
 
 /// What a console shows of a byte.
+#[inline(always)]
 fn shown(word: Word) -> u8
     ensures { result ≡ shown_byte word }
 {

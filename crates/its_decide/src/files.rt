@@ -12,11 +12,12 @@ ghost use Rattle.its_records.specs.declared.jobs.Channel.TheVariants.{Reading, W
 ghost use Rattle.its_machine.specs.Called.{channel_under};
 ghost use Rattle.its_decide.specs.Called.{looks};
 ghost use Rattle.its_decide.specs.Moving.{outcome};
+ghost use Rattle.its_decide.specs.declared.moving.Shift.TheVariants.{Append as ShiftBy};
 ghost use Rattle.its_decide.specs.Fits.{SeenFits};
 
 use super::caller::Caller;
 use super::ends::ends;
-use super::moving::{Halt, Moved, one_moved};
+use super::moving::{Halt, Moved, Shift, one_moved};
 use super::words::END_OF_FILE;
 use arrayvec::ArrayVec;
 use its_bytes::load;
@@ -153,6 +154,7 @@ impl Caller<'_> {
     }
 
     /// SIOT from a file: the word at its position is held, and stored by the next step.
+    #[inline(always)]
     #[tactic(auto, using(crate::proofs::FileLaws::reading), unfolding(its_plain::specs::View::view))]
     pub(crate) fn siot_reads(&self, file: u32, at: u32) -> Result<Moved, Halt>
         requires on { channel_under self.now.job.now (input self.now.ask.now 0) ≡ Reading file at }
@@ -167,6 +169,7 @@ impl Caller<'_> {
     }
 
     /// SIOT to a draft. Error 10 if there is no room.
+    #[inline(always)]
     #[tactic(auto, unfolding(its_plain::specs::View::view))]
     pub(crate) fn siot_writes(&self, draft: u32) -> Result<Moved, Halt>
         requires on { channel_under self.now.job.now (input self.now.ask.now 0) ≡ Writing draft }
@@ -180,6 +183,7 @@ impl Caller<'_> {
     }
 
     /// The same if no test of its arguments stops it.
+    #[inline(always)]
     #[tactic(auto, using(its_machine::proofs::StopLaws::loaded_fits, crate::proofs::FileLaws::writing, crate::proofs::FileLaws::seen_full, its_files::proofs::EntryLaws::draft_stands), unfolding(its_plain::specs::View::view))]
     fn siot_write(&self, next: Word, draft: u32) -> Result<Moved, Halt>
         requires on { channel_under self.now.job.now (input self.now.ask.now 0) ≡ Writing draft }
@@ -195,7 +199,7 @@ impl Caller<'_> {
             return Err(Halt::Error(error::DEVICE_FULL));
         }
         Ok(one_moved(
-            self.appends(Word::new(load(next, word))),
+            self.shifts_by(Word::new(load(next, word))),
             None,
             next,
             self.input(2),
@@ -208,6 +212,18 @@ impl Caller<'_> {
         ensures { result ≡ Append (input self.now.ask.now 0) word }
     {
         Change::Append {
+            channel: self.input(0).value() as u8,
+            word,
+        }
+    }
+
+    /// The same as what SIOT changes.
+    #[inline(always)]
+    fn shifts_by(&self, word: Word) -> Shift
+        requires { input self.now.ask.now 0 < 16 }
+        ensures { result ≡ ShiftBy (input self.now.ask.now 0) word }
+    {
+        Shift::Append {
             channel: self.input(0).value() as u8,
             word,
         }

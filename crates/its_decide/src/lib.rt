@@ -6,6 +6,7 @@
 //! (`Fits`), and `disturbed_by` says whom its commit disturbs: at most one job, or those of whom `disturbs` asks slot by slot.
 #![tactic(auto)]
 
+mod apart;
 mod arguments;
 mod basic;
 mod caller;
@@ -26,5 +27,5 @@ mod words;
 
 pub use caller::Seen;
 pub use choice::decide;
-pub use moving::{Moved, next_move};
+pub use moving::{Moved, Shift, change_of, next_move};
 pub use reach::{Disturbed, disturbed_by, disturbs};

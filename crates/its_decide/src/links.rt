@@ -13,7 +13,7 @@ ghost use Rattle.its_decide.specs.Moving.{outcome};
 
 use super::caller::Caller;
 use super::ends::ends;
-use super::moving::{Halt, Moved, one_moved};
+use super::moving::{Halt, Moved, Shift, one_moved};
 use super::words::END_OF_FILE;
 use arrayvec::ArrayVec;
 use its_bytes::load;
@@ -139,6 +139,7 @@ impl Caller<'_> {
     }
 
     /// SIOT from a link: its first word is held, and its low bits are stored by the next step. At its end the call finishes.
+    #[inline(always)]
     #[tactic(auto, unfolding(its_plain::specs::View::view))]
     pub(crate) fn siot_receives(&self, link: u8) -> Result<Moved, Halt>
         ensures { outcome (looks self.now) self.now.ask.now result ≡ siot_receives (looks self.now) self.now.ask.now link }
@@ -150,6 +151,7 @@ impl Caller<'_> {
     }
 
     /// The byte of the next pointer comes from a link.
+    #[inline(always)]
     #[tactic(auto, unfolding(its_plain::specs::View::view))]
     fn siot_receive(&self, next: Word, link: u8) -> Result<Moved, Halt>
         ensures { outcome (looks self.now) self.now.ask.now result ≡ siot_receive (looks self.now) next (input self.now.ask.now 2) link }
@@ -163,10 +165,11 @@ impl Caller<'_> {
         }
         let byte = self.seen.pipes.first_word(link).unwrap_or(Word::ZERO);
         let held = Held { place, byte };
-        Ok(one_moved(Change::Receive { link }, Some(held), next, self.input(2)))
+        Ok(one_moved(Shift::Receive { link }, Some(held), next, self.input(2)))
     }
 
     /// SIOT to a link: the byte becomes a word, which is sent. Error 26 if the reading end is closed.
+    #[inline(always)]
     #[tactic(auto, unfolding(its_plain::specs::View::view))]
     pub(crate) fn siot_sends(&self, link: u8) -> Result<Moved, Halt>
         ensures { outcome (looks self.now) self.now.ask.now result ≡ siot_sends (looks self.now) self.now.ask.now link }
@@ -178,6 +181,7 @@ impl Caller<'_> {
     }
 
     /// The byte of the next pointer is sent through a link.
+    #[inline(always)]
     #[tactic(auto, using(its_machine::proofs::StopLaws::loaded_fits), unfolding(its_plain::specs::View::view))]
     fn siot_send(&self, next: Word, link: u8) -> Result<Moved, Halt>
         requires { has_size next ≡ true }
@@ -193,6 +197,6 @@ impl Caller<'_> {
             return Err(Halt::Later(Wait::Room(link)));
         }
         let word = Word::new(load(next, word));
-        Ok(one_moved(Change::Send { link, word }, None, next, self.input(2)))
+        Ok(one_moved(Shift::Send { link, word }, None, next, self.input(2)))
     }
 }

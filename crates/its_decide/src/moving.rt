@@ -1,5 +1,5 @@
 //! What SIOT moves next, as a small value: a decision is made of it only if one is wanted.
-ghost use Rattle.std.specs.Prelude.{◌≡◌, ◌-◌, [], None, Some, IfSome};
+ghost use Rattle.std.specs.Prelude.{◌≡◌, ◌-◌, [], true, None, Some, IfSome};
 ghost use Rattle.its_frame.specs.declared.name.CallName.TheVariants.{Siot};
 ghost use Rattle.its_jobs.specs.Table.{job_at};
 ghost use Rattle.its_plain.specs.CallDevice.{siot_call};
@@ -7,16 +7,32 @@ ghost use Rattle.its_plain.specs.CallStep.{decision};
 ghost use Rattle.its_plain.specs.Decide.{call_named, reach};
 ghost use Rattle.its_decide.specs.Called.{looks};
 ghost use Rattle.its_decide.specs.Fits.{SeenFits};
-ghost use Rattle.its_decide.specs.Moving.{found, halted, moving, outcome};
+ghost use Rattle.its_decide.specs.Moving.{change_of, found, halted, moving, outcome};
 ghost use Rattle.its_decide.specs.Seen.{machine_seen, raw_with};
 
+use super::arguments::input;
 use super::caller::{Caller, Seen};
-use super::choice::target;
+use super::choice::reached;
 use super::ends::goes_with;
 use arrayvec::ArrayVec;
-use its_frame::{CallName, Change, Decision, Held, Wait};
+use its_frame::{Change, Decision, Held, Wait};
 use its_records::{Ask, Channel, Job};
 use its_word::{Fault, Slot, Word};
+
+/// The name of SIOT.
+const SIOT: u64 = 0o635157640000;
+
+/// What changes outside the job's own words and registers if SIOT moves a byte or word: the position of a channel, the draft of a channel, the
+/// input or the output of a console, or the words of a link. Each is a `Change`; this type has no other, and is small.
+#[derive(Clone, Copy, Debug, PartialEq, Eq)]
+pub enum Shift {
+    Move { channel: u8, at: u32 },
+    Append { channel: u8, word: Word },
+    Take { console: u8 },
+    Put { console: u8, byte: u8 },
+    Send { link: u8, word: Word },
+    Receive { link: u8 },
+}
 
 /// A byte or word that SIOT moves: what changes, what is held until it is stored, and pointer and count of the rest.
 #[derive(Clone, Copy, Debug, PartialEq, Eq)]
@@ -24,7 +40,7 @@ pub struct Moved {
     pub next: Word,
     pub left: Word,
     pub held: Option<Held>,
-    pub change: Change,
+    pub shift: Shift,
 }
 
 /// Why SIOT moves nothing: an error with a number, a fault, its end, or a wait.
@@ -36,15 +52,31 @@ pub(crate) enum Halt {
     Later(Wait),
 }
 
+/// The change that is made.
+#[inline(always)]
+pub fn change_of(shift: Shift) -> Change
+    ensures { result ≡ change_of shift }
+{
+    match shift {
+        Shift::Move { channel, at } => Change::Move { channel, at },
+        Shift::Append { channel, word } => Change::Append { channel, word },
+        Shift::Take { console } => Change::Take { console },
+        Shift::Put { console, byte } => Change::Put { console, byte },
+        Shift::Send { link, word } => Change::Send { link, word },
+        Shift::Receive { link } => Change::Receive { link },
+    }
+}
+
 /// A byte or word is moved by one change, and the count becomes one less.
-pub(crate) fn one_moved(change: Change, held: Option<Held>, next: Word, count: Word) -> Moved
-    ensures { result ≡ record { next = next; left = count - 1; held = held; change = change } }
+#[inline(always)]
+pub(crate) fn one_moved(shift: Shift, held: Option<Held>, next: Word, count: Word) -> Moved
+    ensures { result ≡ record { next = next; left = count - 1; held = held; shift = shift } }
 {
     Moved {
         next,
         left: Word::new(count.value().saturating_sub(1)),
         held,
-        change,
+        shift,
     }
 }
 
@@ -53,11 +85,12 @@ fn moving(m: &Moved) -> Decision
     ensures { result ≡ moving m.now }
 {
     let mut changes = ArrayVec::new();
-    changes.push(m.change);
+    changes.push(change_of(m.shift));
     goes_with(changes, m.held, m.next, m.left)
 }
 
 /// What is moved, if something is.
+#[inline(always)]
 fn found(r: Result<Moved, Halt>) -> Option<Moved>
     ensures { result ≡ found r }
 {
@@ -92,6 +125,7 @@ impl Caller<'_> {
     }
 
     /// What SIOT moves next, if its channel is on a console, a file, a draft or a link.
+    #[inline(always)]
     #[tactic(auto, using(its_machine::proofs::NumberLaws::under), unfolding(its_plain::specs::CallDevice::siot_call, its_plain::specs::View::view))]
     fn next_move(&self) -> Option<Moved>
         requires fits { SeenFits self.now.seen.now }
@@ -110,9 +144,19 @@ impl Caller<'_> {
     }
 }
 
+/// Whether a word is the name of SIOT.
+#[inline(always)]
+#[tactic(auto, using(crate::proofs::SiotLaws::siot_named))]
+fn is_siot(name: Word) -> bool
+    ensures { result ≡ true → call_named name ≡ Some Siot }
+{
+    name.value() == SIOT
+}
+
 /// What the call of a slot's job, which has these registers, moves next, if it is SIOT and reaches no other job. Then its decision is
 /// this, and disturbs nobody. None says nothing.
-#[tactic(auto, unfolding(its_plain::specs::CallStep::decision, its_plain::specs::Decide::decided, its_plain::specs::Decide::reach))]
+#[inline(always)]
+#[tactic(auto, using(crate::proofs::SiotLaws::siot_target), unfolding(its_plain::specs::CallStep::decision, its_plain::specs::Decide::decided, its_plain::specs::Decide::reach))]
 pub fn next_move(seen: &Seen<'_>, slot: Slot, job: &Job, ask: &Ask) -> Option<Moved>
     requires job { job_at seen.now.jobs.now slot ≡ Some job.now }
     requires fits { SeenFits seen.now }
@@ -122,10 +166,10 @@ pub fn next_move(seen: &Seen<'_>, slot: Slot, job: &Job, ask: &Ask) -> Option<Mo
     if ask.fail != 0 {
         return None;
     }
-    let Some(CallName::Siot) = CallName::named(ask.name) else {
+    if !is_siot(ask.name) {
         return None;
-    };
-    let target = target(seen, slot, job, ask);
+    }
+    let target = reached(seen, slot, job, input(ask, 0));
     if target.is_some() {
         return None;
     }

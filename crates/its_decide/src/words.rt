@@ -8,10 +8,11 @@ ghost use Rattle.its_plain.specs.CallFile.{siot_read};
 ghost use Rattle.its_plain.specs.Own.{with_advance, exit_of};
 ghost use Rattle.its_decide.specs.Called.{looks};
 ghost use Rattle.its_decide.specs.Moving.{outcome};
+ghost use Rattle.its_decide.specs.declared.moving.Shift.TheVariants.{Move as ShiftTo};
 
 use super::caller::Caller;
 use super::ends::{ends, store_at};
-use super::moving::{Halt, Moved, one_moved};
+use super::moving::{Halt, Moved, Shift, one_moved};
 use its_frame::{Change, Decision, Held};
 use its_word::Word;
 
@@ -25,6 +26,18 @@ impl Caller<'_> {
         ensures { result ≡ Move (input self.now.ask.now 0) at }
     {
         Change::Move {
+            channel: self.input(0).value() as u8,
+            at,
+        }
+    }
+
+    /// The same as what SIOT changes.
+    #[inline(always)]
+    fn shifts_to(&self, at: u32) -> Shift
+        requires { input self.now.ask.now 0 < 16 }
+        ensures { result ≡ ShiftTo (input self.now.ask.now 0) at }
+    {
+        Shift::Move {
             channel: self.input(0).value() as u8,
             at,
         }
@@ -46,6 +59,7 @@ impl Caller<'_> {
 
     /// SIOT gets a word, which is held and stored by the next step, at the next byte of its pointer; the position that it came
     /// from is one more. MPV or WRO by the word that it will be stored in.
+    #[inline(always)]
     #[tactic(auto, unfolding(its_plain::specs::View::view))]
     pub(crate) fn siot_gets(&self, next: Word, at: u32, word: Word) -> Result<Moved, Halt>
         requires number { input self.now.ask.now 0 < 16 }
@@ -57,6 +71,6 @@ impl Caller<'_> {
             return Err(Halt::Bit(fault));
         }
         let held = Held { place, byte: word };
-        Ok(one_moved(self.moves_to(at + 1), Some(held), next, self.input(2)))
+        Ok(one_moved(self.shifts_to(at + 1), Some(held), next, self.input(2)))
     }
 }

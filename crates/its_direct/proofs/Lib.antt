@@ -29,6 +29,9 @@ pub mod HousedLaws
 pub mod ToldLaws
 pub mod ShownLaws
 pub mod SeriesLaws
+pub mod InPlaceLaws
 pub mod PlacedLaws
 pub mod MadeLaws
 pub mod PartLaws
+pub mod WaitingLaws
+pub mod MovingLaws

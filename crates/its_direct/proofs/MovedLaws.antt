@@ -104,7 +104,7 @@ drop_taken zero xs ys h = refl
 drop_taken (suc k) [] ys h = absurd (omega arith)
 drop_taken (suc k) (x ∷ xs) ys h = drop_taken k xs ys (omega arith)
 
-debts_are : (a : Ask) (vs : List ℕ) → debts (with_new_values a vs) (length vs) ≡ stores_of (operands_with_values (drop (length a.inputs.items - length vs) a.inputs.items) vs)
+pub debts_are : (a : Ask) (vs : List ℕ) → debts (with_new_values a vs) (length vs) ≡ stores_of (operands_with_values (drop (length a.inputs.items - length vs) a.inputs.items) vs)
 unfolding debts with_new_values
 debts_are a vs =
     let xs = a.inputs.items in

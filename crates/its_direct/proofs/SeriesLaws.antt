@@ -41,15 +41,15 @@ use Rattle.its_direct.proofs.UserLaws.{becomes_raw, nobody_is, own_is, own_of}
 use Rattle.its_direct.proofs.ContentsLaws.{place_as}
 
 -- what is left of a job
-abbrev with_left : Left → Whole → Whole
+abbrev pub with_left : Left → Whole → Whole
 with_left l = with_core_and_job l.core (bare l.job)
 
 -- the job of slot j has this core and these registers, and it runs
-record Runs (m : Machine) (j : ℕ) (q : Whole) (l : Left) : Type 0 where
-  had : m.jobs j ≡ Some q
-  core : q.core ≡ l.core
-  job : q.job ≡ bare l.job
-  going : l.job.stopped ≡ false
+pub record Runs (m : Machine) (j : ℕ) (q : Whole) (l : Left) : Type 0 where
+  pub had : m.jobs j ≡ Some q
+  pub core : q.core ≡ l.core
+  pub job : q.job ≡ bare l.job
+  pub going : l.job.stopped ≡ false
 
 -- nothing is written if the value is the one that is there
 written_same : (m : Machine) (j : ℕ) (q : Whole) (f : Whole → Whole) → m.jobs j ≡ Some q → f q ≡ q → in_job m j f ≡ m
@@ -127,7 +127,7 @@ then_series n m j q l r runs rest (Some k) is e =
     (p, one.is, slot_some m.jobs j (with_left k), subst (Series n p j) (twice m j (with_left k) (with_left r)) more)
 then_series n m j q l r runs rest None is e = let z = no_units n in absurd cc
 
-units_series : (n : ℕ) (m : Machine) (j : ℕ) (q : Whole) (l r : Left) → Runs m j q l → after_units n (Some l) ≡ Some r → Series n m j (in_job m j (with_left r))
+pub units_series : (n : ℕ) (m : Machine) (j : ℕ) (q : Whole) (l r : Left) → Runs m j q l → after_units n (Some l) ≡ Some r → Series n m j (in_job m j (with_left r))
 units_series zero m j q l r runs e =
     let is : l ≡ r = cc in
     subst (λ (k : Left). in_job m j (with_left k) ≡ m) is (written_same m j q (with_left l) runs.had (own_here m j q l runs))

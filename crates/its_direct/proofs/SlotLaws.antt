@@ -127,7 +127,7 @@ pub core_tidy : (old new : Plain) (s : ℕ) (c : Core) (i : Job) → CoreBecomes
 core_tidy old new s c i b had tidy = slot_tidy old new s c i i (subst (SlotBecomes old new s c) had b) had refl (placed_at old s (job_at old.jobs s) i refl had tidy) tidy
 
 -- a core that is put back as it was: a fact of the type holds in one way
-numbers_are : {v : ℕ} (a b : (1 ≤ v) × (v ≤ 2)) → a ≡ b
+pub numbers_are : {v : ℕ} (a b : (1 ≤ v) × (v ≤ 2)) → a ≡ b
 numbers_are a b = λ t. (le_prop a.0 b.0 t, le_prop a.1 b.1 t)
 
 pub core_back : (p : Plain) (x : Cores) (count : vec_len p.consoles ≡ 8) (places : vec_len p.alarms ≡ slots) (named : vec_len p.symbols ≡ slots) (limit : p.jobs.limit ≡ limit_of p.version)

@@ -11,4 +11,6 @@ pub mod Filing
 pub mod Events
 pub mod Ready
 pub mod Series
+pub mod Waiting
+pub mod InPlace
 pub mod Parts

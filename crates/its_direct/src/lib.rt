@@ -28,8 +28,10 @@ mod effects_files;
 mod effects_links;
 mod events;
 mod files;
+mod in_place;
 mod lines;
 mod loading;
+mod moved;
 mod parts;
 mod plain;
 mod removal;
@@ -40,6 +42,7 @@ mod sorting;
 mod stepping;
 mod steps;
 mod users;
+mod waiting;
 mod words;
 
 pub use events::Answer;

@@ -8,13 +8,16 @@ ghost use Rattle.its_direct.specs.Parts.{AtCall, Decides, InParts, PartIf, with_
 ghost use Rattle.its_direct.specs.Plain.{machine_of};
 
 use super::plain::{Plain, Spot};
-use super::steps::is_making;
 use arrayvec::ArrayVec;
+use its_core::Core;
 use its_decide::{Moved, next_move};
 use its_ints::deliverable;
 use its_records::{Ask, Site};
-use its_word::{Slot, Word};
+use its_word::{ADDRESSES, Slot, Word};
 use pdp_exec::{Near, call_at_hand};
+
+/// The name of SIOT.
+const SIOT: u64 = 0o635157640000;
 
 impl Plain {
     /// Takes steps of a slot's job that are parts of the call at its PC, n at most, as long as each disturbs nobody and makes no job; how
@@ -29,12 +32,20 @@ impl Plain {
         ensures place { self.new.place ≡ self.old.place }
         ensures kept { Kept self.new }
     {
-        if n == 0 {
+        if n == 0 || !self.names_siot(slot) {
             return 0;
         }
         match self.call_here(slot) {
             Some(ask) => self.take_parts(slot, ask, n),
             None => 0,
+        }
+    }
+
+    /// Whether the word after the one to which the word at the PC of a slot's job points names SIOT. No other call has parts.
+    fn names_siot(&self, slot: Slot) -> bool {
+        match self.jobs.job(slot.number()) {
+            Some(job) => names_siot(&self.core, slot, job.pc),
+            None => false,
         }
     }
 
@@ -85,6 +96,7 @@ impl Plain {
 
     /// Takes the next part of a call of a slot's job that asks for this, if it moves a byte or word, disturbs nobody and makes no job. Then
     /// the call goes on, and asks for what it asks with its new values. Else nothing changes.
+    #[inline(always)]
     fn next_part(&mut self, slot: Slot, ask: &mut Ask) -> bool
         requires outside { self.old.place ≡ Spot.Plain }
         requires kept { Kept self.old }
@@ -100,6 +112,7 @@ impl Plain {
     }
 
     /// What a call of a slot's job moves next that asks for this, if it reaches no other job.
+    #[inline(always)]
     #[tactic(auto, using(crate::proofs::PartLaws::decides))]
     fn next_move(&self, slot: Slot, ask: &Ask) -> Option<Moved>
         requires kept { Kept self.now }
@@ -112,7 +125,8 @@ impl Plain {
         }
     }
 
-    /// Moves a byte or word as a call has decided, if that makes no job and the call has three inputs.
+    /// Moves a byte or word as a call has decided, if the call has three inputs.
+    #[inline(always)]
     fn move_alone(&mut self, slot: Slot, ask: &mut Ask, moved: &Moved) -> bool
         requires outside { self.old.place ≡ Spot.Plain }
         requires kept { Kept self.old }
@@ -122,18 +136,23 @@ impl Plain {
         ensures place { self.new.place ≡ self.old.place }
         ensures kept { Kept self.new }
     {
-        if is_making(&moved.change) {
-            return false;
-        }
         if ask.inputs.len() != 3 {
             return false;
         }
-        let changes = [moved.change];
-        let values = [moved.next, moved.left];
-        self.go_on(slot, &changes, ask, moved.held, &values);
-        self.touch_none();
+        self.move_one(slot, ask, moved);
         renew(ask, moved.next, moved.left);
         true
+    }
+}
+
+/// Whether the word after the one to which the word at a PC points names SIOT.
+fn names_siot(core: &Core, slot: Slot, pc: u32) -> bool {
+    let Some(call) = core.word(slot.number(), pc) else {
+        return false;
+    };
+    match core.word(slot.number(), (call.right() + 1) % ADDRESSES) {
+        Some(name) => name.value() == SIOT,
+        None => false,
     }
 }
 
@@ -153,6 +172,7 @@ fn near_site(pc: u32, near: Near) -> Site
 }
 
 /// Gives the last two of three inputs of a call new values.
+#[inline(always)]
 #[tactic(auto, using(crate::proofs::PartLaws::renewed))]
 fn renew(ask: &mut Ask, next: Word, left: Word)
     requires { length ask.old.inputs.items ≡ 3 }
@@ -163,6 +183,7 @@ fn renew(ask: &mut Ask, next: Word, left: Word)
 }
 
 /// Gives an input of a call another value.
+#[inline(always)]
 fn change_input(ask: &mut Ask, k: usize, value: Word)
     requires { k < length ask.old.inputs.items }
     ensures changed { ask.new ≡ with_input ask.old k value }

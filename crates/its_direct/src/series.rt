@@ -16,7 +16,7 @@ impl Plain {
     /// Executes units of a slot's job, n at most, as long as no interrupt is deliverable and none is a call, and gives
     /// their number. Each is a step of the job alone, and if they are fewer than n, no other is due. None is executed
     /// if the slot is empty or its job is stopped; then nothing changes. No block of lines may be open.
-    #[tactic(auto, using(crate::proofs::SlotLaws::placed_at, crate::proofs::SeriesLaws::series_kept, crate::proofs::SeriesLaws::due_absent, crate::proofs::SeriesLaws::due_stopped))]
+    #[tactic(auto, using(crate::proofs::SlotLaws::placed_at, crate::proofs::SeriesLaws::series_kept, crate::proofs::SeriesLaws::due_absent, crate::proofs::SeriesLaws::due_stopped, crate::proofs::InPlaceLaws::runs_there))]
     pub fn steps(&mut self, slot: Slot, n: u32) -> u32
         requires outside { self.old.place ≡ Spot.Plain }
         requires kept { Kept self.old }
@@ -29,13 +29,13 @@ impl Plain {
         ensures place { self.new.place ≡ self.old.place }
         ensures kept { Kept self.new }
     {
-        let Some(job) = self.job(slot) else {
+        let Some(job) = self.jobs.job(slot.number()) else {
             return 0;
         };
         if job.stopped {
             return 0;
         }
-        self.units(slot, job, n)
+        self.units_made(slot, n)
     }
 
     /// Executes up to n units of the running job of a slot, whose registers these are, as long as no interrupt is deliverable and none

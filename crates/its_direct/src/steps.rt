@@ -67,6 +67,9 @@ impl Plain {
         ensures row { Makes result (transition (machine_of self.old) slot) self.old self.new }
         ensures tidy { Tidy self.new }
     {
+        if self.lacks_input(slot) {
+            return false;
+        }
         match self.begin(slot) {
             Begun::Still => false,
             Begun::Stepped => true,
@@ -166,6 +169,7 @@ impl Plain {
     }
 
     /// The parts of the machine, lent.
+    #[inline(always)]
     pub(crate) fn seen(&self) -> Seen<'_>
         ensures { Lent self.now result }
     {
@@ -289,7 +293,7 @@ impl Plain {
     }
 
     /// Deposits the byte that a call of slot's job holds in its word, by the pointer that the call then has.
-    fn put_held(&mut self, slot: Slot, ask: &Ask, held: Option<Held>, values: &[Word])
+    pub(crate) fn put_held(&mut self, slot: Slot, ask: &Ask, held: Option<Held>, values: &[Word])
         requires job { HasJob (machine_of self.old) slot }
         requires fits { IfSome held (HeldFits (core_of ((machine_of self.old).jobs slot)) (with_new_values ask.now values.now)) }
         requires tidy { Tidy self.old }
@@ -337,7 +341,7 @@ fn make_job(changes: &[Change]) -> bool
 }
 
 /// Whether a change makes a job.
-pub(crate) fn is_making(change: &Change) -> bool
+fn is_making(change: &Change) -> bool
     ensures { result ≡ is_making change.now }
 {
     matches!(change, Change::Make { .. })
@@ -371,7 +375,7 @@ fn new_input(ask: &Ask, values: &[Word], k: usize) -> Word
 }
 
 /// The new values of the last inputs of a call, as stores at their places.
-fn new_values(ask: &Ask, values: &[Word]) -> ArrayVec<Store, 2>
+pub(crate) fn new_values(ask: &Ask, values: &[Word]) -> ArrayVec<Store, 2>
     requires { length values.now ≤ 2 }
     ensures { result.items ≡ debts (with_new_values ask.now values.now) (length values.now) }
 {

@@ -90,7 +90,7 @@ fn is_due(w: &World, slot: Slot, clock: u64) -> bool
 }
 
 /// Sets the clock.
-#[tactic(auto, using(crate::proofs::RungLaws::clock_state, crate::proofs::RungLaws::clock_tidy))]
+#[tactic(auto, using(crate::proofs::RungLaws::clock_tidy))]
 fn set_clock(w: &mut World, clock: u64)
     requires later { w.old.clock ≤ clock }
     requires below { clock < clock_end }

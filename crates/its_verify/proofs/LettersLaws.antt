@@ -18,16 +18,16 @@ use Rattle.its_verify.specs.JudgeState.{Again, AllLed, walk_of, Sure, Led, LedIf
 use Rattle.its_verify.specs.declared.judge.Judge.{Judge}
 
 -- one letter
-letter_leads : (old new : Judge) (i : ℕ) (p : Pace) (ps : List Pace) (b : Block) (n : ℕ) → Led old new i p → paced (walk_of old b n) i (p ∷ ps) ≡ paced (walk_of new b n) i ps
+pub letter_leads : (old new : Judge) (i : ℕ) (p : Pace) (ps : List Pace) (b : Block) (n : ℕ) → Led old new i p → paced (walk_of old b n) i (p ∷ ps) ≡ paced (walk_of new b n) i ps
 letter_leads old new i p ps b n led =
     ap (option_and_then (λ (m : Machine). paced (after_letter (walk_of old b n) i p m) i ps)) (led.leads b n)
     ∙ ap (λ (d : Dots). paced (record { machine = machine_of new.plain; dots = d; block = b; line = n }) i ps) (sym led.dots)
 
-letter_stops : (old : Judge) (i : ℕ) (p : Pace) (ps : List Pace) (b : Block) (n : ℕ) → led_to (walk_of old b n) i p ≡ None → paced (walk_of old b n) i (p ∷ ps) ≡ None
+pub letter_stops : (old : Judge) (i : ℕ) (p : Pace) (ps : List Pace) (b : Block) (n : ℕ) → led_to (walk_of old b n) i p ≡ None → paced (walk_of old b n) i (p ∷ ps) ≡ None
 letter_stops old i p ps b n none = ap (option_and_then (λ (m : Machine). paced (after_letter (walk_of old b n) i p m) i ps)) none
 
 -- a run
-taken_apart : (m k : ℕ) (p : Pace) (ps : List Pace) → k ≤ m → replicate m p ++ ps ≡ replicate k p ++ (replicate (m - k) p ++ ps)
+pub taken_apart : (m k : ℕ) (p : Pace) (ps : List Pace) → k ≤ m → replicate m p ++ ps ≡ replicate k p ++ (replicate (m - k) p ++ ps)
 taken_apart m zero p ps few = let all : m ≡ m - 0 = omega arith in ap (λ (j : ℕ). replicate j p ++ ps) all
 taken_apart zero (suc k) p ps few = absurd (omega (arith, few))
 taken_apart (suc m) (suc k) p ps few =

@@ -28,3 +28,4 @@ pub mod OutLaws
 pub mod VerifyLaws
 mod Examples
 pub mod SeriesLaws
+pub mod StarsLaws

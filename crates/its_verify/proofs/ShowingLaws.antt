@@ -14,8 +14,6 @@ use Rattle.its_records.specs.declared.show.JobShow.{JobShow}
 use Rattle.its_plain.specs.Machine.{File, Machine, Names}
 use Rattle.its_plain.specs.CallFile.{file_named}
 use Rattle.its_plain.specs.Own.{names_of}
-use Rattle.its_session.specs.Grammar.{last_slot}
-use Rattle.its_word.specs.Limits.{slots}
 use Rattle.its_plain.specs.OperatorFiles.{file_shown, filed_line, listing, rows, show_of, shown_by}
 use Rattle.its_plain.specs.OperatorLines.{in_a_line}
 use Rattle.its_direct.specs.Plain.{machine_of}

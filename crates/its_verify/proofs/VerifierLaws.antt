@@ -3,7 +3,6 @@ use Rattle.std.proofs.Common.{◌≡◌, ◌<◌, ◌≤◌, ◌+◌, ◌-◌, �
 use Rattle.std.proofs.lemmas.Bool.{false≢true}
 use Rattle.its_io.specs.Bytes.{HasCause}
 use Rattle.its_io.specs.declared.stream.Failed.{Failed}
-use Rattle.its_word.specs.Limits.{slots}
 use Rattle.its_records.specs.declared.session.Event.{Event}
 use Rattle.its_records.specs.declared.session.Event.TheVariants as events
 use Rattle.its_records.specs.declared.session.Place.{Place}

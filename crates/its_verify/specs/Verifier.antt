@@ -1,10 +1,9 @@
 -- A verifier: a judge and the lines of a transcript together, along a session.
 -- No promise rests on this.
-use Rattle.std.specs.Prelude.{◌≡◌, ◌<◌, ◌-◌, ℕ, false, Option, Some, None, Result, Ok, Err, List}
+use Rattle.std.specs.Prelude.{◌≡◌, ◌-◌, ℕ, false, Option, Some, None, Result, Ok, Err, List}
 use Rattle.its_io.specs.declared.stream.Failed.{Failed}
 use Rattle.its_records.specs.declared.session.Event.{Event}
 use Rattle.its_records.specs.declared.session.Event.TheVariants as events
-use Rattle.its_word.specs.Limits.{slots}
 use Rattle.its_plain.specs.Operator.{Block}
 use Rattle.its_plain.specs.Transcript.{Walk}
 use Rattle.its_direct.specs.declared.plain.Spot.{Spot}

@@ -112,16 +112,16 @@ impl Judge {
         ensures place { self.new.plain.place ≡ self.old.plain.place }
     {
         for run in runs {
-            if !self.run_licensed(slot, *run) {
+            if !self.run_led(slot, *run) {
                 return false;
             }
         }
         true
     }
 
-    /// The same of one run.
+    /// The same of one run, when each letter after the first that is not taken at once is taken alone.
     #[tactic(auto, using(crate::proofs::JudgeStateLaws::again, crate::proofs::LettersLaws::run_start, crate::proofs::LettersLaws::run_first_stops, crate::proofs::LettersLaws::run_on, crate::proofs::LettersLaws::run_stops, crate::proofs::LettersLaws::run_end))]
-    fn run_licensed(&mut self, slot: Slot, run: Run) -> bool
+    pub(crate) fn run_licensed(&mut self, slot: Slot, run: Run) -> bool
         requires going { self.old.ended ≡ false }
         requires outside { self.old.plain.place ≡ Spot.Plain }
         requires sure { Sure self.old }
@@ -142,8 +142,7 @@ impl Judge {
         true
     }
 
-    /// Takes at once, of the letters of a run after its first, which is licensed, as many `*` as are units of a slot's job in a row, or
-    /// parts of one call, and all that change nothing; how many.
+    /// Takes at once, of the letters of a run after its first, which is licensed, all that change nothing; how many.
     #[tactic(auto, using(crate::proofs::LettersLaws::waits_again, crate::proofs::LettersLaws::off_again))]
     fn taken(&mut self, slot: Slot, run: Run) -> u32
         requires going { self.old.ended ≡ false }
@@ -157,7 +156,7 @@ impl Judge {
         ensures place { self.new.plain.place ≡ self.old.plain.place }
     {
         match run.pace {
-            Pace::Step => self.steps(slot, run.more),
+            Pace::Step => 0,
             Pace::Work => 0,
             Pace::Wait => run.more,
             Pace::Off => run.more,
@@ -166,7 +165,7 @@ impl Judge {
 
     /// Takes as many `*` as are units of a slot's job in a row, or if there is none as are parts of its call, n at most; how many.
     #[tactic(auto, using(crate::proofs::LettersLaws::run_then))]
-    fn steps(&mut self, slot: Slot, n: u32) -> u32
+    pub(crate) fn steps(&mut self, slot: Slot, n: u32) -> u32
         requires going { self.old.ended ≡ false }
         requires outside { self.old.plain.place ≡ Spot.Plain }
         requires sure { Sure self.old }

@@ -25,6 +25,7 @@ mod outcome;
 mod peeks;
 mod room;
 mod showing;
+mod stars;
 mod ticks;
 mod transcript_reader;
 mod verifier;

@@ -12,6 +12,9 @@ use its_print::{Reply, Run, print_reply};
 use its_records::Pace;
 use its_word::Slot;
 
+/// The most bytes of a `T` line with one run of letters, and its LF: a slot has three digits at most, a number four.
+const MOST_ALIKE: usize = 12;
+
 /// Reads the runs of letters in a line, which has its LF, into the room for them, for `count` ticks of slot `slot`, of which there are at
 /// most 512; whether it is the text of a `T` line of that slot with so many letters.
 #[tactic(auto, using(crate::proofs::TickLaws::ticks_read, crate::proofs::TickLaws::ticks_other, crate::proofs::TickLaws::ticks_few))]
@@ -20,10 +23,39 @@ pub fn read_ticks(line: &[u8], slot: Slot, count: u32, room: &mut Room) -> bool
     ensures some { result ≡ true → ticks_in slot count line.now ≡ Some (paces_in room.new.runs.items) }
     ensures none { result ≡ false → ticks_in slot count line.now ≡ None }
 {
+    if are_alike(line, slot, count, room) {
+        return true;
+    }
     if !read_runs(line, count, &mut room.runs) {
         return false;
     }
     is_line_of(line, slot, &room.runs, &mut room.line)
+}
+
+/// Whether a line is surely the `T` line of a slot with `count` letters, which are all alike; their run is put into the room for it. False may
+/// also mean that the line is such a one.
+#[tactic(auto, using(crate::proofs::StarsLaws::alike_read))]
+fn are_alike(line: &[u8], slot: Slot, count: u32, room: &mut Room) -> bool
+    requires { count ≤ 512 }
+    ensures { result ≡ true → ticks_in slot count line.now ≡ Some (paces_in room.new.runs.items) }
+{
+    if line.len() > MOST_ALIKE {
+        return false;
+    }
+    let Some(pace) = last_letter(line) else {
+        return false;
+    };
+    room.runs.clear();
+    push_run(&mut room.runs, pace, count);
+    is_line_of(line, slot, &room.runs, &mut room.line)
+}
+
+/// The letter before the last byte of a line, if it is one.
+fn last_letter(line: &[u8]) -> Option<Pace> {
+    if line.len() < 2 {
+        return None;
+    }
+    letter_at(line[line.len() - 2])
 }
 
 /// Whether a line is the `T` line of a slot with these runs; its text is printed into the room for it.

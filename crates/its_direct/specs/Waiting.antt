@@ -1,0 +1,20 @@
+-- A job whose `.IOT` from its console waits.
+-- No promise rests on this.
+use Rattle.std.specs.Prelude.{◌≡◌, ◌==◌, ◌||◌, ℕ, true, Option, Some, None, length, unwrap_or}
+use Rattle.its_records.specs.declared.jobs.Channel.TheVariants.{TtyIn}
+use Rattle.its_records.specs.declared.jobs.Job.{Job}
+use Rattle.its_core.specs.Cores.{core_at}
+use Rattle.its_plain.specs.CallTty.{is_other}
+use Rattle.its_machine.specs.Called.{bar_of, channel_under}
+use Rattle.its_machine.specs.Parts.{console_at, holder_at}
+use Rattle.its_direct.specs.declared.plain.Plain.{Plain}
+
+-- channel n of slot s's job, with these registers, is for input of its console, the word at E can be stored, and the console gives no byte
+pub record Lacks (p : Plain) (s : ℕ) (j : Job) (e n : ℕ) : Type 0 where
+  pub on : channel_under j n ≡ TtyIn
+  pub clear : bar_of (core_at p.core s) e ≡ None
+  pub waits : ((length (console_at p.consoles.items (unwrap_or j.console 0)).input == 0) || is_other s (holder_at p.holders (unwrap_or j.console 0))) ≡ true
+
+abbrev pub LacksNear : Plain → ℕ → Job → ℕ → Option ℕ → Type 0
+LacksNear p s j e (Some n) = Lacks p s j e n
+LacksNear p s j e None = ⊥

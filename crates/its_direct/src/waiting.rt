@@ -1,0 +1,122 @@
+//! A job whose `.IOT` waits for input of its console: it has no step, and this shows without a decoding and a decision.
+ghost use Rattle.std.specs.Prelude.{◌≡◌, ◌==◌, ◌||◌, true, None, length, unwrap_or};
+ghost use Rattle.its_core.specs.Cores.{core_at};
+ghost use Rattle.its_jobs.specs.Table.{job_at};
+ghost use Rattle.its_plain.specs.CallStep.{transition};
+ghost use Rattle.its_plain.specs.CallTty.{is_other};
+ghost use Rattle.its_machine.specs.Called.{bar_of, channel_under};
+ghost use Rattle.its_records.specs.declared.jobs.Channel.TheVariants.{TtyIn};
+ghost use Rattle.its_machine.specs.Parts.{console_at, holder_at};
+ghost use Rattle.its_direct.specs.Events.{Kept};
+ghost use Rattle.its_direct.specs.Plain.{machine_of};
+ghost use Rattle.its_direct.specs.Waiting.{Lacks, LacksNear};
+
+use super::plain::Plain;
+use its_ints::deliverable;
+use its_records::{Channel, Job};
+use its_word::Slot;
+use pdp_exec::{Near, call_at_hand};
+
+impl Plain {
+    /// Whether a slot's job surely has no step, because its call is `.IOT` from its console, which gives it no byte. False says nothing.
+    #[tactic(auto, using(crate::proofs::SlotLaws::placed_at))]
+    pub(crate) fn lacks_input(&self, slot: Slot) -> bool
+        requires kept { Kept self.now }
+        ensures { result ≡ true → transition (machine_of self.now) slot ≡ None }
+    {
+        let Some(job) = self.jobs.job(slot.number()) else {
+            return false;
+        };
+        if job.stopped {
+            return false;
+        }
+        if deliverable(job) {
+            return false;
+        }
+        match call_at_hand(&self.core, slot, job) {
+            Some(near) => self.lacks_near(slot, job, near),
+            None => false,
+        }
+    }
+
+    /// Whether the call of a slot's job with these registers is such a `.IOT`, when it is this one.
+    fn lacks_near(&self, slot: Slot, job: &Job, near: Near) -> bool
+        ensures { result ≡ true → LacksNear self.now slot job.now near.e near.channel }
+    {
+        match near.channel {
+            Some(channel) => self.lacks_at(slot, job, near.e, channel),
+            None => false,
+        }
+    }
+
+    /// Whether `.IOT` of a slot's job with these registers, through a channel, waits for input that it stores at E.
+    fn lacks_at(&self, slot: Slot, job: &Job, e: u32, channel: u8) -> bool
+        ensures { result ≡ true → Lacks self.now slot job.now e channel }
+    {
+        if !is_typed(job, channel) {
+            return false;
+        }
+        if !self.can_store(slot, e) {
+            return false;
+        }
+        self.gives_none(slot, job.console.unwrap_or(0))
+    }
+
+    /// Whether a word of a slot's job can be stored.
+    fn can_store(&self, slot: Slot, at: u32) -> bool
+        ensures { result ≡ true → bar_of (core_at self.now.core slot) at ≡ None }
+    {
+        match self.core.word(slot.number(), at) {
+            Some(_) => self.core.is_storable(slot.number(), at),
+            None => false,
+        }
+    }
+
+    /// Whether a console gives a slot's job no byte.
+    fn gives_none(&self, slot: Slot, c: u8) -> bool
+        ensures { result ≡ ((length (console_at self.now.consoles.items c).input == 0) || is_other slot (holder_at self.now.holders c)) }
+    {
+        self.typed(c) == 0 || self.is_other(slot, c)
+    }
+
+    /// How many bytes wait at a console as input.
+    fn typed(&self, c: u8) -> u32
+        ensures { result ≡ length (console_at self.now.consoles.items c).input }
+    {
+        match self.consoles.get(usize::from(c)) {
+            Some(console) => console.waiting().0,
+            None => 0,
+        }
+    }
+
+    /// Whether a job other than that of a slot holds a console.
+    fn is_other(&self, slot: Slot, c: u8) -> bool
+        ensures { result ≡ is_other slot (holder_at self.now.holders c) }
+    {
+        match self.held_by(c) {
+            Some(h) => h != slot.number(),
+            None => false,
+        }
+    }
+
+    /// Who holds a console.
+    fn held_by(&self, c: u8) -> Option<u8>
+        ensures { result ≡ holder_at self.now.holders c }
+    {
+        let holders = &self.holders;
+        match holders.get(usize::from(c)) {
+            Some(holder) => *holder,
+            None => None,
+        }
+    }
+}
+
+/// Whether a channel of a job is for input of its console.
+fn is_typed(job: &Job, channel: u8) -> bool
+    ensures { result ≡ true → channel_under job.now channel ≡ TtyIn }
+{
+    match job.channels.get(usize::from(channel)) {
+        Some(channel) => matches!(channel, Channel::TtyIn),
+        None => false,
+    }
+}
