@@ -1,7 +1,7 @@
 -- The lines of a source, one by one.
 use Rattle.std.specs.Prelude.{◌≡◌, ◌≢◌, ◌==◌, ◌<◌, ◌≤◌, ◌+◌, nat_le, ℕ, Bool, true, false, Option, Some, None, Result, Ok, Err, List, [], ◌∷◌, ◌++◌, length, refl}
 use Rattle.std.proofs.Common.{sym, ◌∙◌, ap, subst, arith, inl, inr, append_assoc, append-nil, length-append}
-use Rattle.std.proofs.lemmas.Bool.{cases_Bool}
+use Rattle.std.proofs.lemmas.Bool.{and_parts, cases_Bool, not-true}
 use Rattle.std.proofs.lemmas.Bool.Decides.{nat_tests}
 use Rattle.std.proofs.KnownBytes.{Consumes-nil, Consumes-trans, Consumes-kept}
 use Rattle.its_io.specs.declared.stream.Failed.{Failed}
@@ -12,7 +12,7 @@ use Rattle.its_reader.specs.declared.buffer.Buffer.{Buffer}
 use Rattle.its_reader.specs.declared.lines.Lines.{Lines}
 use Rattle.its_reader.specs.declared.lines.Next.{Next}
 use Rattle.its_reader.specs.declared.lines.Next.TheVariants.{Line, Long, Beyond, End}
-use Rattle.its_reader.specs.Bytes.{pending, BufferFits, Taken, Broke}
+use Rattle.its_reader.specs.Bytes.{pending, BufferFits, Taken, TookPlain, Broke, is_plain}
 use Rattle.its_reader.specs.Limits.{WithinLimits, is_short}
 use Rattle.its_reader.specs.Lines.{Opened, BetweenLines, ahead, Facing, SomeLine, NextOf, Reads, Pushed, last_of, LineSo}
 
@@ -59,6 +59,23 @@ some line (c ∷ cs) b = elim (cases_Bool (b == 10)) [
 pub so_start : (r : Lines) (left : Option (List ℕ)) → r.line.items ≡ [] → LineSo r r left left
 so_start r left e = record { read = []; consumed = Consumes-nil left; so_far = λ whole more. ap (λ l. lines_from whole l (pending r.buffer ++ more)) (sym e) }
 
+-- bytes other than LF after it
+others : (whole : Bool) (line bytes rest : List ℕ) → list_all is_plain bytes ≡ true → lines_from whole line (bytes ++ rest) ≡ lines_from whole (line ++ bytes) rest
+others whole line [] rest h = ap (λ l. lines_from whole l rest) (sym (append-nil line))
+others whole line (b ∷ bs) rest h =
+    let both = and_parts (is_plain b) (list_all is_plain bs) h in
+    let t : (b == 10) ≡ false = not-true (b == 10) both.0 in
+    rw t (others whole (line ++ b ∷ []) bs rest both.1 ∙ ap (λ l. lines_from whole l rest) (append_assoc line (b ∷ []) bs))
+
+pub so_plain : (old now next : Lines) (left mid : Option (List ℕ)) → LineSo old now left mid → TookPlain now.line.items next.line.items now.buffer next.buffer → LineSo old next left mid
+so_plain old now next left mid s t = record {
+  read = s.read;
+  consumed = s.consumed;
+  so_far = λ whole more.
+      s.so_far whole more ∙ ap (λ x. lines_from whole now.line.items (x ++ more)) t.given ∙ ap (lines_from whole now.line.items) (append_assoc t.bytes (pending next.buffer) more)
+      ∙ others whole now.line.items t.bytes (pending next.buffer ++ more) t.plain ∙ ap (λ l. lines_from whole l (pending next.buffer ++ more)) (sym t.kept);
+}
+
 -- a byte after it
 byte : (old now : Lines) (buffer : Buffer) (b : ℕ) (left mid rest : Option (List ℕ)) (s : LineSo old now left mid) (t : Taken (Some b) now.buffer buffer mid rest) (whole : Bool) (more : List ℕ)
     → ahead whole old ((s.read ++ t.read) ++ more) ≡ lines_from whole now.line.items (b ∷ (pending buffer ++ more))
@@ -66,7 +83,7 @@ byte old now buffer b left mid rest s t whole more =
     ap (ahead whole old) (append_assoc s.read t.read more) ∙ s.so_far whole (t.read ++ more)
     ∙ ap (lines_from whole now.line.items) (sym (append_assoc (pending now.buffer) t.read more) ∙ ap (λ x. x ++ more) t.given)
 
-pub so_next : (old now next : Lines) (b : ℕ) (left mid rest : Option (List ℕ)) → LineSo old now left mid → Taken (Some b) now.buffer next.buffer mid rest
+so_next : (old now next : Lines) (b : ℕ) (left mid rest : Option (List ℕ)) → LineSo old now left mid → Taken (Some b) now.buffer next.buffer mid rest
     → Pushed None next.number now.line.items b next.line.items → LineSo old next left rest
 so_next old now next b left mid rest s t p = record {
   read = s.read ++ t.read;
@@ -74,6 +91,10 @@ so_next old now next b left mid rest s t p = record {
   so_far = λ whole more. byte old now next.buffer b left mid rest s t whole more ∙ other whole now.line.items (pending next.buffer ++ more) b p.0
       ∙ ap (λ l. lines_from whole l (pending next.buffer ++ more)) (sym p.1);
 }
+
+pub so_next_by : (o : Option ℕ) (old now next : Lines) (b : ℕ) (left mid rest : Option (List ℕ)) → o ≡ Some b → LineSo old now left mid → Taken o now.buffer next.buffer mid rest
+    → Pushed None next.number now.line.items b next.line.items → LineSo old next left rest
+so_next_by o old now next b left mid rest n s t p = so_next old now next b left mid rest s (subst (λ x. Taken x now.buffer next.buffer mid rest) n t) p
 
 by_push : (next : Next) (old now new : Lines) (b : ℕ) (left mid rest : Option (List ℕ)) (s : LineSo old now left mid) (t : Taken (Some b) now.buffer new.buffer mid rest)
     → Pushed (Some next) new.number now.line.items b new.line.items → NextOf (Ok next) old new (s.read ++ t.read)

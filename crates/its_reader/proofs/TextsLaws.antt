@@ -11,7 +11,7 @@ use Rattle.its_reader.specs.declared.buffer.Buffer.{Buffer}
 use Rattle.its_reader.specs.declared.lines.Next.{Next}
 use Rattle.its_reader.specs.declared.lines.Next.TheVariants.{Line, Long, Beyond, End}
 use Rattle.its_reader.specs.declared.texts.Texts.{Texts}
-use Rattle.its_reader.specs.Bytes.{pending, BufferFits, Taken, Broke}
+use Rattle.its_reader.specs.Bytes.{pending, BufferFits, Taken, TookPlain, Broke}
 use Rattle.its_reader.specs.Lines.{Facing, SomeLine, last_of}
 use Rattle.its_session.specs.Events.{most_lines}
 use Rattle.its_reader.specs.Texts.{OpenedText, PushedText, ReadsText, ReadyTexts, TextOf, TextSo, is_inside, texts_ahead}
@@ -82,6 +82,17 @@ so_start r left e = record {
   inside = rw e refl;
 }
 
+-- bytes other than LF after it
+pub so_plain : (old now next : Texts) (left mid : Option (List ℕ)) → TextSo old now left mid → TookPlain now.text.items next.text.items now.buffer next.buffer → TextSo old next left mid
+so_plain old now next left mid s t = record {
+  read = s.read;
+  consumed = s.consumed;
+  so_far = λ more.
+      s.so_far more ∙ ap (λ x. lines_in (now.text.items ++ (x ++ more))) t.given ∙ ap (λ x. lines_in (now.text.items ++ x)) (append_assoc t.bytes (pending next.buffer) more)
+      ∙ ap lines_in (sym (append_assoc now.text.items t.bytes (pending next.buffer ++ more))) ∙ ap (λ x. lines_in (x ++ (pending next.buffer ++ more))) (sym t.kept);
+  inside = rw (t.kept, list_all-append is_inside now.text.items t.bytes, s.inside, t.plain) refl;
+}
+
 -- a byte after it
 byte : (old now : Texts) (buffer : Buffer) (b : ℕ) (left mid rest : Option (List ℕ)) (s : TextSo old now left mid) (t : Taken (Some b) now.buffer buffer mid rest) (more : List ℕ)
     → texts_ahead old ((s.read ++ t.read) ++ more) ≡ lines_in (now.text.items ++ b ∷ (pending buffer ++ more))
@@ -94,7 +105,7 @@ inside_more text b h other =
     let test : (b == 10) ≡ false = ne_eqb b 10 other in
     rw (list_all-append is_inside text (b ∷ []), h, test) refl
 
-pub so_next : (old now next : Texts) (b : ℕ) (left mid rest : Option (List ℕ)) → TextSo old now left mid → Taken (Some b) now.buffer next.buffer mid rest
+so_next : (old now next : Texts) (b : ℕ) (left mid rest : Option (List ℕ)) → TextSo old now left mid → Taken (Some b) now.buffer next.buffer mid rest
     → PushedText None next.number next.most now.text.items b next.text.items → TextSo old next left rest
 so_next old now next b left mid rest s t p = record {
   read = s.read ++ t.read;
@@ -104,6 +115,10 @@ so_next old now next b left mid rest s t p = record {
       ∙ ap (λ x. lines_in (x ++ (pending next.buffer ++ more))) (sym p.1);
   inside = rw p.1 (inside_more now.text.items b s.inside p.0);
 }
+
+pub so_next_by : (o : Option ℕ) (old now next : Texts) (b : ℕ) (left mid rest : Option (List ℕ)) → o ≡ Some b → TextSo old now left mid → Taken o now.buffer next.buffer mid rest
+    → PushedText None next.number next.most now.text.items b next.text.items → TextSo old next left rest
+so_next_by o old now next b left mid rest n s t p = so_next old now next b left mid rest s (subst (λ x. Taken x now.buffer next.buffer mid rest) n t) p
 
 long_line : (most : ℕ) (text rest : List ℕ) (b : ℕ) → list_all is_inside text ≡ true → b ≢ 10 → most ≤ length text → SomeLine (lines_in (text ++ b ∷ rest)) (λ line. most < length (before_lf line))
 long_line most [] rest b h other long =

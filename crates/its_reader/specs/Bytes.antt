@@ -1,7 +1,8 @@
 -- The bytes of a source, one by one.
 -- No promise rests on this.
-use Rattle.std.specs.Prelude.{◌≡◌, ◌≤◌, ℕ, Option, Some, None, Result, Ok, Err, List, [], ◌∷◌, ◌++◌, length, take, drop}
+use Rattle.std.specs.Prelude.{◌≡◌, ◌≤◌, ◌==◌, ℕ, Bool, true, not, Option, Some, None, Result, Ok, Err, List, [], ◌∷◌, ◌++◌, length, take, drop}
 use Rattle.std.specs.Io.KnownBytes.{Consumes, Keeps, IsAtEnd}
+use Rattle.std.specs.List.{list_all}
 use Rattle.its_io.specs.declared.stream.Failed.{Failed}
 use Rattle.its_reader.specs.declared.buffer.Buffer.{Buffer}
 
@@ -43,3 +44,14 @@ pub record Taken (b : Option ℕ) (old new : Buffer) (left rest : Option (List �
 abbrev pub Took : Result (Option ℕ) Failed → Buffer → Buffer → Option (List ℕ) → Option (List ℕ) → Type 0
 Took (Ok b) old new left rest = Taken b old new left rest
 Took (Err e) old new left rest = Broke old new left rest
+
+-- a byte other than LF
+abbrev pub is_plain : ℕ → Bool
+is_plain b = not (b == 10)
+
+-- bytes other than LF were taken from those that were pending, and this line now ends with them
+pub record TookPlain (line now : List ℕ) (old new : Buffer) : Type 0 where
+  pub bytes : List ℕ
+  pub plain : list_all is_plain bytes ≡ true
+  pub given : pending old ≡ bytes ++ pending new
+  pub kept : now ≡ line ++ bytes

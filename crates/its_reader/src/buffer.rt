@@ -1,7 +1,9 @@
-ghost use Rattle.std.specs.Prelude.{◌≡◌, ◌≤◌, [], length};
+ghost use Rattle.std.specs.Prelude.{◌≡◌, ◌≤◌, ◌+◌, ◌==◌, [], true, length, take, drop, position};
+ghost use Rattle.std.specs.List.{list_all};
 ghost use Rattle.its_io.specs.Bytes.{HasCause};
-ghost use Rattle.its_reader.specs.Bytes.{pending, BufferFits, Filled, Given, Took, Taken};
+ghost use Rattle.its_reader.specs.Bytes.{pending, BufferFits, Filled, Given, Took, Taken, TookPlain, is_plain};
 
+use arrayvec::ArrayVec;
 use its_io::{Failed, Source};
 
 /// The bytes of a source, which are read 512 at a time: those from `start` to `stop` were read, and are not taken yet.
@@ -70,4 +72,44 @@ impl Buffer {
         self.start += 1;
         Some(b)
     }
+
+    /// Takes bytes from those that were read, up to the first LF, and adds them to a line; so many that it has `most` at most.
+    #[inline]
+    #[tactic(auto, using(crate::proofs::BufferLaws::took_plain))]
+    pub(super) fn take_plain<const CAP: usize>(&mut self, line: &mut ArrayVec<u8, CAP>, most: usize)
+        requires fits { BufferFits self.old }
+        requires short { length line.old.items ≤ most }
+        requires most { most ≤ CAP }
+        ensures plain { TookPlain line.old.items line.new.items self.old self.new }
+        ensures fits { BufferFits self.new }
+        ensures short { length line.new.items ≤ most }
+    {
+        let end = self.start + self.plain(most - line.len());
+        let _fits = line.try_extend_from_slice(&self.bytes[self.start..end]);
+        self.start = end;
+    }
+
+    /// How many of the bytes that were read come before the first LF; `room` at most.
+    #[inline]
+    #[tactic(auto, using(crate::proofs::BufferLaws::plain_some))]
+    fn plain(&self, room: usize) -> usize
+        requires fits { BufferFits self.now }
+        ensures plain { list_all is_plain (take result (drop self.now.start self.now.bytes)) ≡ true }
+        ensures read { self.now.start + result ≤ self.now.stop }
+        ensures room { result ≤ room }
+    {
+        let count = room.min(self.stop - self.start);
+        match first_lf(&self.bytes[self.start..self.start + count]) {
+            Some(place) => place,
+            None => count,
+        }
+    }
+}
+
+/// The place of the first LF.
+#[inline]
+fn first_lf(bytes: &[u8]) -> Option<usize>
+    ensures { result ≡ position (λ b. b == 10) bytes.now }
+{
+    bytes.iter().position(|b| *b == b'\n')
 }

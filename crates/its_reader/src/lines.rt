@@ -1,7 +1,7 @@
 ghost use Rattle.std.specs.Prelude.{◌≡◌, ◌≢◌, ◌≤◌, ◌<◌, ◌+◌, [], false, Ok, length, IfOk};
 ghost use Rattle.its_io.specs.Bytes.{HasCause};
 ghost use Rattle.its_session.specs.Events.{most_lines};
-ghost use Rattle.its_reader.specs.Bytes.{pending, BufferFits};
+ghost use Rattle.its_reader.specs.Bytes.{pending, BufferFits, TookPlain};
 ghost use Rattle.its_reader.specs.Lines.{BetweenLines, Reads, Pushed, last_of};
 
 use super::buffer::Buffer;
@@ -75,7 +75,7 @@ impl Lines {
     }
 
     /// Reads up to the end of a line, or of the source.
-    #[tactic(auto, using(crate::proofs::LinesLaws::so_start, crate::proofs::LinesLaws::so_next, crate::proofs::LinesLaws::reads_push, crate::proofs::LinesLaws::reads_last, crate::proofs::LinesLaws::reads_broken, crate::proofs::LinesLaws::ready_open, crate::proofs::LinesLaws::ready_over))]
+    #[tactic(auto, using(crate::proofs::LinesLaws::so_start, crate::proofs::LinesLaws::reads_push, crate::proofs::LinesLaws::reads_last, crate::proofs::LinesLaws::reads_broken, crate::proofs::LinesLaws::ready_open, crate::proofs::LinesLaws::ready_over))]
     fn read_on<S: Source>(&mut self, src: &mut S) -> Result<Next, Failed>
         requires fits { BufferFits self.old.buffer }
         requires empty { self.old.line.items ≡ [] }
@@ -89,6 +89,7 @@ impl Lines {
         ensures cause { HasCause (S.faults src.old) (S.faults src.new) result }
     {
         loop {
+            self.take_plain();
             match self.buffer.next(src) {
                 Err(e) => return Err(e),
                 Ok(None) => {
@@ -101,6 +102,26 @@ impl Lines {
                     }
                 }
             }
+        }
+    }
+
+    /// Takes what was read of the line already: up to LF, or as much as it may have. It takes nothing of a line past the last.
+    #[inline]
+    #[tactic(auto, using(crate::proofs::BufferLaws::took_no_plain, crate::proofs::BufferLaws::plain_grows))]
+    fn take_plain(&mut self)
+        requires fits { BufferFits self.old.buffer }
+        requires short { length self.old.line.items ≤ 255 }
+        requires begun { 0 < length self.old.line.items → self.old.number ≤ most_lines }
+        ensures plain { TookPlain self.old.line.items self.new.line.items self.old.buffer self.new.buffer }
+        ensures grows { length self.old.line.items ≤ length self.new.line.items }
+        ensures fits { BufferFits self.new.buffer }
+        ensures short { length self.new.line.items ≤ 255 }
+        ensures begun { 0 < length self.new.line.items → self.new.number ≤ most_lines }
+        ensures number { self.new.number ≡ self.old.number }
+        ensures ended { self.new.ended ≡ self.old.ended }
+    {
+        if self.number <= MOST_LINES {
+            self.buffer.take_plain(&mut self.line, 255);
         }
     }
 }

@@ -1,7 +1,7 @@
 ghost use Rattle.std.specs.Prelude.{◌≡◌, ◌≤◌, ◌<◌, ◌+◌, [], false, Ok, length, IfOk};
 ghost use Rattle.its_io.specs.Bytes.{HasCause};
 ghost use Rattle.its_session.specs.Events.{most_lines};
-ghost use Rattle.its_reader.specs.Bytes.{pending, BufferFits};
+ghost use Rattle.its_reader.specs.Bytes.{pending, BufferFits, TookPlain};
 ghost use Rattle.its_reader.specs.Lines.{last_of};
 ghost use Rattle.its_reader.specs.TextLines.{before_lf};
 ghost use Rattle.its_reader.specs.Texts.{PushedText, ReadsText, ReadyTexts};
@@ -68,7 +68,7 @@ impl Texts {
     }
 
     /// Reads up to the end of a line, or of the source.
-    #[tactic(auto, using(crate::proofs::TextsLaws::so_start, crate::proofs::TextsLaws::so_next, crate::proofs::TextsLaws::ready_open, crate::proofs::TextsLaws::ready_over, crate::proofs::TextsLaws::short_end, crate::proofs::TextsLaws::short_last))]
+    #[tactic(auto, using(crate::proofs::TextsLaws::so_start, crate::proofs::TextsLaws::ready_open, crate::proofs::TextsLaws::ready_over, crate::proofs::TextsLaws::short_end, crate::proofs::TextsLaws::short_last))]
     fn read_on<S: Source>(&mut self, src: &mut S) -> Result<Next, Failed>
         requires fits { BufferFits self.old.buffer }
         requires empty { self.old.text.items ≡ [] }
@@ -84,6 +84,7 @@ impl Texts {
         ensures cause { HasCause (S.faults src.old) (S.faults src.new) result }
     {
         loop {
+            self.take_plain();
             match self.buffer.next(src) {
                 Err(e) => return Err(e),
                 Ok(None) => {
@@ -96,6 +97,28 @@ impl Texts {
                     }
                 }
             }
+        }
+    }
+
+    /// Takes what was read of the line already: up to LF, or as much as it may have. It takes nothing of a line past the last.
+    #[inline]
+    #[tactic(auto, using(crate::proofs::BufferLaws::took_no_plain, crate::proofs::BufferLaws::plain_grows))]
+    fn take_plain(&mut self)
+        requires fits { BufferFits self.old.buffer }
+        requires short { length self.old.text.items ≤ self.old.most }
+        requires most { self.old.most ≤ 1543 }
+        requires begun { 0 < length self.old.text.items → self.old.number ≤ most_lines }
+        ensures plain { TookPlain self.old.text.items self.new.text.items self.old.buffer self.new.buffer }
+        ensures grows { length self.old.text.items ≤ length self.new.text.items }
+        ensures fits { BufferFits self.new.buffer }
+        ensures short { length self.new.text.items ≤ self.new.most }
+        ensures most { self.new.most ≡ self.old.most }
+        ensures begun { 0 < length self.new.text.items → self.new.number ≤ most_lines }
+        ensures number { self.new.number ≡ self.old.number }
+        ensures ended { self.new.ended ≡ self.old.ended }
+    {
+        if self.number <= MOST_LINES {
+            self.buffer.take_plain(&mut self.text, self.most);
         }
     }
 }
