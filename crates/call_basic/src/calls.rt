@@ -20,7 +20,7 @@ pub fn target_of(w: &World, slot: Slot, ask: &Ask) -> Option<u8>
     requires job { is_some (job_at w.now.jobs slot) ≡ true }
     ensures { IfSome (raw_in w.now slot) (λ q. result ≡ target q ask.now) }
 {
-    match w.jobs.job(slot.number()) {
+    match w.jobs.job(slot) {
         Some(job) => target(w, slot, job, ask),
         None => unreachable!(),
     }
@@ -62,8 +62,9 @@ pub fn logout(w: &World, slot: Slot) -> Decision
     ensures { result ≡ Gone (record { items = told_superior (superior_at w.now.jobs slot) }) }
 {
     let mut changes = ArrayVec::new();
-    if let Some(superior) = w.jobs.superior(slot.number()) {
-        changes.push(Change::Inform { slot: superior });
+    if let Some(superior) = w.jobs.superior(slot) {
+        let number = superior.number();
+        changes.push(Change::Inform { slot: number });
     }
     Decision::Gone { changes }
 }

@@ -30,8 +30,8 @@ pub fn channel(job: &Job, number: Word) -> Channel
 pub fn is_superior(w: &World, slot: Slot, inferior: u8) -> bool
     ensures { result ≡ is_superior slot (outline_at w.now inferior) }
 {
-    match w.jobs.job(inferior) {
-        Some(_) => w.jobs.superior(inferior) == Some(slot.number()),
+    match w.jobs.numbered(inferior) {
+        Some(_) => w.jobs.superior(Slot::new(inferior)) == Some(slot),
         None => false,
     }
 }

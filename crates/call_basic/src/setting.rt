@@ -101,7 +101,7 @@ fn other_variable(
 fn value_of_other(w: &World, inferior: u8, variable: Variable) -> Word
     ensures { result ≡ value_of_other inferior variable (raw_in w.now inferior) }
 {
-    match w.jobs.job(inferior) {
+    match w.jobs.numbered(inferior) {
         Some(job) => variable_of(w, Slot::new(inferior), job, variable),
         None => Word::ZERO,
     }

@@ -71,7 +71,7 @@ pub fn is_read_only(w: &World, slot: Slot, place: Option<u32>) -> bool
     ensures { result ≡ read_only (core_at w.now.core slot) place }
 {
     match place {
-        Some(p) => !w.core.is_storable(slot.number(), p),
+        Some(p) => !w.core.is_storable(slot, p),
         None => false,
     }
 }

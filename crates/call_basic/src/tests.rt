@@ -1,5 +1,6 @@
-ghost use Rattle.std.specs.Prelude.{◌≡◌, None, OnOk};
+ghost use Rattle.std.specs.Prelude.{◌≡◌, true, None, IfSome, OnOk, is_some};
 ghost use Rattle.its_core.specs.Cores.{reserved_at};
+ghost use Rattle.its_jobs.specs.Table.{job_at};
 
 use super::{dismiss, fails, logout, sleep, target_of, usrvar};
 use arrayvec::ArrayVec;
@@ -13,19 +14,19 @@ use std::alloc::Global;
 use std::process::Abort;
 use std::test::Fail;
 
-/// Makes a page of slot 1.
+/// Makes a page of a slot.
 #[tactic(auto, unfolding(its_core::specs::Cores::core_at))]
-fn make_page(rt: &impl Abort, core: &mut Core, page: u8) -> Result<(), Fail>
-    requires { reserved_at core.old 1 ≡ None }
-    ensures { OnOk result (reserved_at core.new 1 ≡ None) }
+fn make_page(rt: &impl Abort, core: &mut Core, slot: Slot, page: u8) -> Result<(), Fail>
+    requires { reserved_at core.old slot ≡ None }
+    ensures { OnOk result (reserved_at core.new slot ≡ None) }
 {
-    assert!(rt; core.page(1, page).is_none());
-    core.reserve(1);
-    core.clear_quarter(1, 0);
-    core.clear_quarter(1, 1);
-    core.clear_quarter(1, 2);
-    core.clear_quarter(1, 3);
-    core.map(1, 1, page)?;
+    assert!(rt; core.page(slot, page).is_none());
+    core.reserve(slot);
+    core.clear_quarter(slot, 0);
+    core.clear_quarter(slot, 1);
+    core.clear_quarter(slot, 2);
+    core.clear_quarter(slot, 3);
+    core.map(slot, slot, page)?;
     Ok(())
 }
 
@@ -33,8 +34,9 @@ fn make_page(rt: &impl Abort, core: &mut Core, page: u8) -> Result<(), Fail>
 /// delivery pushed.
 fn cores(rt: &impl Abort, alloc: Global) -> Result<Core, Fail> {
     let mut core = Core::open(alloc)?;
-    make_page(rt, &mut core, 0)?;
-    make_page(rt, &mut core, 2)?;
+    let slot = Slot::new(1);
+    make_page(rt, &mut core, slot, 0)?;
+    make_page(rt, &mut core, slot, 2)?;
     for (a, v) in [
         (0o17, 0o777700_000505),
         (0o503, 0o1004),
@@ -42,11 +44,22 @@ fn cores(rt: &impl Abort, alloc: Global) -> Result<Core, Fail> {
         (0o505, 0o410000_000202),
     ] {
         assert!(rt; a <= 0o777777);
-        assert_eq!(rt; core.put(1, a, Word::new(v)), Ok(()));
+        assert_eq!(rt; core.put(slot, a, Word::new(v)), Ok(()));
     }
-    assert!(rt; core.page(1, 2).is_some());
-    core.protect(1, 2, false);
+    assert!(rt; core.page(slot, 2).is_some());
+    core.protect(slot, 2, false);
     Ok(core)
+}
+
+/// The slot of a superior, which has a job; None if there is none.
+fn standing(rt: &impl Abort, jobs: &Jobs, superior: Option<u8>) -> Option<Slot>
+    ensures { IfSome result (λ s. is_some (job_at jobs.now s) ≡ true) }
+{
+    let number = superior?;
+    assert!(rt; usize::from(number) < SLOTS);
+    let slot = Slot::new(number);
+    assert!(rt; jobs.job(slot).is_some());
+    Some(slot)
 }
 
 /// Jobs of slots 0, 1 and 2, each the superior of the next. Of slot 1 channel 0 is on slot 2 with leave to
@@ -55,14 +68,11 @@ fn jobs(rt: &impl Abort, jobs: &mut Jobs) -> Result<(), Fail>
     ensures { jobs.new.limit ≡ jobs.old.limit }
 {
     for (slot, superior) in [None, Some(0), Some(1)].into_iter().enumerate() {
-        if let Some(s) = superior {
-            assert!(rt; usize::from(s) < SLOTS);
-            assert!(rt; jobs.job(s).is_some());
-        }
+        let superior = standing(rt, jobs, superior);
         let made = jobs.create(Word::new(7), Word::new(slot as u64), superior, Some(3))?;
-        assert_eq!(rt; made, slot as u8);
+        assert_eq!(rt; made.number(), slot as u8);
     }
-    if let Some(job) = jobs.job_mut(1) {
+    if let Some(job) = jobs.job_mut(Slot::new(1)) {
         job.pc = 0o200;
         job.flags = BYTE_HALF + 0o40;
         job.mask1 = Word::new(5);
@@ -215,7 +225,7 @@ fn wanted(rt: &impl Abort, want: Want) -> Decision {
 /// The decision of a call of slot 1 whose decoding gave no error.
 fn decision(rt: &impl Abort, w: &World, ask: &Ask) -> Decision {
     let slot = Slot::new(1);
-    let job = w.jobs.job(1).expect(rt, "slot 1 has a job");
+    let job = w.jobs.job(Slot::new(1)).expect(rt, "slot 1 has a job");
     assert!(rt; ask.fail == 0);
     match CallName::named(ask.name) {
         Some(CallName::Sleep) => sleep(w, slot, job, ask),
@@ -230,7 +240,7 @@ fn decision(rt: &impl Abort, w: &World, ask: &Ask) -> Decision {
 #[test]
 fn calls(rt: HostRuntime) -> Result<(), Fail> {
     let w = world(&rt, rt.alloc())?;
-    assert!(rt; w.jobs.job(1).is_some());
+    assert!(rt; w.jobs.job(Slot::new(1)).is_some());
     let none: [u32; 0] = [];
     let out = [0o310];
     for (name, inputs, outputs, want, target) in [
@@ -431,7 +441,7 @@ fn calls(rt: HostRuntime) -> Result<(), Fail> {
 #[test]
 fn registers(rt: HostRuntime) -> Result<(), Fail> {
     let w = world(&rt, rt.alloc())?;
-    assert!(rt; w.jobs.job(1).is_some());
+    assert!(rt; w.jobs.job(Slot::new(1)).is_some());
     let set = ask(
         &rt,
         CallName::Usrvar,

@@ -56,10 +56,10 @@ pub fn iot_ends(job: &Job, change: Option<Change>, stores: ArrayVec<Store, 2>) -
 pub fn bar_of_store(w: &World, slot: Slot, at: u32) -> Option<Fault>
     ensures { result ≡ bar_of (core_at w.now.core slot) at }
 {
-    if w.core.word(slot.number(), at).is_none() {
+    if w.core.word(slot, at).is_none() {
         return Some(Fault::Mpv);
     }
-    if !w.core.is_storable(slot.number(), at) {
+    if !w.core.is_storable(slot, at) {
         return Some(Fault::Wro);
     }
     None

@@ -14,14 +14,7 @@ use its_world::World;
 pub(crate) fn variable_of(w: &World, slot: Slot, job: &Job, variable: Variable) -> Word
     ensures { result ≡ variable_of slot (raw_with w.now slot job.now) variable }
 {
-    its_machine::variable_of(
-        &w.core,
-        &w.jobs,
-        slot.number(),
-        slot.number(),
-        job,
-        variable,
-    )
+    its_machine::variable_of(&w.core, &w.jobs, slot.number(), slot, job, variable)
 }
 
 /// Whether a job may set a variable of its own.

@@ -33,7 +33,7 @@ pub fn decide(w: &World, slot: Slot, ask: &Ask) -> Decision
     requires unmarked { IfSome (raw_in w.now slot) (λ q. helps q ask.now ≡ true → w.now.files.mark ≡ None) }
     ensures { IfSome (raw_in w.now slot) (λ q. result ≡ decision (state_of w.now).raw slot q ask.now) }
 {
-    match w.jobs.job(slot.number()) {
+    match w.jobs.job(slot) {
         Some(job) => decided(w, slot, job, ask),
         None => unreachable!(),
     }
@@ -70,7 +70,7 @@ fn unmarked_part(w: &World, slot: Slot, ask: &Ask) -> Option<Part>
     ensures unmarked { IfSome result (λ p. w.now.files.mark ≡ None) }
     ensures name { IfSome result (λ p. call_named_by ask.now.name ≡ Some Siot) }
 {
-    match w.jobs.job(slot.number()) {
+    match w.jobs.job(slot) {
         Some(job) => siot_part(w, slot, job, ask),
         None => None,
     }

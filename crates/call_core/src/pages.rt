@@ -84,7 +84,7 @@ fn pages_of(w: &World, slot: Slot, job: &Job, ask: &Ask, target: Slot) -> Decisi
 fn has_page(w: &World, slot: Slot, page: u8) -> bool
     ensures { result ≡ has_page (core_at w.now.core slot) page }
 {
-    w.core.page(slot.number(), page).is_some()
+    w.core.page(slot, page).is_some()
 }
 
 /// Whether a page that is to be made is there, or any other is not.

@@ -26,7 +26,7 @@ pub fn is_disk(ask: &Ask) -> bool
 pub fn helps(w: &World, slot: Slot, ask: &Ask) -> bool
     ensures { IfSome (raw_in w.now slot) (λ q. result ≡ helps q ask.now) }
 {
-    match w.jobs.job(slot.number()) {
+    match w.jobs.job(slot) {
         Some(job) => is_on_files(w, slot, job, ask),
         None => false,
     }

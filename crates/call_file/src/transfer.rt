@@ -78,7 +78,7 @@ pub fn iot_writes(w: &World, slot: Slot, job: &Job, ask: &Ask, draft: u32) -> De
 {
     w.files.seen();
     let e = ask.outputs.first().copied().unwrap_or(0);
-    let Some(word) = w.core.word(slot.number(), e) else {
+    let Some(word) = w.core.word(slot, e) else {
         return faults(job, Fault::Mpv);
     };
     if w.files.is_full(draft) {
@@ -179,7 +179,7 @@ fn siot_write(
     ensures { part_of job.now ask.now result ≡ siot_write (seen_by w.now slot job.now ask.now) ask.now next (input ask.now 2) (input ask.now 0) (file_at w.now.files draft) }
 {
     w.files.seen();
-    let Some(word) = w.core.word(slot.number(), next.right()) else {
+    let Some(word) = w.core.word(slot, next.right()) else {
         return Err(Stop::Faults(Fault::Mpv));
     };
     if w.files.is_full(draft) {

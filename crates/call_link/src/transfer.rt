@@ -55,7 +55,7 @@ fn iot_sends(w: &World, slot: Slot, job: &Job, ask: &Ask, link: u8) -> Decision
     ensures { result ≡ iot_sends (seen_by w.now slot job.now ask.now) (slice_index_or ask.now.outputs.items 0 0) link }
 {
     let e = ask.outputs.first().copied().unwrap_or(0);
-    let Some(word) = w.core.word(slot.number(), e) else {
+    let Some(word) = w.core.word(slot, e) else {
         return faults(job, Fault::Mpv);
     };
     if w.pipes.is_unread(link) {
@@ -156,7 +156,7 @@ fn siot_send(
     requires size { has_size next ≡ true }
     ensures { part_of job.now ask.now result ≡ siot_send (seen_by w.now slot job.now ask.now) ask.now next (input ask.now 2) link }
 {
-    let Some(word) = w.core.word(slot.number(), next.right()) else {
+    let Some(word) = w.core.word(slot, next.right()) else {
         return Err(Stop::Faults(Fault::Mpv));
     };
     if w.pipes.is_unread(link) {

@@ -1,7 +1,8 @@
 //! The decisions of calls of slot 1, which has console 3. Numbers in rows are octal, and rows are separated by `;`: the call, how many
 //! bytes are typed and put out at the console, and its holder | inputs, as `value@place` if they have one | the decision.
-ghost use Rattle.std.specs.Prelude.{◌≡◌, None, OnOk};
+ghost use Rattle.std.specs.Prelude.{◌≡◌, true, None, IfSome, OnOk, is_some};
 ghost use Rattle.its_core.specs.Cores.{reserved_at};
+ghost use Rattle.its_jobs.specs.Table.{job_at};
 
 use super::{finish, iot_in, iot_out, listen, open_tty, siot_in, siot_out, ttylnd};
 use arrayvec::ArrayVec;
@@ -10,7 +11,7 @@ use its_core::Core;
 use its_frame::{CallName, Change, Decision, Exit, Held, Opened, Store, Wait};
 use its_jobs::Jobs;
 use its_records::{Ask, Channel, Job, Operand};
-use its_word::{BYTE_HALF, SLOTS, Slot, Word, read_octal};
+use its_word::{BYTE_HALF, ConsoleNumber, SLOTS, Slot, Word, read_octal};
 use its_world::World;
 use std::alloc::Global;
 use std::process::Abort;
@@ -98,19 +99,19 @@ const CHARACTERS: u64 = 0o406050_342212;
 /// The same with 132 as the first, and no more.
 const CHARACTER: u64 = 0o550000_000000;
 
-/// Makes a page of slot 1.
+/// Makes a page of a slot.
 #[tactic(auto, unfolding(its_core::specs::Cores::core_at))]
-fn make_page(rt: &impl Abort, core: &mut Core, page: u8) -> Result<(), Fail>
-    requires { reserved_at core.old 1 ≡ None }
-    ensures { OnOk result (reserved_at core.new 1 ≡ None) }
+fn make_page(rt: &impl Abort, core: &mut Core, slot: Slot, page: u8) -> Result<(), Fail>
+    requires { reserved_at core.old slot ≡ None }
+    ensures { OnOk result (reserved_at core.new slot ≡ None) }
 {
-    assert!(rt; core.page(1, page).is_none());
-    core.reserve(1);
-    core.clear_quarter(1, 0);
-    core.clear_quarter(1, 1);
-    core.clear_quarter(1, 2);
-    core.clear_quarter(1, 3);
-    core.map(1, 1, page)?;
+    assert!(rt; core.page(slot, page).is_none());
+    core.reserve(slot);
+    core.clear_quarter(slot, 0);
+    core.clear_quarter(slot, 1);
+    core.clear_quarter(slot, 2);
+    core.clear_quarter(slot, 3);
+    core.map(slot, slot, page)?;
     Ok(())
 }
 
@@ -118,8 +119,9 @@ fn make_page(rt: &impl Abort, core: &mut Core, page: u8) -> Result<(), Fail>
 /// 4000.
 fn cores(rt: &impl Abort, alloc: Global) -> Result<Core, Fail> {
     let mut core = Core::open(alloc)?;
-    make_page(rt, &mut core, 0)?;
-    make_page(rt, &mut core, 2)?;
+    let slot = Slot::new(1);
+    make_page(rt, &mut core, slot, 0)?;
+    make_page(rt, &mut core, slot, 2)?;
     for (a, v) in [
         (0, CHARACTER),
         (0o310, CHARACTERS),
@@ -127,11 +129,22 @@ fn cores(rt: &impl Abort, alloc: Global) -> Result<Core, Fail> {
         (0o4000, CHARACTERS),
     ] {
         assert!(rt; a <= 0o777777);
-        assert_eq!(rt; core.put(1, a, Word::new(v)), Ok(()));
+        assert_eq!(rt; core.put(slot, a, Word::new(v)), Ok(()));
     }
-    assert!(rt; core.page(1, 2).is_some());
-    core.protect(1, 2, false);
+    assert!(rt; core.page(slot, 2).is_some());
+    core.protect(slot, 2, false);
     Ok(core)
+}
+
+/// The slot of a superior, which has a job; None if there is none.
+fn standing(rt: &impl Abort, jobs: &Jobs, superior: Option<u8>) -> Option<Slot>
+    ensures { IfSome result (λ s. is_some (job_at jobs.now s) ≡ true) }
+{
+    let number = superior?;
+    assert!(rt; usize::from(number) < SLOTS);
+    let slot = Slot::new(number);
+    assert!(rt; jobs.job(slot).is_some());
+    Some(slot)
 }
 
 /// Jobs of slots 0, 1 and 2, each the superior of the next, at console 3. Of slot 1 channel 1 is the console's
@@ -140,14 +153,11 @@ fn jobs(rt: &impl Abort, jobs: &mut Jobs) -> Result<(), Fail>
     ensures { jobs.new.limit ≡ jobs.old.limit }
 {
     for (slot, superior) in [None, Some(0), Some(1)].into_iter().enumerate() {
-        if let Some(s) = superior {
-            assert!(rt; usize::from(s) < SLOTS);
-            assert!(rt; jobs.job(s).is_some());
-        }
+        let superior = standing(rt, jobs, superior);
         let made = jobs.create(Word::new(7), Word::new(slot as u64), superior, Some(3))?;
-        assert_eq!(rt; made, slot as u8);
+        assert_eq!(rt; made.number(), slot as u8);
     }
-    if let Some(job) = jobs.job_mut(1) {
+    if let Some(job) = jobs.job_mut(Slot::new(1)) {
         job.pc = 0o200;
         job.flags = BYTE_HALF + 0o40;
         job.channels[1] = Channel::TtyIn;
@@ -171,20 +181,22 @@ fn world(rt: &impl Abort, alloc: Global) -> Result<World, Fail> {
 
 /// At console 3 the first of 301, 102 and 3 are typed, so many bytes are put out, and it gets a holder.
 fn prepare(rt: &impl Abort, w: &mut World, typed: u8, put: u8, holder: Option<u8>) {
+    let console = ConsoleNumber::new(3);
     for b in [0o301, 0o102, 0o3].iter().take(usize::from(typed)) {
-        assert!(rt; w.type_in(3, *b));
+        assert!(rt; w.type_in(console, *b));
     }
     for _k in 0..put {
-        assert!(rt; w.put(3, 0o101));
+        assert!(rt; w.put(console, 0o101));
     }
-    w.hold(3, holder);
+    w.hold(console, holder);
 }
 
 /// Nothing waits any more at console 3.
 fn clear(w: &mut World) {
+    let console = ConsoleNumber::new(3);
     for _k in 0..64 {
-        let _typed = w.take(3);
-        let _put = w.drain(3);
+        let _typed = w.take(console);
+        let _put = w.drain(console);
     }
 }
 
@@ -376,7 +388,7 @@ fn change(kind: &str, number: u8) -> Option<Change> {
 
 /// The call of slot 1 decides what is wanted.
 fn comes_to(rt: &impl Abort, w: &World, ask: &Ask, wanted: &Decision, row: &str) {
-    let job = w.jobs.job(1).expect(rt, "a job");
+    let job = w.jobs.job(Slot::new(1)).expect(rt, "a job");
     assert!(rt; decided(rt, w, job, ask) == *wanted, "{row}");
 }
 
@@ -459,7 +471,7 @@ fn strays(rt: HostRuntime) -> Result<(), Fail> {
     open.control = Some(Word::new(2));
     comes_to(&rt, &w, &open, &wanted(&rt, "fails 22"), "control 2");
     open.control = None;
-    if let Some(job) = w.jobs.job_mut(1) {
+    if let Some(job) = w.jobs.job_mut(Slot::new(1)) {
         job.console = None;
     }
     comes_to(&rt, &w, &open, &wanted(&rt, "fails 5"), "no console");

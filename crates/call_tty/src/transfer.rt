@@ -46,7 +46,7 @@ pub fn iot_out(w: &World, slot: Slot, job: &Job, ask: &Ask) -> Decision
 {
     let console = console_of(job);
     let e = ask.outputs.first().copied().unwrap_or(0);
-    let Some(word) = w.core.word(slot.number(), e) else {
+    let Some(word) = w.core.word(slot, e) else {
         return faults(job, Fault::Mpv);
     };
     if output_waits(w, slot, console) {
@@ -119,7 +119,7 @@ fn puts_byte(w: &World, slot: Slot, job: &Job, ask: &Ask, next: Word) -> Result<
     ensures { part_of job.now ask.now result ≡ siot_out (seen_by w.now slot job.now ask.now) ask.now next (input ask.now 2) (unwrap_or job.now.console 0) }
 {
     let console = console_of(job);
-    let Some(word) = w.core.word(slot.number(), next.right()) else {
+    let Some(word) = w.core.word(slot, next.right()) else {
         return Err(Stop::Faults(Fault::Mpv));
     };
     if output_waits(w, slot, console) {

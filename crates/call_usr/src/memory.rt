@@ -68,10 +68,10 @@ fn usrmem_on(
         return fails(job, ask, error::WRONG_DEVICE);
     }
     let address = address as u32;
-    let Some(word) = w.core.word(inferior, address) else {
+    let Some(word) = w.core.word(Slot::new(inferior), address) else {
         return fails(job, ask, error::BAD_PAGE);
     };
-    if new && !w.core.is_storable(inferior, address) {
+    if new && !w.core.is_storable(Slot::new(inferior), address) {
         return fails(job, ask, error::BAD_PAGE);
     }
     set_word(job, ask, inferior, address, word)

@@ -62,7 +62,7 @@ fn makes_job(w: &World, slot: Slot, job: &Job, ask: &Ask, n: u8, u: Word, x: Wor
     ensures { result ≡ makes_job (seen_by w.now slot job.now ask.now) ask.now n u x (least_free (seen_by w.now slot job.now ask.now).limit (seen_by w.now slot job.now ask.now).outlines) }
 {
     match w.jobs.free() {
-        Some(free) => made(job, n, free, u, x),
+        Some(free) => made(job, n, free.number(), u, x),
         None => fails(job, ask, error::NO_SLOT),
     }
 }
@@ -110,7 +110,7 @@ fn any_named(w: &World, slot: Slot, job: &Job, ask: &Ask, u: Word, x: Word) -> b
 fn has_names(w: &World, slot: u8, u: Word, x: Word) -> bool
     ensures { result ≡ has_names u x (outline_at w.now slot) }
 {
-    match w.jobs.job(slot) {
+    match w.jobs.numbered(slot) {
         Some(job) => job.uname == u && job.jname == x,
         None => false,
     }

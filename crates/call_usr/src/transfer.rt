@@ -63,7 +63,7 @@ fn iot_from(w: &World, slot: Slot, job: &Job, ask: &Ask, inferior: u8, at: u32) 
     if at_end(at) {
         return iot_ends(job, None, store_at(Some(e), Word::new(END_OF_CORE)));
     }
-    match w.core.word(inferior, at) {
+    match w.core.word(Slot::new(inferior), at) {
         Some(word) => {
             let change = Change::Move {
                 channel: input(ask, 0).value() as u8,
@@ -83,10 +83,10 @@ fn iot_into(w: &World, slot: Slot, job: &Job, ask: &Ask, inferior: u8, at: u32) 
     ensures { result ≡ iot_into (seen_by w.now slot job.now ask.now) (slice_index_or ask.now.outputs.items 0 0) (input ask.now 0) inferior at }
 {
     let e = ask.outputs.first().copied().unwrap_or(0);
-    let Some(word) = w.core.word(slot.number(), e) else {
+    let Some(word) = w.core.word(slot, e) else {
         return faults(job, Fault::Mpv);
     };
-    if at_end(at) || !w.core.is_storable(inferior, at) {
+    if at_end(at) || !w.core.is_storable(Slot::new(inferior), at) {
         return ioc(job);
     }
     Decision::Ends {
@@ -141,7 +141,7 @@ fn siot_from(w: &World, slot: Slot, job: &Job, ask: &Ask, inferior: u8, at: u32)
 {
     match stopped(w, slot, job, ask, true, at_end(at)) {
         Some(decision) => decision,
-        None => siot_peeks(w, slot, job, ask, at, w.core.word(inferior, at)),
+        None => siot_peeks(w, slot, job, ask, at, w.core.word(Slot::new(inferior), at)),
     }
 }
 
@@ -189,10 +189,10 @@ fn siot_pokes(w: &World, slot: Slot, job: &Job, ask: &Ask, inferior: u8, at: u32
     ensures { result ≡ siot_pokes (seen_by w.now slot job.now ask.now) ask.now (next_pointer (input ask.now 1)) (input ask.now 2) (input ask.now 0) inferior at }
 {
     let next = next_pointer(input(ask, 1));
-    let Some(word) = w.core.word(slot.number(), next.right()) else {
+    let Some(word) = w.core.word(slot, next.right()) else {
         return faults(job, Fault::Mpv);
     };
-    if !w.core.is_storable(inferior, at) {
+    if !w.core.is_storable(Slot::new(inferior), at) {
         return fails(job, ask, error::BAD_PAGE);
     }
     let changes = poke_and_move(ask, inferior, at, Word::new(load(next, word)));

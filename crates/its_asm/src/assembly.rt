@@ -12,7 +12,7 @@ use super::statements::Statement;
 use super::symbols::Symbols;
 use indexmap::IndexSet;
 use its_chart::cut;
-use its_word::Word;
+use its_word::{ConsoleNumber, Word};
 use std::alloc::{AllocError, Global};
 
 /// What a text says of a job: its names, its console, its words, its symbols and its start.
@@ -20,7 +20,7 @@ use std::alloc::{AllocError, Global};
 pub struct Image {
     pub u: Word,
     pub j: Word,
-    pub console: Option<u8>,
+    pub console: Option<ConsoleNumber>,
     pub words: Cells,
     pub symbols: Symbols,
     pub start: u32,
@@ -32,7 +32,7 @@ pub struct Assembly {
     pub layout: Layout,
     pub u: Word,
     pub j: Word,
-    pub console: Option<u8>,
+    pub console: Option<ConsoleNumber>,
     pub cells: Given,
     pub literals: IndexSet<Word>,
     pub start: u32,

@@ -12,7 +12,7 @@ use super::instruction::{Item, instruction, whole};
 use super::reason::AsmReason;
 use super::symbols::symbol;
 use its_chart::opcode_named;
-use its_word::{Word, read_octal, read_sixbit};
+use its_word::{ConsoleNumber, Word, read_octal, read_sixbit};
 
 /// A statement, with the values of its expressions or the reasons against them.
 #[derive(Clone, Copy, Debug, PartialEq, Eq)]
@@ -23,7 +23,7 @@ pub enum Statement {
     Job {
         u: Word,
         j: Word,
-        console: Option<u8>,
+        console: Option<ConsoleNumber>,
     },
     /// `NAME = e`
     Equals {
@@ -45,14 +45,14 @@ pub enum Statement {
 }
 
 /// A console from 0 to 7, or `-` for none.
-fn console(word: &[u8]) -> Option<Option<u8>>
+fn console(word: &[u8]) -> Option<Option<ConsoleNumber>>
     ensures { result ≡ console_named word.now }
 {
     if is(word, b"-") {
         return Some(None);
     }
     match read_octal(word).ok()?.value() {
-        c @ ..=7 => Some(Some(c as u8)),
+        c @ ..=7 => Some(Some(ConsoleNumber::new(c as u8))),
         _ => None,
     }
 }

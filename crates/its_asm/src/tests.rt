@@ -1,6 +1,6 @@
 use super::*;
 use arrayvec::ArrayVec;
-use its_word::{Word, read_octal};
+use its_word::{ConsoleNumber, Word, read_octal};
 use std::alloc::Global;
 use std::process::Abort;
 use std::test::Fail;
@@ -212,7 +212,10 @@ fn shown(alloc: Global, text: &[u8]) -> Result<String, Fail> {
         Err(fault) => return Ok(format!(in alloc; "{fault}")?),
     };
     let (u, j, start) = (image.u.value(), image.j.value(), image.start);
-    let mut out = format!(in alloc; "{u:o} {j:o} {:?} {start:o}", image.console)?;
+    let mut out = format!(in alloc;
+        "{u:o} {j:o} {:?} {start:o}",
+        ConsoleNumber::numbered(image.console)
+    )?;
     for k in 0..9 {
         if let Some((a, w)) = image.words.at(k) {
             let w = w.value();

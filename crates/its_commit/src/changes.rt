@@ -23,7 +23,7 @@ use its_core::Full;
 use its_frame::{Change, Opened, Variable};
 use its_jobs::NoSlot;
 use its_records::{Channel, Job};
-use its_word::{INF, Slot, Word, flags_in};
+use its_word::{ConsoleNumber, INF, Slot, Word, flags_in};
 use its_world::World;
 
 /// Makes the changes of a call of slot's job, in their order.
@@ -64,9 +64,9 @@ fn apply_one(w: &mut World, slot: Slot, change: &Change)
             new_x,
             new_y,
         } => w.rename_file(*d, *x, *y, *new_x, *new_y),
-        Change::Take { console } => take(w, *console),
-        Change::Put { console, byte } => put(w, *console, *byte),
-        Change::Hold { console, slot: s } => hold(w, *console, *s),
+        Change::Take { console } => take(w, ConsoleNumber::new(*console)),
+        Change::Put { console, byte } => put(w, ConsoleNumber::new(*console), *byte),
+        Change::Hold { console, slot: s } => hold(w, ConsoleNumber::new(*console), *s),
         Change::Inform { slot: s } => inform(w, *s),
         Change::Arm { alarm } => arm(w, slot, *alarm),
         Change::Join {
@@ -114,8 +114,8 @@ pub fn apply_part(w: &mut World, slot: Slot, change: Change)
     match change {
         Change::Move { channel, at } => w.move_to(slot, channel, at),
         Change::Append { channel, word } => w.append(slot, channel, word),
-        Change::Take { console } => take(w, console),
-        Change::Put { console, byte } => put(w, console, byte),
+        Change::Take { console } => take(w, ConsoleNumber::new(console)),
+        Change::Put { console, byte } => put(w, ConsoleNumber::new(console), byte),
         Change::Send { link, word } => send(w, link, word),
         Change::Receive { link } => receive(w, link),
         other => apply_one(w, slot, &other),
@@ -153,8 +153,7 @@ fn open(w: &mut World, slot: Slot, n: u8, on: Opened)
 
 /// Takes the first byte of a console's input.
 #[tactic(auto, using(crate::proofs::TidyLaws::console_pages, crate::proofs::ChangeLaws::byte_taken, crate::proofs::TidyLaws::tidy_console))]
-fn take(w: &mut World, console: u8)
-    requires console { console < 8 }
+fn take(w: &mut World, console: ConsoleNumber)
     requires tidy { Tidy w.old }
     ensures row { state_of w.new ≡ with_raw (state_of w.old) (on_console (state_of w.old).raw console after_take) }
     ensures pages { w.new.core.frames ≡ w.old.core.frames }
@@ -165,8 +164,7 @@ fn take(w: &mut World, console: u8)
 
 /// Puts a byte at the end of a console's output, which has room.
 #[tactic(auto, using(crate::proofs::TidyLaws::console_pages, crate::proofs::ChangeLaws::byte_put, crate::proofs::ChangeLaws::console_room, crate::proofs::TidyLaws::tidy_console))]
-fn put(w: &mut World, console: u8, byte: u8)
-    requires console { console < 8 }
+fn put(w: &mut World, console: ConsoleNumber, byte: u8)
     requires room { length ((state_of w.old).raw.consoles console).output < most_waiting }
     requires tidy { Tidy w.old }
     ensures row { state_of w.new ≡ with_raw (state_of w.old) (on_console (state_of w.old).raw console (after_put byte)) }
@@ -204,8 +202,7 @@ fn receive(w: &mut World, link: u8)
 
 /// Makes a slot's job the holder of a console.
 #[tactic(auto, using(crate::proofs::TidyLaws::holder_pages, its_world::proofs::StateLaws::holder_state, crate::proofs::TidyLaws::tidy_holder))]
-fn hold(w: &mut World, console: u8, slot: u8)
-    requires console { console < 8 }
+fn hold(w: &mut World, console: ConsoleNumber, slot: u8)
     requires tidy { Tidy w.old }
     ensures row { state_of w.new ≡ with_raw (state_of w.old) (record (state_of w.old).raw { holders = changed (state_of w.old).raw.holders console (Some slot) }) }
     ensures pages { w.new.core.frames ≡ w.old.core.frames }
@@ -222,7 +219,7 @@ fn inform(w: &mut World, slot: u8)
     ensures pages { w.new.core.frames ≡ w.old.core.frames }
     ensures tidy { Tidy w.new }
 {
-    if let Some(mut job) = w.jobs.job(slot).copied() {
+    if let Some(mut job) = w.jobs.numbered(slot).copied() {
         job.pend1 = job.pend1 | Word::new(INF);
         w.put_registers(Slot::new(slot), job);
     }
@@ -265,7 +262,7 @@ fn make(w: &mut World, maker: Slot, slot: u8, u: Word, j: Word)
     ensures tidy { Tidy w.new }
 {
     let console = console_of(w, maker);
-    match w.jobs.create(u, j, Some(maker.number()), console) {
+    match w.jobs.create(u, j, Some(maker), console) {
         Ok(_) => {}
         Err(NoSlot) => unreachable!(),
     }
@@ -275,7 +272,7 @@ fn make(w: &mut World, maker: Slot, slot: u8, u: Word, j: Word)
 fn console_of(w: &World, slot: Slot) -> Option<u8>
     ensures { result ≡ console_in ((state_of w.now).raw.jobs slot) }
 {
-    match w.jobs.job(slot.number()) {
+    match w.jobs.job(slot) {
         Some(job) => job.console,
         None => None,
     }
@@ -290,7 +287,7 @@ fn map(w: &mut World, slot: Slot, target: u8, page: u8)
     ensures pages { w.new.core.frames ≡ frames_map slot target page w.old.core.frames }
     ensures tidy { Tidy w.new }
 {
-    match w.core.map(slot.number(), target, page) {
+    match w.core.map(slot, Slot::new(target), page) {
         Ok(()) => {}
         Err(Full) => unreachable!(),
     }
@@ -305,7 +302,7 @@ fn unmap(w: &mut World, slot: u8, page: u8)
     ensures pages { w.new.core.frames ≡ frames_unmap slot page w.old.core.frames }
     ensures tidy { Tidy w.new }
 {
-    w.core.unmap(slot, page);
+    w.core.unmap(Slot::new(slot), page);
 }
 
 /// A page of a slot's job is made writable or read only.
@@ -317,7 +314,7 @@ fn protect(w: &mut World, slot: u8, page: u8, writable: bool)
     ensures pages { w.new.core.frames ≡ w.old.core.frames }
     ensures tidy { Tidy w.new }
 {
-    w.core.protect(slot, page, writable);
+    w.core.protect(Slot::new(slot), page, writable);
 }
 
 /// Sets a variable of a slot's job, if it has one.
@@ -328,7 +325,7 @@ fn set(w: &mut World, slot: u8, variable: Variable, value: Word)
     ensures pages { w.new.core.frames ≡ w.old.core.frames }
     ensures tidy { Tidy w.new }
 {
-    if let Some(job) = w.jobs.job(slot).copied() {
+    if let Some(job) = w.jobs.numbered(slot).copied() {
         w.put_registers(Slot::new(slot), with_variable(job, variable, value));
     }
 }

@@ -183,7 +183,7 @@ fn end(w: &mut World, slot: Slot, stores: &[Store], exit: Exit)
     ensures tidy { Tidy w.new }
 {
     let parts = owed_parts(w, slot);
-    let reserved = w.core.has_reserved(slot.number());
+    let reserved = w.core.has_reserved(slot);
     let (ask, owes) = standing(w, slot);
     let owed = owed_steps(&parts, reserved, ask, owes, stores, exit);
     w.end(slot, owed);

@@ -20,7 +20,7 @@ mod tests;
 
 use its_machine::{is_removed, leave_each, pass_on};
 use its_word::{SLOTS, Slot};
-use its_world::{World, forget_removed};
+use its_world::{World, forget_removed, within};
 
 /// How many channels a job has.
 const CHANNELS: u8 = 16;
@@ -41,13 +41,13 @@ pub fn remove_tree(w: &mut World, slot: Slot)
     ensures frames { w.new.core.frames ≡ pages_swept (is_gone (superiors (state_of w.old).raw) slot) slots w.old.core.frames }
     ensures tidy { Tidy w.new }
 {
-    let root = slot.number();
+    within(slot);
     w.jobs.tree();
     sweep(w, slot);
     w.jobs.tree();
-    pass_on(&w.jobs, root, &mut w.holders);
-    w.pipes.leave_links(&w.jobs, root);
-    w.jobs.remove_tree(root);
+    pass_on(&w.jobs, slot, &mut w.holders);
+    w.pipes.leave_links(&w.jobs, slot);
+    w.jobs.remove_tree(slot);
     forget_removed(&mut w.symbols, &w.jobs);
     w.settle_posts();
 }
@@ -71,7 +71,7 @@ fn sweep_slot(w: &mut World, root: Slot, slot: Slot)
     ensures tidy { Tidy w.new }
 {
     w.jobs.tree();
-    if is_removed(&w.jobs, root.number(), slot.number()) {
+    if is_removed(&w.jobs, root, slot.number()) {
         empty(w, slot);
     } else {
         shut_channels(w, root, slot);
@@ -108,7 +108,7 @@ fn drop_core(w: &mut World, slot: Slot)
     ensures dropped { CoreBecomes w.old (with_frames w.new w.old.core.frames) slot no_core }
     ensures frames { w.new.core.frames ≡ frames_drop_all slot w.old.core.frames }
 {
-    w.core.drop_all(slot.number());
+    w.core.drop_all(slot);
 }
 
 /// Closes the channels of a slot's job that are on jobs of a tree.
@@ -120,7 +120,7 @@ fn shut_channels(w: &mut World, root: Slot, slot: Slot)
     ensures tidy { Tidy w.new }
 {
     if let Some(mut job) = w.registers(slot) {
-        leave_each(&w.jobs, root.number(), &mut job.channels);
+        leave_each(&w.jobs, root, &mut job.channels);
         w.put_registers(slot, job);
     }
 }

@@ -1,11 +1,11 @@
 ghost use Rattle.std.specs.Prelude.{◌≡◌, ◌<◌, ◌≤◌, ◌+◌, ◌-◌, ◌*◌, ◌^◌, ◌++◌, length, IfOk};
 ghost use Rattle.its_word.specs.Address.{address as address_of, indexed, index_of, index_places, is_indirect, last_used};
-ghost use Rattle.its_word.specs.Limits.{slots, budget};
+ghost use Rattle.its_word.specs.Limits.{budget};
 ghost use Rattle.its_core.specs.Cores.{core_at};
 
 use super::cores::Core;
 use arrayvec::ArrayVec;
-use its_word::{Address, BUDGET, Fault, Word};
+use its_word::{Address, BUDGET, Fault, Slot, Word};
 
 /// I of an address word.
 fn is_indirect(w: Word) -> bool
@@ -38,8 +38,7 @@ impl Core {
     /// The address that an address word gives before indirection, and the last index register or
     /// indirect word with it.
     #[tactic(auto, unfolding(its_word::specs::Address::indexed, its_word::specs::Address::last_used))]
-    fn indexed(&self, slot: u8, w: Word, last: Option<Word>) -> (u32, Option<Word>)
-        requires { slot < slots }
+    fn indexed(&self, slot: Slot, w: Word, last: Option<Word>) -> (u32, Option<Word>)
         ensures e { result.0 ≡ indexed (core_at self.now slot) w }
         ensures last { result.1 ≡ last_used (core_at self.now slot) w last }
         ensures below { result.0 < 2 ^ 18 }
@@ -57,12 +56,11 @@ impl Core {
     /// Ilo if the budget is at its end before an indirect word, which is then not read.
     pub fn address(
         &self,
-        slot: u8,
+        slot: Slot,
         w: Word,
         used: &mut u32,
         reads: &mut ArrayVec<u32, 160>,
     ) -> Result<Address, Fault>
-        requires slot { slot < slots }
         requires used { used.old ≤ budget }
         requires room { length reads.old.items + (129 - 2 * used.old) ≤ 160 }
         ensures answer { result ≡ (address_of (core_at self.now slot) w used.old).answer }
@@ -97,8 +95,7 @@ impl Core {
     /// Nearly all address words have I = 0: nothing but an index register is looked at then.
     #[inline(always)]
     #[tactic(auto, using(its_word::proofs::AddressLaws::direct_answer, its_word::proofs::AddressLaws::direct_used))]
-    pub fn effective(&self, slot: u8, w: Word, used: &mut u32) -> Result<Address, Fault>
-        requires slot { slot < slots }
+    pub fn effective(&self, slot: Slot, w: Word, used: &mut u32) -> Result<Address, Fault>
         requires used { used.old ≤ budget }
         ensures answer { result ≡ (address_of (core_at self.now slot) w used.old).answer }
         ensures used { used.new ≡ (address_of (core_at self.now slot) w used.old).used }
@@ -114,8 +111,7 @@ impl Core {
 
     /// The same, with the places that are read thrown away.
     #[inline(never)]
-    fn indirect(&self, slot: u8, w: Word, used: &mut u32) -> Result<Address, Fault>
-        requires slot { slot < slots }
+    fn indirect(&self, slot: Slot, w: Word, used: &mut u32) -> Result<Address, Fault>
         requires used { used.old ≤ budget }
         ensures answer { result ≡ (address_of (core_at self.now slot) w used.old).answer }
         ensures used { used.new ≡ (address_of (core_at self.now slot) w used.old).used }

@@ -10,7 +10,9 @@ ghost use Rattle.its_core.specs.Cores.{core_at, reserved_at, clear_at, clear_wit
 mod tests;
 
 use its_links::Links;
-use its_word::{ADDRESSES, MAPPED_PAGES, NoAccess, NoMemory, ReadyWords, SLOTS, Word, filled};
+use its_word::{
+    ADDRESSES, MAPPED_PAGES, NoAccess, NoMemory, ReadyWords, SLOTS, Slot, Word, filled,
+};
 use std::alloc::Global;
 use std::marker::Model;
 
@@ -68,23 +70,31 @@ impl Model for Core {
     ghost invariant = { λ c. IsPool c.accs.items c.places.items c.held.items c.words.words c.lists c.mapped × (c.words.most ≡ all_words) };
 }
 
+/// Does nothing: a slot has one of the numbers that there are.
+#[inline(always)]
+fn within(slot: Slot)
+    ensures { slot < slots }
+{
+    let _ = slot.number();
+}
+
 /// The place of an accumulator of a slot.
-fn acc_index(slot: u8, a: u32) -> usize
+fn acc_index(slot: Slot, a: u32) -> usize
     requires a { a < 16 }
     ensures { result ≡ 16 * slot + a }
 {
-    usize::from(slot) * SLOT_ACCS + a as usize
+    slot.index() * SLOT_ACCS + a as usize
 }
 
 /// The place of a page of a slot in the map.
-fn place_index(slot: u8, page: u8) -> usize
+fn place_index(slot: Slot, page: u8) -> usize
     ensures { result ≡ 256 * slot + page }
 {
-    usize::from(slot) * SLOT_PAGES + usize::from(page)
+    slot.index() * SLOT_PAGES + usize::from(page)
 }
 
 /// A page of a slot, if it is present.
-fn mapped_in(places: &[Option<Mapped>], slot: u8, page: u8) -> Option<Mapped>
+fn mapped_in(places: &[Option<Mapped>], slot: Slot, page: u8) -> Option<Mapped>
     requires { 256 * slot + page < length places.now }
     ensures { result ≡ slice_index_or places.now (256 * slot + page) None }
 {
@@ -92,7 +102,7 @@ fn mapped_in(places: &[Option<Mapped>], slot: u8, page: u8) -> Option<Mapped>
 }
 
 /// A page of a slot that is present.
-fn present_in(places: &[Option<Mapped>], slot: u8, page: u8) -> Mapped
+fn present_in(places: &[Option<Mapped>], slot: Slot, page: u8) -> Mapped
     requires place { 256 * slot + page < length places.now }
     requires present { IsSome (slice_index_or places.now (256 * slot + page) None) }
     ensures { slice_index_or places.now (256 * slot + page) None ≡ Some result }
@@ -109,12 +119,12 @@ fn present_among(places: &[Option<Mapped>]) -> u16
 }
 
 /// The page that a slot has reserved.
-fn held_in(held: &[Option<Held>], slot: u8) -> Held
+fn held_in(held: &[Option<Held>], slot: Slot) -> Held
     requires slot { slot < length held.now }
     requires some { IsSome (slice_index_or held.now slot None) }
     ensures { slice_index_or held.now slot None ≡ Some result }
 {
-    held[usize::from(slot)].unwrap()
+    held[slot.index()].unwrap()
 }
 
 /// The place of a word of a page frame.
@@ -133,10 +143,10 @@ fn frame_end(frame: u32) -> usize
 }
 
 /// The list of the frames of a slot's pages.
-fn list_of(slot: u8) -> u32
+fn list_of(slot: Slot) -> u32
     ensures { result ≡ slot + 1 }
 {
-    u32::from(slot) + 1
+    u32::from(slot.number()) + 1
 }
 
 /// Lists for the free frames and for each slot, with all frames free in rising order.
@@ -151,7 +161,7 @@ fn all_free(alloc: Global) -> Result<Links, NoMemory>
 }
 
 /// Takes all pages of a slot out of the map. The number of pages that it had.
-fn vacate(places: &mut Vec<Option<Mapped>>, slot: u8) -> u32
+fn vacate(places: &mut Vec<Option<Mapped>>, slot: Slot) -> u32
     requires { 256 * slot + 256 ≤ length places.old.items }
     ensures number { result ≡ count_by is_some (row places.old.items slot) }
     ensures emptied { places.new.items ≡ emptied (256 * slot) 256 places.old.items }
@@ -221,12 +231,12 @@ impl Core {
     /// The word at an address of a slot: of an accumulator, or of a page that is present.
     #[inline(always)]
     #[tactic(auto, using(crate::proofs::ReadLaws::word_at_acc, crate::proofs::ReadLaws::word_at_page, crate::proofs::ReadLaws::word_at_absent, crate::proofs::ReadLaws::word_below, crate::proofs::ReadLaws::can_store_acc))]
-    pub fn get(&self, slot: u8, a: u32) -> Result<Word, NoAccess>
-        requires slot { slot < slots }
+    pub fn get(&self, slot: Slot, a: u32) -> Result<Word, NoAccess>
         requires address { a < 2 ^ 18 }
         ensures word { result ≡ got_at (core_at self.now slot) a }
         ensures accumulators { (i : ℕ) → i < 16 → can_store (core_at self.now slot) i ≡ true }
     {
+        within(slot);
         if a < 16 {
             return Ok(self.accs[acc_index(slot, a)]);
         }
@@ -239,8 +249,7 @@ impl Core {
     /// Stores a word, unless its page is absent or read only.
     #[inline(always)]
     #[tactic(auto, using(crate::proofs::ReadLaws::can_store_acc, crate::proofs::ReadLaws::can_store_page, crate::proofs::ReadLaws::can_store_absent, crate::proofs::ReadLaws::word_at_page, crate::proofs::ReadLaws::word_at_absent, crate::proofs::ReadLaws::page_at))]
-    pub fn put(&mut self, slot: u8, a: u32, w: Word) -> Result<(), NoAccess>
-        requires slot { slot < slots }
+    pub fn put(&mut self, slot: Slot, a: u32, w: Word) -> Result<(), NoAccess>
         requires address { a < 2 ^ 18 }
         ensures stored { OnOk result (Only (core_at self.old) (core_at self.new) slot (store (core_at self.old slot) a w)) }
         ensures reserved { self.new.reserved ≡ self.old.reserved }
@@ -250,6 +259,7 @@ impl Core {
         ensures same { OnErr result (self.new ≡ self.old) }
         ensures frames { self.new.frames ≡ self.old.frames }
     {
+        within(slot);
         if a < 16 {
             self.accs[acc_index(slot, a)] = w;
             return Ok(());
@@ -266,30 +276,30 @@ impl Core {
 
     /// The word of an accumulator of a slot.
     #[tactic(auto, using(crate::proofs::ReadLaws::word_at_acc))]
-    pub(crate) fn acc(&self, slot: u8, a: u32) -> Word
-        requires slot { slot < slots }
+    pub(crate) fn acc(&self, slot: Slot, a: u32) -> Word
         requires a { a < 16 }
         ensures { result ≡ acc_at (core_at self.now slot) a }
     {
+        within(slot);
         self.accs[acc_index(slot, a)]
     }
 
     /// Whether a page of a slot is writable; None if it is absent.
     #[tactic(auto, using(crate::proofs::ReadLaws::page_at))]
-    pub fn page(&self, slot: u8, page: u8) -> Option<bool>
-        requires { slot < slots }
+    pub fn page(&self, slot: Slot, page: u8) -> Option<bool>
         ensures { result ≡ mark_of (page_of (core_at self.now slot) page) }
     {
+        within(slot);
         mapped_in(&self.places, slot, page).map(|m| m.writable)
     }
 
     /// The word at an address of a slot; None if its page is absent, and past the last address.
     #[tactic(auto, using(crate::proofs::ReadLaws::word_at_acc, crate::proofs::ReadLaws::word_at_page, crate::proofs::ReadLaws::word_at_absent, crate::proofs::ReadLaws::word_below, crate::proofs::SlotLaws::word_past))]
-    pub fn word(&self, slot: u8, a: u32) -> Option<Word>
-        requires { slot < slots }
+    pub fn word(&self, slot: Slot, a: u32) -> Option<Word>
         ensures word { result ≡ word_at (core_at self.now slot) a }
         ensures within { IfSome result (λ w. a < 2 ^ 18) }
     {
+        within(slot);
         if a < 16 {
             return Some(self.accs[acc_index(slot, a)]);
         }
@@ -305,10 +315,10 @@ impl Core {
     /// Whether a word can be stored at an address of a slot: its page is present and writable. Past
     /// the last address none can.
     #[tactic(auto, using(crate::proofs::ReadLaws::can_store_acc, crate::proofs::ReadLaws::can_store_page, crate::proofs::ReadLaws::can_store_absent, crate::proofs::SlotLaws::store_past))]
-    pub fn is_storable(&self, slot: u8, a: u32) -> bool
-        requires { slot < slots }
+    pub fn is_storable(&self, slot: Slot, a: u32) -> bool
         ensures { result ≡ can_store (core_at self.now slot) a }
     {
+        within(slot);
         if a < 16 || a >= ADDRESSES {
             // for the proof alone: it sees `self` as made of its fields if one of them is named
             let _places = &self.places;
@@ -322,10 +332,10 @@ impl Core {
     }
 
     /// How many pages of a slot are present.
-    pub fn pages(&self, slot: u8) -> u16
-        requires { slot < slots }
+    pub fn pages(&self, slot: Slot) -> u16
         ensures { result ≡ pages_present (core_at self.now slot) }
     {
+        within(slot);
         let first = place_index(slot, 0);
         present_among(&self.places[first..first + SLOT_PAGES])
     }
@@ -342,8 +352,7 @@ impl Core {
 
     /// Reserves a page for a slot, in the first of the free frames, whose words are made ready. None of
     /// its quarters counts as clear.
-    pub fn reserve(&mut self, slot: u8)
-        requires slot { slot < slots }
+    pub fn reserve(&mut self, slot: Slot)
         requires none { reserved_at self.old slot ≡ None }
         ensures reserved { (words : List ℕ) × Only (reserved_at self.old) (reserved_at self.new) slot (Some (record { clear = 0; words = words })) }
         ensures quarters { Only (clear_at self.old) (clear_at self.new) slot (Some 0) }
@@ -352,23 +361,22 @@ impl Core {
         ensures frames { self.new.frames ≡ frames_reserve slot self.old.frames }
         ensures listed { Listed self.new.frames }
     {
+        within(slot);
         let frame = self.lists.pop_front(FREE).unwrap();
         self.words.make_ready(frame_end(frame));
-        self.held[usize::from(slot)] = Some(Held { frame, clear: 0 });
+        self.held[slot.index()] = Some(Held { frame, clear: 0 });
     }
 
     /// Whether a slot has reserved a page.
     #[tactic(auto, using(crate::proofs::HeldLaws::held_clear))]
-    pub fn has_reserved(&self, slot: u8) -> bool
-        requires { slot < slots }
+    pub fn has_reserved(&self, slot: Slot) -> bool
         ensures { result ≡ is_some (clear_at self.now slot) }
     {
-        self.held[usize::from(slot)].is_some()
+        self.held[slot.index()].is_some()
     }
 
     /// Clears words 256q to 256q+255 of the page that a slot has reserved, with q below 4.
-    pub fn clear_quarter(&mut self, slot: u8, q: u8)
-        requires slot { slot < slots }
+    pub fn clear_quarter(&mut self, slot: Slot, q: u8)
         requires quarter { q < 4 }
         requires some { IsSome (reserved_at self.old slot) }
         ensures reserved { Only (reserved_at self.old) (reserved_at self.new) slot (option_map (cleared q) (reserved_at self.old slot)) }
@@ -376,9 +384,10 @@ impl Core {
         ensures cores { self.new.cores ≡ self.old.cores }
         ensures frames { self.new.frames ≡ self.old.frames }
     {
+        within(slot);
         let h = held_in(&self.held, slot);
         clear_frame_quarter(&mut self.words, h.frame, q);
-        self.held[usize::from(slot)] = Some(Held {
+        self.held[slot.index()] = Some(Held {
             frame: h.frame,
             clear: quarters_clear(q, h.clear),
         });
@@ -387,9 +396,7 @@ impl Core {
     /// Makes the page that a slot has reserved, whose four quarters are clear, a writable page of zeros of the
     /// target; its page frame becomes the last in the target's list. Full if 1024 pages are mapped already; the
     /// reservation is then unchanged.
-    pub fn map(&mut self, slot: u8, target: u8, page: u8) -> Result<(), Full>
-        requires slot { slot < slots }
-        requires target { target < slots }
+    pub fn map(&mut self, slot: Slot, target: Slot, page: u8) -> Result<(), Full>
         requires clear { clear_at self.old slot ≡ Some 4 }
         requires absent { page_of (core_at self.old target) page ≡ None }
         ensures full { IsErr result ↔ (pages_mapped (core_at self.old) ≡ most_pages) }
@@ -401,11 +408,13 @@ impl Core {
         ensures frames { OnOk result (self.new.frames ≡ frames_map slot target page self.old.frames) }
         ensures listed { OnOk result (Listed self.new.frames) }
     {
+        within(slot);
+        within(target);
         if self.mapped == MAPPED_PAGES {
             return Err(Full);
         }
         let h = held_in(&self.held, slot);
-        self.held[usize::from(slot)] = None;
+        self.held[slot.index()] = None;
         self.places[place_index(target, page)] = Some(Mapped {
             frame: h.frame,
             writable: true,
@@ -417,8 +426,7 @@ impl Core {
 
     /// Makes a page of zeros of a slot: one is reserved and cleared, and then mapped.
     #[tactic(auto, using(crate::proofs::ZeroLaws::mapped_cores, crate::proofs::ZeroLaws::mapped_clear, crate::proofs::CoresLaws::same_core_at, crate::proofs::CoresLaws::same_pages_mapped))]
-    pub fn map_zeros(&mut self, slot: u8, page: u8)
-        requires slot { slot < slots }
+    pub fn map_zeros(&mut self, slot: Slot, page: u8)
         requires absent { page_of (core_at self.old slot) page ≡ None }
         requires room { pages_mapped (core_at self.old) < most_pages }
         requires unreserved { clear_at self.old slot ≡ None }
@@ -436,8 +444,7 @@ impl Core {
 
     /// Reserves a page of zeros for a slot.
     #[tactic(auto, using(crate::proofs::ZeroLaws::clear_unreserved))]
-    fn reserve_zeros(&mut self, slot: u8)
-        requires slot { slot < slots }
+    fn reserve_zeros(&mut self, slot: Slot)
         requires none { clear_at self.old slot ≡ None }
         ensures clear { Only (clear_at self.old) (clear_at self.new) slot (Some 4) }
         ensures cores { self.new.cores ≡ self.old.cores }
@@ -451,8 +458,7 @@ impl Core {
     }
 
     /// Gives the page back that a slot has reserved; its frame becomes the last of the free ones.
-    pub fn give_back(&mut self, slot: u8)
-        requires slot { slot < slots }
+    pub fn give_back(&mut self, slot: Slot)
         requires some { IsSome (reserved_at self.old slot) }
         ensures reserved { Only (reserved_at self.old) (reserved_at self.new) slot None }
         ensures quarters { Only (clear_at self.old) (clear_at self.new) slot None }
@@ -460,20 +466,21 @@ impl Core {
         ensures frames { self.new.frames ≡ frames_give_back slot self.old.frames }
         ensures listed { Listed self.new.frames }
     {
+        within(slot);
         let h = held_in(&self.held, slot);
-        self.held[usize::from(slot)] = None;
+        self.held[slot.index()] = None;
         self.lists.push_back(FREE, h.frame);
     }
 
     /// Takes a page from a slot; its frame becomes the last of the free ones.
-    pub fn unmap(&mut self, slot: u8, page: u8)
-        requires slot { slot < slots }
+    pub fn unmap(&mut self, slot: Slot, page: u8)
         requires present { IsSome (page_of (core_at self.old slot) page) }
         ensures unmapped { Only (core_at self.old) (core_at self.new) slot (with_page (core_at self.old slot) page None) }
         ensures reserved { self.new.reserved ≡ self.old.reserved }
         ensures frames { self.new.frames ≡ frames_unmap slot page self.old.frames }
         ensures listed { Listed self.new.frames }
     {
+        within(slot);
         let m = present_in(&self.places, slot, page);
         self.places[place_index(slot, page)] = None;
         self.lists.unlink(m.frame);
@@ -482,13 +489,13 @@ impl Core {
     }
 
     /// Makes a page of a slot writable or read only.
-    pub fn protect(&mut self, slot: u8, page: u8, writable: bool)
-        requires slot { slot < slots }
+    pub fn protect(&mut self, slot: Slot, page: u8, writable: bool)
         requires present { IsSome (page_of (core_at self.old slot) page) }
         ensures marked { Only (core_at self.old) (core_at self.new) slot (with_page (core_at self.old slot) page (marked (page_of (core_at self.old slot) page) writable)) }
         ensures reserved { self.new.reserved ≡ self.old.reserved }
         ensures frames { self.new.frames ≡ self.old.frames }
     {
+        within(slot);
         let m = present_in(&self.places, slot, page);
         self.places[place_index(slot, page)] = Some(Mapped {
             frame: m.frame,
@@ -498,13 +505,13 @@ impl Core {
 
     /// Takes all pages from a slot and makes its accumulators 0. The frames become the last of the
     /// free ones, in the order of the slot's list.
-    pub fn drop_all(&mut self, slot: u8)
-        requires { slot < slots }
+    pub fn drop_all(&mut self, slot: Slot)
         ensures dropped { Only (core_at self.old) (core_at self.new) slot no_core }
         ensures reserved { self.new.reserved ≡ self.old.reserved }
         ensures frames { self.new.frames ≡ frames_drop_all slot self.old.frames }
         ensures listed { Listed self.new.frames }
     {
+        within(slot);
         self.mapped -= vacate(&mut self.places, slot);
         self.lists.splice(list_of(slot), FREE);
         clear(&mut self.accs, acc_index(slot, 0), 16);

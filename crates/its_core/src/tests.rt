@@ -1,18 +1,16 @@
-ghost use Rattle.std.specs.Prelude.{◌≡◌, ◌≢◌, ◌<◌, ℕ, Some, None};
+ghost use Rattle.std.specs.Prelude.{◌≡◌, ◌≢◌, ℕ, Some, None};
 ghost use Rattle.its_core.specs.Cores.{core_at, reserved_at, clear_at};
 ghost use Rattle.its_word.specs.Core.{page_of};
-ghost use Rattle.its_word.specs.Limits.{slots};
 
 use super::*;
 use arrayvec::ArrayVec;
-use its_word::Word;
+use its_word::{Slot, Word};
 use std::alloc::Global;
 use std::test::Fail;
 
 /// Reserves a page for a slot, and clears it.
 #[tactic(auto, using(crate::proofs::CoresLaws::same_core_at))]
-pub(crate) fn clear_page(core: &mut Core, slot: u8)
-    requires slot { slot < slots }
+pub(crate) fn clear_page(core: &mut Core, slot: Slot)
     requires none { reserved_at core.old slot ≡ None }
     ensures clear { clear_at core.new slot ≡ Some 4 }
     ensures cores { (k : ℕ) → core_at core.new k ≡ core_at core.old k }
@@ -29,29 +27,30 @@ pub(crate) fn clear_page(core: &mut Core, slot: u8)
 #[tactic(auto, using(its_word::proofs::PageLaws::empty_slot))]
 fn pages_come_and_go(rt: HostRuntime) -> Result<(), Fail> {
     let mut core = Core::open(rt.alloc())?;
+    let (from, slot) = (Slot::new(3), Slot::new(5));
     let w = Word::new(0o123456701234);
-    assert_eq!(rt; core.get(5, 0o2000), Err(NoAccess::Absent));
-    clear_page(&mut core, 3);
-    assert_eq!(rt; core.map(3, 5, 1), Ok(()));
-    assert_eq!(rt; core.page(5, 1), Some(true));
+    assert_eq!(rt; core.get(slot, 0o2000), Err(NoAccess::Absent));
+    clear_page(&mut core, from);
+    assert_eq!(rt; core.map(from, slot, 1), Ok(()));
+    assert_eq!(rt; core.page(slot, 1), Some(true));
     assert_eq!(rt; core.mapped(), 1);
-    assert_eq!(rt; core.put(5, 0o3777, w), Ok(()));
-    assert_eq!(rt; core.get(5, 0o3777), Ok(w));
-    assert_eq!(rt; core.get(5, 0o3776), Ok(Word::ZERO));
-    assert_eq!(rt; core.put(5, 0o4000, w), Err(NoAccess::Absent));
-    assert!(rt; core.page(5, 1).is_some());
-    core.protect(5, 1, false);
-    assert_eq!(rt; core.page(5, 1), Some(false));
-    assert_eq!(rt; core.put(5, 0o3776, w), Err(NoAccess::ReadOnly));
-    assert_eq!(rt; core.get(5, 0o3777), Ok(w));
-    assert_eq!(rt; core.put(5, 0o17, w), Ok(()));
-    assert_eq!(rt; core.get(5, 0o17), Ok(w));
-    assert!(rt; core.page(5, 1).is_some());
-    core.unmap(5, 1);
-    assert_eq!(rt; core.get(5, 0o3777), Err(NoAccess::Absent));
+    assert_eq!(rt; core.put(slot, 0o3777, w), Ok(()));
+    assert_eq!(rt; core.get(slot, 0o3777), Ok(w));
+    assert_eq!(rt; core.get(slot, 0o3776), Ok(Word::ZERO));
+    assert_eq!(rt; core.put(slot, 0o4000, w), Err(NoAccess::Absent));
+    assert!(rt; core.page(slot, 1).is_some());
+    core.protect(slot, 1, false);
+    assert_eq!(rt; core.page(slot, 1), Some(false));
+    assert_eq!(rt; core.put(slot, 0o3776, w), Err(NoAccess::ReadOnly));
+    assert_eq!(rt; core.get(slot, 0o3777), Ok(w));
+    assert_eq!(rt; core.put(slot, 0o17, w), Ok(()));
+    assert_eq!(rt; core.get(slot, 0o17), Ok(w));
+    assert!(rt; core.page(slot, 1).is_some());
+    core.unmap(slot, 1);
+    assert_eq!(rt; core.get(slot, 0o3777), Err(NoAccess::Absent));
     assert_eq!(rt; core.mapped(), 0);
-    core.drop_all(5);
-    assert_eq!(rt; core.get(5, 0o17), Ok(Word::ZERO));
+    core.drop_all(slot);
+    assert_eq!(rt; core.get(slot, 0o17), Ok(Word::ZERO));
     Ok(())
 }
 
@@ -59,8 +58,9 @@ fn pages_come_and_go(rt: HostRuntime) -> Result<(), Fail> {
 #[tactic(auto, using(its_word::proofs::PageLaws::empty_slot))]
 fn small_core(alloc: Global) -> Result<Core, NoMemory> {
     let mut core = Core::open(alloc)?;
-    clear_page(&mut core, 0);
-    let _ = core.map(0, 0, 0);
+    let slot = Slot::new(0);
+    clear_page(&mut core, slot);
+    let _ = core.map(slot, slot, 0);
     for (a, w) in [
         (0o1, 0o777777777776),
         (0o2, 0o5),
@@ -68,7 +68,7 @@ fn small_core(alloc: Global) -> Result<Core, NoMemory> {
         (0o301, 0o22000310),
         (0o315, 0o500),
     ] {
-        let _ = core.put(0, a, Word::new(w));
+        let _ = core.put(slot, a, Word::new(w));
     }
     Ok(core)
 }
@@ -96,7 +96,7 @@ fn address_words(rt: HostRuntime) -> Result<(), Fail> {
     for (w, e, flags_word, places, spent) in rows {
         let mut used = 3;
         let mut reads = ArrayVec::new();
-        let got = core.address(0, Word::new(w), &mut used, &mut reads);
+        let got = core.address(Slot::FIRST, Word::new(w), &mut used, &mut reads);
         assert_eq!(rt; got, Ok(Address { e, flags_word }), "at {w}");
         assert_eq!(rt; reads.as_slice(), places, "at {w}");
         assert_eq!(rt; used - 3, spent, "at {w}");
@@ -109,7 +109,7 @@ fn chains(rt: HostRuntime) -> Result<(), Fail> {
     let mut core = small_core(rt.alloc())?;
     for a in 0o200..0o277 {
         assert_eq!(rt;
-            core.put(0, a, Word::new(0o20000001 + u64::from(a))),
+            core.put(Slot::FIRST, a, Word::new(0o20000001 + u64::from(a))),
             Ok(())
         );
     }
@@ -124,21 +124,24 @@ fn chains(rt: HostRuntime) -> Result<(), Fail> {
         ),
         (0o20000300, Err(Fault::Ilo)),
     ] {
-        assert_eq!(rt; core.put(0, 0o277, Word::new(end)), Ok(()));
+        assert_eq!(rt; core.put(Slot::FIRST, 0o277, Word::new(end)), Ok(()));
         let mut used = 0;
         let mut reads = ArrayVec::new();
-        assert_eq!(rt; core.address(0, w, &mut used, &mut reads), want);
+        assert_eq!(rt; core.address(Slot::FIRST, w, &mut used, &mut reads), want);
         assert_eq!(rt; used, 64);
         assert_eq!(rt; reads.len(), 64);
     }
     let mut used = 64;
     let mut reads = ArrayVec::new();
-    assert_eq!(rt; core.address(0, w, &mut used, &mut reads), Err(Fault::Ilo));
+    assert_eq!(rt;
+        core.address(Slot::FIRST, w, &mut used, &mut reads),
+        Err(Fault::Ilo)
+    );
     assert!(rt; reads.is_empty());
     used = 5;
     let absent = Word::new(0o20002000);
     assert_eq!(rt;
-        core.address(0, absent, &mut used, &mut reads),
+        core.address(Slot::FIRST, absent, &mut used, &mut reads),
         Err(Fault::Mpv)
     );
     Ok(())

@@ -72,7 +72,7 @@ impl Caller<'_> {
         ensures { result ≡ read_only (core_at self.now.seen.now.core.now self.now.slot) (place_of_input self.now.ask.now k) }
     {
         match self.place(k) {
-            Some(p) => !self.seen.core.is_storable(self.slot.number(), p),
+            Some(p) => !self.seen.core.is_storable(self.slot, p),
             None => false,
         }
     }

@@ -90,8 +90,9 @@ impl Caller<'_> {
         ensures { result ≡ logout (looks self.now) }
     {
         let mut changes = ArrayVec::new();
-        if let Some(superior) = self.seen.jobs.superior(self.slot.number()) {
-            changes.push(Change::Inform { slot: superior });
+        if let Some(superior) = self.seen.jobs.superior(self.slot) {
+            let number = superior.number();
+            changes.push(Change::Inform { slot: number });
         }
         Decision::Gone { changes }
     }

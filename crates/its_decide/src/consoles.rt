@@ -16,7 +16,7 @@ use arrayvec::ArrayVec;
 use its_bytes::load;
 use its_frame::{Change, Decision, Held, Opened, Wait, error};
 use its_records::Channel;
-use its_word::{Fault, Word};
+use its_word::{Fault, Slot, Word};
 
 /// The device of consoles, in SIXBIT.
 const TTY: u64 = 0o646471000000;
@@ -182,8 +182,8 @@ impl Caller<'_> {
     fn is_superior_of(&self, slot: u8) -> bool
         ensures { result ≡ is_superior self.now.slot ((looks self.now).outlines slot) }
     {
-        match self.seen.jobs.job(slot) {
-            Some(_) => self.seen.jobs.superior(slot) == Some(self.slot.number()),
+        match self.seen.jobs.numbered(slot) {
+            Some(_) => self.seen.jobs.superior(Slot::new(slot)) == Some(self.slot),
             None => false,
         }
     }
@@ -267,7 +267,7 @@ impl Caller<'_> {
     pub(crate) fn iot_out(&self) -> Decision
         ensures { result ≡ iot_out (looks self.now) (slice_index_or self.now.ask.now.outputs.items 0 0) (view_console (looks self.now)) }
     {
-        let Some(word) = self.seen.core.word(self.slot.number(), self.address()) else {
+        let Some(word) = self.seen.core.word(self.slot, self.address()) else {
             return self.faults(Fault::Mpv);
         };
         let console = self.console();
@@ -332,7 +332,7 @@ impl Caller<'_> {
         requires { has_size next ≡ true }
         ensures { outcome (looks self.now) self.now.ask.now result ≡ siot_out (looks self.now) self.now.ask.now next (input self.now.ask.now 2) (view_console (looks self.now)) }
     {
-        let Some(word) = self.seen.core.word(self.slot.number(), next.right()) else {
+        let Some(word) = self.seen.core.word(self.slot, next.right()) else {
             return Err(Halt::Bit(Fault::Mpv));
         };
         let console = self.console();

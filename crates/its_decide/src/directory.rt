@@ -78,7 +78,7 @@ impl Caller<'_> {
     fn channel_of(&self, slot: u8, n: usize) -> Channel
         ensures { result ≡ channel_at self.now.seen.now.jobs.now slot n }
     {
-        match self.seen.jobs.job(slot) {
+        match self.seen.jobs.numbered(slot) {
             Some(job) => job.channels.get(n).copied().unwrap_or(Channel::Closed),
             None => Channel::Closed,
         }

@@ -144,7 +144,7 @@ impl Caller<'_> {
         ensures { result ≡ iot_writes (looks self.now) (slice_index_or self.now.ask.now.outputs.items 0 0) (input self.now.ask.now 0) (file_at self.now.seen.now.files.now draft) }
     {
         self.seen.files.seen();
-        let Some(word) = self.seen.core.word(self.slot.number(), self.address()) else {
+        let Some(word) = self.seen.core.word(self.slot, self.address()) else {
             return self.faults(Fault::Mpv);
         };
         if self.seen.files.is_full(draft) {
@@ -192,7 +192,7 @@ impl Caller<'_> {
         ensures { outcome (looks self.now) self.now.ask.now result ≡ siot_write (looks self.now) self.now.ask.now next (input self.now.ask.now 2) (input self.now.ask.now 0) (file_at self.now.seen.now.files.now draft) }
     {
         self.seen.files.seen();
-        let Some(word) = self.seen.core.word(self.slot.number(), next.right()) else {
+        let Some(word) = self.seen.core.word(self.slot, next.right()) else {
             return Err(Halt::Bit(Fault::Mpv));
         };
         if self.seen.files.is_full(draft) {

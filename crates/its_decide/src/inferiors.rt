@@ -22,7 +22,7 @@ use arrayvec::ArrayVec;
 use its_bytes::load;
 use its_frame::{Change, Decision, Opened, error};
 use its_records::Channel;
-use its_word::{ADDRESSES, Fault, SLOTS, Word};
+use its_word::{ADDRESSES, Fault, SLOTS, Slot, Word};
 
 impl Caller<'_> {
     /// OPEN channel, USR, user name, job name: the caller's inferior with these names, which is made with control 1 if there is none.
@@ -54,9 +54,10 @@ impl Caller<'_> {
         if control != 1 {
             return self.fails(error::NO_JOB);
         }
-        let Some(slot) = self.free_slot() else {
+        let Some(free) = self.free_slot() else {
             return self.fails(error::NO_SLOT);
         };
+        let slot = free.number();
         let make = Change::Make {
             slot,
             u: self.input(2),
@@ -75,7 +76,7 @@ impl Caller<'_> {
 
     /// The least slot below the limit that has no job.
     #[tactic(auto, using(crate::proofs::InferiorLaws::free_slot))]
-    fn free_slot(&self) -> Option<u8>
+    fn free_slot(&self) -> Option<Slot>
         requires { SeenFits self.now.seen.now }
         ensures { result ≡ least_free (looks self.now).limit (looks self.now).outlines }
     {
@@ -103,7 +104,7 @@ impl Caller<'_> {
     fn is_named(&self, slot: u8) -> bool
         ensures { result ≡ has_names (input self.now.ask.now 2) (input self.now.ask.now 3) ((looks self.now).outlines slot) }
     {
-        match self.seen.jobs.job(slot) {
+        match self.seen.jobs.numbered(slot) {
             Some(job) => job.uname == self.input(2) && job.jname == self.input(3),
             None => false,
         }
@@ -114,8 +115,8 @@ impl Caller<'_> {
     fn is_inferior(&self, slot: u8) -> bool
         ensures { result ≡ is_superior self.now.slot ((looks self.now).outlines slot) }
     {
-        match self.seen.jobs.job(slot) {
-            Some(_) => self.seen.jobs.superior(slot) == Some(self.slot.number()),
+        match self.seen.jobs.numbered(slot) {
+            Some(_) => self.seen.jobs.superior(Slot::new(slot)) == Some(self.slot),
             None => false,
         }
     }
@@ -149,7 +150,7 @@ impl Caller<'_> {
         if at >= ADDRESSES {
             return self.iot_gets(None, Word::new(END_OF_FILE));
         }
-        match self.seen.core.word(inferior, at) {
+        match self.seen.core.word(Slot::new(inferior), at) {
             Some(word) => self.iot_gets(Some(self.moves_to(at + 1)), word),
             None => self.ioc(),
         }
@@ -162,10 +163,10 @@ impl Caller<'_> {
         requires { Targets self.now (input self.now.ask.now 0) inferior }
         ensures { result ≡ iot_into (looks self.now) (slice_index_or self.now.ask.now.outputs.items 0 0) (input self.now.ask.now 0) inferior at }
     {
-        let Some(word) = self.seen.core.word(self.slot.number(), self.address()) else {
+        let Some(word) = self.seen.core.word(self.slot, self.address()) else {
             return self.faults(Fault::Mpv);
         };
-        if at >= ADDRESSES || !self.seen.core.is_storable(inferior, at) {
+        if at >= ADDRESSES || !self.seen.core.is_storable(Slot::new(inferior), at) {
             return self.ioc();
         }
         Decision::Ends {
@@ -212,7 +213,7 @@ impl Caller<'_> {
         ensures { result ≡ siot_from (looks self.now) self.now.ask.now (input self.now.ask.now 0) at }
     {
         match self.next_byte(true, at >= ADDRESSES) {
-            Ok(next) => self.siot_peeks(next, at, self.seen.core.word(inferior, at)),
+            Ok(next) => self.siot_peeks(next, at, self.seen.core.word(Slot::new(inferior), at)),
             Err(halt) => self.halts(halt),
         }
     }
@@ -253,10 +254,10 @@ impl Caller<'_> {
         requires size { has_size next ≡ true }
         ensures { result ≡ siot_pokes (looks self.now) self.now.ask.now next (input self.now.ask.now 2) (input self.now.ask.now 0) inferior at }
     {
-        let Some(word) = self.seen.core.word(self.slot.number(), next.right()) else {
+        let Some(word) = self.seen.core.word(self.slot, next.right()) else {
             return self.faults(Fault::Mpv);
         };
-        if !self.seen.core.is_storable(inferior, at) {
+        if !self.seen.core.is_storable(Slot::new(inferior), at) {
             return self.fails(error::BAD_PAGE);
         }
         let mut values = ArrayVec::new();
@@ -304,13 +305,13 @@ impl Caller<'_> {
             return self.fails(error::WRONG_DEVICE);
         }
         let address = address as u32;
-        let Some(word) = self.seen.core.word(inferior, address) else {
+        let Some(word) = self.seen.core.word(Slot::new(inferior), address) else {
             return self.fails(error::BAD_PAGE);
         };
         if !new {
             return self.finishes(self.output(word));
         }
-        if !self.seen.core.is_storable(inferior, address) {
+        if !self.seen.core.is_storable(Slot::new(inferior), address) {
             return self.fails(error::BAD_PAGE);
         }
         let poke = Change::Poke {

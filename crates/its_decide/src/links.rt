@@ -125,7 +125,7 @@ impl Caller<'_> {
     pub(crate) fn iot_sends(&self, link: u8) -> Decision
         ensures { result ≡ iot_sends (looks self.now) (slice_index_or self.now.ask.now.outputs.items 0 0) link }
     {
-        let Some(word) = self.seen.core.word(self.slot.number(), self.address()) else {
+        let Some(word) = self.seen.core.word(self.slot, self.address()) else {
             return self.faults(Fault::Mpv);
         };
         if self.seen.pipes.is_unread(link) {
@@ -187,7 +187,7 @@ impl Caller<'_> {
         requires { has_size next ≡ true }
         ensures { outcome (looks self.now) self.now.ask.now result ≡ siot_send (looks self.now) self.now.ask.now next (input self.now.ask.now 2) link }
     {
-        let Some(word) = self.seen.core.word(self.slot.number(), next.right()) else {
+        let Some(word) = self.seen.core.word(self.slot, next.right()) else {
             return Err(Halt::Bit(Fault::Mpv));
         };
         if self.seen.pipes.is_unread(link) {

@@ -80,7 +80,7 @@ impl Caller<'_> {
             return self.fails(error::OUT_OF_RANGE);
         }
         let page = page as u8;
-        let is_there = self.seen.core.page(target.number(), page).is_some();
+        let is_there = self.seen.core.page(target, page).is_some();
         if is_there == (operation == MAKE) {
             return self.fails(error::BAD_PAGE);
         }

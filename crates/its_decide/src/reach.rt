@@ -51,7 +51,7 @@ pub fn disturbs(seen: &Seen<'_>, slot: Slot, whom: Disturbed, k: Slot) -> bool
         Disturbed::Target(target) => is_listed(k, target),
         Disturbed::TargetTree(root) => is_below(seen, root, k) || is_listed(k, Some(root)),
         Disturbed::Kin => is_below(seen, slot.number(), k)
-            || is_listed(k, seen.jobs.superior(slot.number())),
+            || is_superior(k, seen.jobs.superior(slot)),
     }
 }
 
@@ -62,6 +62,16 @@ fn is_below(seen: &Seen<'_>, slot: u8, k: Slot) -> bool
 {
     seen.jobs.tree();
     seen.jobs.is_below(slot, k.number())
+}
+
+/// Whether a superior is in this slot.
+fn is_superior(k: Slot, superior: Option<Slot>) -> bool
+    ensures { result ≡ is_listed k superior }
+{
+    match superior {
+        Some(s) => s == k,
+        None => false,
+    }
 }
 
 /// Whether a slot is this one.

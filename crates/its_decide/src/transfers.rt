@@ -108,9 +108,9 @@ impl Caller<'_> {
     pub(crate) fn bar(&self, at: u32) -> Option<Fault>
         ensures { result ≡ bar_of (core_at self.now.seen.now.core.now self.now.slot) at }
     {
-        match self.seen.core.word(self.slot.number(), at) {
+        match self.seen.core.word(self.slot, at) {
             None => Some(Fault::Mpv),
-            Some(_) if self.seen.core.is_storable(self.slot.number(), at) => None,
+            Some(_) if self.seen.core.is_storable(self.slot, at) => None,
             Some(_) => Some(Fault::Wro),
         }
     }

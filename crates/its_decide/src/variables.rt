@@ -106,7 +106,7 @@ impl Caller<'_> {
         let Some(target) = self.target else {
             return Word::ZERO;
         };
-        match self.seen.jobs.job(target) {
+        match self.seen.jobs.numbered(target) {
             Some(job) => variable_of(self.seen, inferior, Slot::new(target), job, variable),
             None => Word::ZERO,
         }
@@ -128,5 +128,5 @@ fn by_superior(variable: Variable) -> bool
 fn variable_of(seen: &Seen<'_>, index: u8, slot: Slot, job: &Job, variable: Variable) -> Word
     ensures { result ≡ variable_of index (raw_with seen.now slot job.now) variable }
 {
-    its_machine::variable_of(seen.core, seen.jobs, index, slot.number(), job, variable)
+    its_machine::variable_of(seen.core, seen.jobs, index, slot, job, variable)
 }

@@ -43,7 +43,7 @@ fn word_held(core: &Core, slot: Slot, e: u32) -> Result<Word, Fault>
     ensures value { IfOk result (λ w. w ≡ unwrap_or (word_at (core_at core.now slot) e) 0) }
     ensures fault { IfErr result (λ f. (held (core_at core.now slot) e).answer ≡ Err f) }
 {
-    match core.get(slot.number(), e) {
+    match core.get(slot, e) {
         Ok(w) => Ok(w),
         Err(_) => Err(Fault::Mpv),
     }
@@ -56,7 +56,7 @@ fn check_storable(core: &Core, slot: Slot, e: u32) -> Result<(), Fault>
     ensures place { OnOk result ((storable (core_at core.now slot) e).answer ≡ Ok e) }
     ensures fault { IfErr result (λ f. (storable (core_at core.now slot) e).answer ≡ Err f) }
 {
-    match core.refusal(slot.number(), e) {
+    match core.refusal(slot, e) {
         None => Ok(()),
         Some(f) => Err(f),
     }
@@ -144,12 +144,7 @@ fn fetch_argument(
     ensures more { (progress.old.used ≤ progress.new.used) × (progress.new.used ≤ budget) }
     ensures few { length ask.new.decode.items + 2 * progress.old.used ≤ length ask.old.decode.items + 2 * progress.new.used + 1 }
 {
-    let Address { e, flags_word } = core.address(
-        slot.number(),
-        w,
-        &mut progress.used,
-        &mut ask.decode,
-    )?;
+    let Address { e, flags_word } = core.address(slot, w, &mut progress.used, &mut ask.decode)?;
     // for the proof alone: if nothing names this type, rattle's plan of the borrows does not find `Option`
     let _last: Option<Word> = flags_word;
     add_argument(core, slot, kind_of(w), e, ask, progress)?;

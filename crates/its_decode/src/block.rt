@@ -47,8 +47,7 @@ pub fn words_of(block: &[Word]) -> &[Word]
 fn read(core: &Core, slot: Slot, a: u32) -> Result<Word, Fault>
     ensures { result ≡ read_of (core_at core.now slot) (a % 2 ^ 18) }
 {
-    core.get(slot.number(), a % ADDRESSES)
-        .map_err(|_| Fault::Mpv)
+    core.get(slot, a % ADDRESSES).map_err(|_| Fault::Mpv)
 }
 
 /// Appends the argument words of a block, which begin at an address, up to the first with bit 0 on, at most 8. Mpv if

@@ -29,10 +29,10 @@ fn number(rt: &impl Abort, text: &str) -> Word {
 
 /// Puts words into the accumulators, from 0 on.
 fn load(rt: &impl Abort, core: &mut Core, words: &str) {
-    core.drop_all(0);
+    core.drop_all(Slot::FIRST);
     for (k, text) in words.split_whitespace().enumerate() {
         if k < 16 {
-            assert!(rt; core.put(0, k as u32, number(rt, text)).is_ok());
+            assert!(rt; core.put(Slot::FIRST, k as u32, number(rt, text)).is_ok());
         }
     }
 }

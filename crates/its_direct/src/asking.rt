@@ -97,7 +97,7 @@ fn word(core: &Core, slot: Slot, a: u32, decode: &mut Places) -> Result<Word, Fa
 {
     let place = a % ADDRESSES;
     decode.push(place);
-    match core.get(slot.number(), place) {
+    match core.get(slot, place) {
         Ok(w) => Ok(w),
         Err(_) => Err(Fault::Mpv),
     }
@@ -268,7 +268,7 @@ fn argument(
     ensures few { IfOk result (λ x. length decode.new.items + 2 * used ≤ length decode.old.items + 2 * x.used + 1) }
 {
     let mut after = used;
-    match core.address(slot.number(), w, &mut after, decode) {
+    match core.address(slot, w, &mut after, decode) {
         Ok(a) => match placed(core, slot, w, a.e) {
             Ok(argument) => Ok(Placed {
                 argument,
@@ -287,20 +287,20 @@ fn placed(core: &Core, slot: Slot, w: Word, e: u32) -> Result<Arg, Fault>
     ensures { result ≡ (argument_at (kind_of w) (core_at core.now slot) e).answer }
 {
     match argument_type(w) {
-        0 => match core.get(slot.number(), e) {
+        0 => match core.get(slot, e) {
             Ok(_) => Ok(Arg::Input(Source::Held(Location::new(e)))),
             Err(_) => Err(Fault::Mpv),
         },
         1 => Ok(Arg::Input(Source::Immediate(Word::pair(0, e)))),
-        2 => match core.refusal(slot.number(), e) {
+        2 => match core.refusal(slot, e) {
             None => Ok(Arg::Output(Location::new(e))),
             Some(f) => Err(f),
         },
-        3 => match core.refusal(slot.number(), e) {
+        3 => match core.refusal(slot, e) {
             None => Ok(Arg::ErrorAt(Location::new(e))),
             Some(f) => Err(f),
         },
-        4 => match core.get(slot.number(), e) {
+        4 => match core.get(slot, e) {
             Ok(_) => Ok(Arg::Control(Source::Held(Location::new(e)))),
             Err(_) => Err(Fault::Mpv),
         },

@@ -11,11 +11,11 @@ ghost use Rattle.its_direct.specs.Lines.{Stands, ConsoleBecomes};
 use super::plain::Plain;
 use arrayvec::ArrayVec;
 use its_console::Console;
+use its_word::ConsoleNumber;
 
 impl Plain {
     /// TYPE: bytes are typed at a console, as many as have room; how many were dropped.
-    pub fn type_in(&mut self, c: u8, bytes: &[u8]) -> u32
-        requires console { c < 8 }
+    pub fn type_in(&mut self, c: ConsoleNumber, bytes: &[u8]) -> u32
         requires few { length bytes.now ≤ 32 }
         requires tidy { Tidy self.old }
         ensures dropped { result ≡ dropped ((machine_of self.old).consoles c) bytes.now }
@@ -28,8 +28,7 @@ impl Plain {
     }
 
     /// DRAIN: takes up to n bytes of the output of a console, those that were put out first.
-    pub fn drain(&mut self, c: u8, n: u32) -> ArrayVec<u8, 64>
-        requires console { c < 8 }
+    pub fn drain(&mut self, c: ConsoleNumber, n: u32) -> ArrayVec<u8, 64>
         requires number { n ≤ 64 }
         requires tidy { Tidy self.old }
         ensures drained { result.items ≡ take n ((machine_of self.old).consoles c).output }
@@ -43,24 +42,22 @@ impl Plain {
 
     /// Types bytes at a console.
     #[tactic(auto, using(crate::proofs::ConsoleLaws::console_becomes))]
-    fn type_at(&mut self, c: u8, bytes: &[u8]) -> u32
-        requires console { c < 8 }
+    fn type_at(&mut self, c: ConsoleNumber, bytes: &[u8]) -> u32
         requires few { length bytes.now ≤ 32 }
         ensures dropped { result ≡ dropped (console_at self.old.consoles.items c) bytes.now }
         ensures typed { ConsoleBecomes self.old self.new c (record (console_at self.old.consoles.items c) { input = take most_waiting ((console_at self.old.consoles.items c).input ++ bytes.now) }) }
     {
-        type_all(&mut self.consoles[usize::from(c)], bytes)
+        type_all(&mut self.consoles[c.index()], bytes)
     }
 
     /// Drains bytes of a console.
     #[tactic(auto, using(crate::proofs::ConsoleLaws::console_becomes))]
-    fn drain_at(&mut self, c: u8, n: u32) -> ArrayVec<u8, 64>
-        requires console { c < 8 }
+    fn drain_at(&mut self, c: ConsoleNumber, n: u32) -> ArrayVec<u8, 64>
         requires number { n ≤ 64 }
         ensures drained { result.items ≡ take n (console_at self.old.consoles.items c).output }
         ensures rest { ConsoleBecomes self.old self.new c (record (console_at self.old.consoles.items c) { output = drop n (console_at self.old.consoles.items c).output }) }
     {
-        drain_all(&mut self.consoles[usize::from(c)], n)
+        drain_all(&mut self.consoles[c.index()], n)
     }
 }
 

@@ -24,7 +24,7 @@ use its_core::{Core, Full};
 use its_frame::Variable;
 use its_jobs::NoSlot;
 use its_records::{Exit, Job};
-use its_word::{INF, Slot, Store, Word, flags_in};
+use its_word::{ConsoleNumber, INF, Slot, Store, Word, flags_in};
 
 impl Plain {
     /// Makes stores into the core of a slot's job, in their order.
@@ -34,7 +34,7 @@ impl Plain {
         requires tidy { Tidy self.old }
         ensures { CoreBecomes self.old self.new slot (stored (core_at self.old.core slot) stores.now) }
     {
-        self.core.make_all(slot.number(), stores);
+        self.core.make_all(slot, stores);
     }
 
     /// The same, of a slot that has a job.
@@ -97,17 +97,15 @@ impl Plain {
 
     /// Takes the first byte of a console's input.
     #[tactic(auto, using(crate::proofs::ConsoleLaws::console_becomes, crate::proofs::EffectLaws::first_taken))]
-    fn take_byte(&mut self, c: u8)
-        requires { c < 8 }
+    fn take_byte(&mut self, c: ConsoleNumber)
         ensures { ConsoleBecomes self.old self.new c (after_take (console_at self.old.consoles.items c)) }
     {
-        let _ = self.consoles[usize::from(c)].take();
+        let _ = self.consoles[c.index()].take();
     }
 
     /// The same as a change.
     #[tactic(auto, using(crate::proofs::EffectLaws::byte_taken, crate::proofs::ConsoleLaws::console_tidy))]
-    pub(crate) fn take(&mut self, c: u8)
-        requires console { c < 8 }
+    pub(crate) fn take(&mut self, c: ConsoleNumber)
         requires tidy { Tidy self.old }
         ensures row { Becomes self.old self.new (on_console (machine_of self.old) c after_take) }
         ensures tidy { Tidy self.new }
@@ -117,18 +115,16 @@ impl Plain {
 
     /// Puts a byte at the end of a console's output, which has room.
     #[tactic(auto, using(crate::proofs::ConsoleLaws::console_becomes))]
-    fn put_byte(&mut self, c: u8, byte: u8)
-        requires console { c < 8 }
+    fn put_byte(&mut self, c: ConsoleNumber, byte: u8)
         requires room { length (console_at self.old.consoles.items c).output < most_waiting }
         ensures { ConsoleBecomes self.old self.new c (after_put byte (console_at self.old.consoles.items c)) }
     {
-        let _ = self.consoles[usize::from(c)].put(byte);
+        let _ = self.consoles[c.index()].put(byte);
     }
 
     /// The same as a change.
     #[tactic(auto, using(crate::proofs::EffectLaws::byte_put, crate::proofs::EffectLaws::console_room, crate::proofs::ConsoleLaws::console_tidy))]
-    pub(crate) fn put(&mut self, c: u8, byte: u8)
-        requires console { c < 8 }
+    pub(crate) fn put(&mut self, c: ConsoleNumber, byte: u8)
         requires room { length ((machine_of self.old).consoles c).output < most_waiting }
         requires tidy { Tidy self.old }
         ensures row { Becomes self.old self.new (on_console (machine_of self.old) c (after_put byte)) }
@@ -139,8 +135,7 @@ impl Plain {
 
     /// Gives a console to a slot's job.
     #[tactic(auto, using(crate::proofs::EffectLaws::console_given, crate::proofs::LoadLaws::holder_tidy))]
-    pub(crate) fn give(&mut self, c: u8, slot: u8)
-        requires console { c < 8 }
+    pub(crate) fn give(&mut self, c: ConsoleNumber, slot: u8)
         requires tidy { Tidy self.old }
         ensures row { Becomes self.old self.new (record (machine_of self.old) { holders = changed (machine_of self.old).holders c (Some slot) }) }
         ensures tidy { Tidy self.new }
@@ -176,7 +171,7 @@ impl Plain {
         ensures tidy { Tidy self.new }
     {
         let console = self.console_of(maker);
-        match self.jobs.create(u, j, Some(maker.number()), console) {
+        match self.jobs.create(u, j, Some(maker), console) {
             Ok(_) => {}
             Err(NoSlot) => unreachable!(),
         }
@@ -212,8 +207,7 @@ impl Plain {
         ensures { CoreBecomes self.old self.new slot (with_page (core_at self.old.core slot) page (Some zero_page)) }
     {
         reserve_clear(&mut self.core, slot);
-        let number = slot.number();
-        match self.core.map(number, number, page) {
+        match self.core.map(slot, slot, page) {
             Ok(()) => {}
             Err(Full) => unreachable!(),
         }
@@ -227,7 +221,7 @@ impl Plain {
         ensures row { Becomes self.old self.new (in_job (machine_of self.old) slot (with_page_at page None)) }
         ensures tidy { Tidy self.new }
     {
-        self.core.unmap(slot.number(), page);
+        self.core.unmap(slot, page);
     }
 
     /// Makes a page of a slot's job writable or read only.
@@ -238,7 +232,7 @@ impl Plain {
         ensures row { Becomes self.old self.new (in_job (machine_of self.old) slot (with_protection page writable)) }
         ensures tidy { Tidy self.new }
     {
-        self.core.protect(slot.number(), page, writable);
+        self.core.protect(slot, page, writable);
     }
 }
 
@@ -249,7 +243,7 @@ fn reserve_clear(core: &mut Core, slot: Slot)
     ensures quarters { Only (clear_at core.old) (clear_at core.new) slot (Some 4) }
     ensures cores { core.new.cores ≡ core.old.cores }
 {
-    core.reserve(slot.number());
+    core.reserve(slot);
     clear_quarters(core, slot);
 }
 
@@ -261,7 +255,7 @@ fn clear_quarters(core: &mut Core, slot: Slot)
     ensures cores { core.new.cores ≡ core.old.cores }
 {
     for q in 0..4 {
-        core.clear_quarter(slot.number(), q);
+        core.clear_quarter(slot, q);
     }
 }
 

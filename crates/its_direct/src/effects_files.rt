@@ -22,7 +22,7 @@ impl Plain {
         requires channel { n < 16 }
         ensures { result ≡ channel_at self.now.jobs slot n }
     {
-        match self.jobs.job(slot.number()) {
+        match self.jobs.job(slot) {
             Some(job) => job.channels[usize::from(n)],
             None => Channel::Closed,
         }

@@ -1,5 +1,5 @@
 //! The events of a session, each by its line.
-ghost use Rattle.std.specs.Prelude.{◌≡◌, ◌<◌, ◌≤◌, ◌+◌, ◌^◌, IfSome, IfOk, OnErr, length};
+ghost use Rattle.std.specs.Prelude.{◌≡◌, ◌<◌, ◌≤◌, ◌+◌, ◌^◌, IfOk, OnErr, length};
 ghost use Rattle.its_records.specs.declared.session.Event.TheVariants as told;
 ghost use Rattle.its_records.specs.declared.session.Place.TheVariants as places;
 ghost use Rattle.its_session.specs.Events.{place_after};
@@ -12,7 +12,7 @@ ghost use Rattle.its_direct.specs.Events.{answered, spot_place, IsTold, JobsStay
 use super::plain::{Plain, Spot};
 use arrayvec::ArrayVec;
 use its_records::{Event, Refusal};
-use its_word::{Slot, Word};
+use its_word::{ConsoleNumber, Slot, Word};
 
 /// What an event shows that cannot be read from the machine after it.
 #[derive(Debug, Drop)]
@@ -151,8 +151,12 @@ impl Plain {
     }
 
     /// LOAD.
-    fn tell_load(&mut self, u: Word, j: Word, console: Option<u8>) -> Result<Answer, Refusal>
-        requires console { IfSome console (λ c. c < 8) }
+    fn tell_load(
+        &mut self,
+        u: Word,
+        j: Word,
+        console: Option<ConsoleNumber>,
+    ) -> Result<Answer, Refusal>
         requires tidy { Tidy self.old }
         ensures told { Told (told.Load u j console) self.old self.new result }
         ensures same { OnErr result (self.new ≡ self.old) }
@@ -165,8 +169,7 @@ impl Plain {
     }
 
     /// TYPE.
-    fn tell_type(&mut self, c: u8, bytes: &ArrayVec<u8, 32>) -> Result<Answer, Refusal>
-        requires console { c < 8 }
+    fn tell_type(&mut self, c: ConsoleNumber, bytes: &ArrayVec<u8, 32>) -> Result<Answer, Refusal>
         requires tidy { Tidy self.old }
         ensures told { Told (told.TypeIn c bytes.now) self.old self.new result }
         ensures same { OnErr result (self.new ≡ self.old) }
@@ -176,8 +179,7 @@ impl Plain {
     }
 
     /// DRAIN.
-    fn tell_drain(&mut self, c: u8, n: u32) -> Result<Answer, Refusal>
-        requires console { c < 8 }
+    fn tell_drain(&mut self, c: ConsoleNumber, n: u32) -> Result<Answer, Refusal>
         requires number { n ≤ 64 }
         requires tidy { Tidy self.old }
         ensures told { Told (told.Drain c n) self.old self.new result }

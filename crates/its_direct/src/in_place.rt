@@ -42,7 +42,7 @@ impl Plain {
         ensures made { UnitsIn self.old self.new slot result n }
         ensures same { result ≡ 0 → self.new ≡ self.old }
     {
-        match self.jobs.job_mut(slot.number()) {
+        match self.jobs.job_mut(slot) {
             Some(job) => run_units(&mut self.core, slot, job, n),
             None => unreachable!(),
         }

@@ -135,10 +135,11 @@ impl Plain {
         ensures same { OnErr result (self.new ≡ self.old) }
         ensures tidy { Tidy self.new }
     {
+        within(slot);
         let Some(_job) = self.job(slot) else {
             return Err(Refusal::NoJob);
         };
-        match self.core.put(slot.number(), a, w) {
+        match self.core.put(slot, a, w) {
             Ok(()) => {
                 self.touch_only(slot);
                 Ok(())
@@ -178,7 +179,7 @@ impl Plain {
         ensures { result ≡ is_some (words_at (core_at self.now.core slot) a n) }
     {
         for k in 0..n {
-            if self.core.word(slot.number(), (a + k) % ADDRESSES).is_none() {
+            if self.core.word(slot, (a + k) % ADDRESSES).is_none() {
                 return false;
             }
         }

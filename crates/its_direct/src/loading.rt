@@ -1,5 +1,5 @@
 //! LOAD: a new job, and its console.
-ghost use Rattle.std.specs.Prelude.{◌≡◌, ◌<◌, Some, None, Ok, Err, IfOk, IfSome, IfErr, OnErr, length, slice_set};
+ghost use Rattle.std.specs.Prelude.{◌≡◌, ◌<◌, Some, None, Ok, Err, IfOk, IfErr, OnErr, length, slice_set};
 ghost use Rattle.its_records.specs.Tree.{least_free};
 ghost use Rattle.its_plain.specs.Machine.{limit, with_new};
 ghost use Rattle.its_plain.specs.OperatorJobs.{after_load, new_job, with_holder};
@@ -11,21 +11,25 @@ ghost use Rattle.its_direct.specs.Lines.{Loads};
 use super::plain::{Plain, Spot, within};
 use its_jobs::NoSlot;
 use its_records::Refusal;
-use its_word::{Slot, Word};
+use its_word::{ConsoleNumber, Slot, Word};
 
 impl Plain {
     /// LOAD: makes a stopped job with these names and this console in the least empty slot, which it answers and whose LOAD block
     /// begins. It becomes the holder of its console, if that has none. Full if all slots below the limit have a job.
     #[tactic(auto, using(crate::proofs::LoadLaws::load_full))]
-    pub fn load(&mut self, u: Word, j: Word, console: Option<u8>) -> Result<Slot, Refusal>
-        requires console { IfSome console (λ c. c < 8) }
+    pub fn load(
+        &mut self,
+        u: Word,
+        j: Word,
+        console: Option<ConsoleNumber>,
+    ) -> Result<Slot, Refusal>
         requires tidy { Tidy self.old }
         ensures done { IfOk result (λ s. Loads self.old self.new s (after_load (machine_of self.old) u j console)) }
         ensures refused { IfErr result (λ e. after_load (machine_of self.old) u j console ≡ Err (reason_of e)) }
         ensures same { OnErr result (self.new ≡ self.old) }
         ensures tidy { Tidy self.new }
     {
-        match self.make(u, j, console) {
+        match self.make(u, j, ConsoleNumber::numbered(console)) {
             Ok(slot) => {
                 within(slot);
                 self.hold_console(slot, console);
@@ -47,15 +51,14 @@ impl Plain {
         ensures tidy { Tidy self.new }
     {
         match self.jobs.create(u, j, None, console) {
-            Ok(slot) => Ok(Slot::new(slot)),
+            Ok(slot) => Ok(slot),
             Err(NoSlot) => Err(NoSlot),
         }
     }
 
     /// Makes the job of a slot the holder of its console, if that has none.
     #[tactic(auto, using(crate::proofs::LoadLaws::console_some, crate::proofs::LoadLaws::console_none))]
-    fn hold_console(&mut self, slot: Slot, console: Option<u8>)
-        requires console { IfSome console (λ c. c < 8) }
+    fn hold_console(&mut self, slot: Slot, console: Option<ConsoleNumber>)
         requires tidy { Tidy self.old }
         ensures row { machine_of self.new ≡ with_holder (machine_of self.old) slot console }
         ensures tidy { Tidy self.new }
@@ -68,8 +71,7 @@ impl Plain {
 
     /// The same of this console.
     #[tactic(auto, using(crate::proofs::LoadLaws::held_keeps, crate::proofs::LoadLaws::held_given, crate::proofs::LoadLaws::holder_tidy))]
-    fn hold(&mut self, slot: Slot, c: u8)
-        requires console { c < 8 }
+    fn hold(&mut self, slot: Slot, c: ConsoleNumber)
         requires tidy { Tidy self.old }
         ensures row { machine_of self.new ≡ with_holder (machine_of self.old) slot (Some c) }
         ensures tidy { Tidy self.new }
@@ -81,11 +83,10 @@ impl Plain {
     }
 
     /// The slot of the job that holds a console.
-    fn holder(&self, c: u8) -> Option<u8>
-        requires { c < 8 }
+    fn holder(&self, c: ConsoleNumber) -> Option<u8>
         ensures { result ≡ holder_at self.now.holders c }
     {
-        self.holders[usize::from(c)]
+        self.holders[c.index()]
     }
 
     /// Another place.
@@ -96,11 +97,10 @@ impl Plain {
     }
 
     /// Makes a slot's job the holder of a console.
-    pub(crate) fn put_holder(&mut self, slot: u8, c: u8)
-        requires { c < 8 }
+    pub(crate) fn put_holder(&mut self, slot: u8, c: ConsoleNumber)
         ensures holders { self.new ≡ record self.old { holders = slice_set self.old.holders c (Some slot) } }
         ensures within { c < length self.old.holders }
     {
-        self.holders[usize::from(c)] = Some(slot);
+        self.holders[c.index()] = Some(slot);
     }
 }

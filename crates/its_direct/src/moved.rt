@@ -16,7 +16,7 @@ use super::plain::Plain;
 use super::steps::new_values;
 use its_decide::{Moved, Shift};
 use its_records::Ask;
-use its_word::{Slot, Store, Word};
+use its_word::{ConsoleNumber, Slot, Store, Word};
 
 impl Plain {
     /// Carries out a part of a call of a slot's job that moves a byte or word, when the call has three inputs. The slots that are touched stay.
@@ -46,8 +46,8 @@ impl Plain {
         match shift {
             Shift::Move { channel, at } => self.move_to(slot, channel, at),
             Shift::Append { channel, word } => self.append(slot, channel, word),
-            Shift::Take { console } => self.take(console),
-            Shift::Put { console, byte } => self.put(console, byte),
+            Shift::Take { console } => self.take(ConsoleNumber::new(console)),
+            Shift::Put { console, byte } => self.put(ConsoleNumber::new(console), byte),
             Shift::Send { link, word } => self.send(link, word),
             Shift::Receive { link } => self.receive(link),
         }

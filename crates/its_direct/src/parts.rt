@@ -43,7 +43,7 @@ impl Plain {
 
     /// Whether the word after the one to which the word at the PC of a slot's job points names SIOT. No other call has parts.
     fn names_siot(&self, slot: Slot) -> bool {
-        match self.jobs.job(slot.number()) {
+        match self.jobs.job(slot) {
             Some(job) => names_siot(&self.core, slot, job.pc),
             None => false,
         }
@@ -55,7 +55,7 @@ impl Plain {
         requires kept { Kept self.now }
         ensures { IfSome result (λ a. AtCall (machine_of self.now) slot a) }
     {
-        let Some(job) = self.jobs.job(slot.number()) else {
+        let Some(job) = self.jobs.job(slot) else {
             return None;
         };
         if job.stopped {
@@ -119,7 +119,7 @@ impl Plain {
         requires at { AtCall (machine_of self.now) slot ask.now }
         ensures { IfSome result (λ m. Decides (machine_of self.now) slot ask.now (moving m)) }
     {
-        match self.jobs.job(slot.number()) {
+        match self.jobs.job(slot) {
             Some(job) => next_move(&self.seen(), slot, job, ask),
             None => None,
         }
@@ -147,10 +147,10 @@ impl Plain {
 
 /// Whether the word after the one to which the word at a PC points names SIOT.
 fn names_siot(core: &Core, slot: Slot, pc: u32) -> bool {
-    let Some(call) = core.word(slot.number(), pc) else {
+    let Some(call) = core.word(slot, pc) else {
         return false;
     };
-    match core.word(slot.number(), (call.right() + 1) % ADDRESSES) {
+    match core.word(slot, (call.right() + 1) % ADDRESSES) {
         Some(name) => name.value() == SIOT,
         None => false,
     }

@@ -97,7 +97,7 @@ impl Plain {
     pub fn job(&self, slot: Slot) -> Option<Job>
         ensures { result ≡ job_at self.now.jobs slot }
     {
-        self.jobs.job(slot.number()).copied()
+        self.jobs.job(slot).copied()
     }
 
     /// Writes the registers of a slot's job.
@@ -106,7 +106,7 @@ impl Plain {
         requires some { is_some (job_at self.old.jobs slot) ≡ true }
         ensures { JobBecomes self.old self.new slot job }
     {
-        if let Some(j) = self.jobs.job_mut(slot.number()) {
+        if let Some(j) = self.jobs.job_mut(slot) {
             *j = job;
         }
     }

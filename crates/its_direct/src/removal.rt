@@ -41,7 +41,7 @@ impl Plain {
     {
         for slot in 0..SLOTS as u8 {
             let slot = Slot::new(slot);
-            if is_removed(&self.jobs, root.number(), slot.number()) {
+            if is_removed(&self.jobs, root, slot.number()) {
                 self.close_all(slot);
             }
         }
@@ -68,10 +68,10 @@ impl Plain {
     {
         self.jobs.tree();
         self.sweep(root);
-        let number = root.number();
-        pass_on(&self.jobs, number, &mut self.holders);
-        self.pipes.leave_links(&self.jobs, number);
-        self.jobs.remove_tree(number);
+        within(root);
+        pass_on(&self.jobs, root, &mut self.holders);
+        self.pipes.leave_links(&self.jobs, root);
+        self.jobs.remove_tree(root);
     }
 
     /// Gives up pages, alarms and symbols of the jobs of a tree, and closes the channels of others on them.
@@ -89,7 +89,7 @@ impl Plain {
     fn sweep_slot(&mut self, root: Slot, slot: Slot)
         ensures { Sweeps (in_tree (superior_at self.old.jobs) root) self.old self.new slot }
     {
-        if is_removed(&self.jobs, root.number(), slot.number()) {
+        if is_removed(&self.jobs, root, slot.number()) {
             self.bare(slot);
         } else {
             self.leave_channels(root, slot);
@@ -100,7 +100,7 @@ impl Plain {
     fn bare(&mut self, slot: Slot)
         ensures { Bares self.old self.new slot }
     {
-        self.core.drop_all(slot.number());
+        self.core.drop_all(slot);
         self.put_alarm(slot, None);
         self.forget(slot);
     }
@@ -119,7 +119,7 @@ impl Plain {
         ensures { Sweeps (in_tree (superior_at self.old.jobs) root) self.old self.new slot }
     {
         if let Some(mut job) = self.job(slot) {
-            leave_each(&self.jobs, root.number(), &mut job.channels);
+            leave_each(&self.jobs, root, &mut job.channels);
             self.put_job(slot, job);
         }
     }

@@ -29,7 +29,7 @@ impl Plain {
         ensures place { self.new.place ≡ self.old.place }
         ensures kept { Kept self.new }
     {
-        let Some(job) = self.jobs.job(slot.number()) else {
+        let Some(job) = self.jobs.job(slot) else {
             return 0;
         };
         if job.stopped {

@@ -12,7 +12,7 @@ ghost use Rattle.its_direct.specs.Plain.{machine_of, Tidy};
 ghost use Rattle.its_records.specs.Refusals.{reason_of};
 ghost use Rattle.its_direct.specs.Lines.{Operates, Stands, Keeps, SymbolsBecome, VersionBecomes};
 
-use super::plain::Plain;
+use super::plain::{Plain, within};
 use its_jobs::limit_of;
 use its_machine::MOST_SYMBOLS;
 use its_records::Refusal;
@@ -53,11 +53,12 @@ impl Plain {
         ensures same { OnErr result (self.new ≡ self.old) }
         ensures tidy { Tidy self.new }
     {
+        within(slot);
         let Some(_job) = self.job(slot) else {
             return Err(Refusal::NoJob);
         };
         if self.has_page(slot, page) {
-            self.core.protect(slot.number(), page, false);
+            self.core.protect(slot, page, false);
             self.touch_only(slot);
             Ok(())
         } else {
@@ -70,7 +71,7 @@ impl Plain {
     fn has_page(&self, slot: Slot, page: u8) -> bool
         ensures { result ≡ is_some (page_of (core_at self.now.core slot) page) }
     {
-        self.core.page(slot.number(), page).is_some()
+        self.core.page(slot, page).is_some()
     }
 
     /// SYM: a slot's job keeps a symbol, the last. NoJob if the slot is empty, Full if the job has 512. The job is not disturbed.

@@ -43,7 +43,7 @@ impl Plain {
         let Some(job) = self.job(slot) else {
             return Err(Refusal::NoJob);
         };
-        let superior = self.jobs.superior(slot.number());
+        let superior = self.jobs.superior(slot);
         let symbol = self.near(slot, job.pc);
         Ok(shown(&job, superior, symbol))
     }
@@ -65,7 +65,7 @@ fn words_from(core: &Core, slot: Slot, a: u32, n: u32) -> Option<ArrayVec<Word, 
 {
     let mut words = ArrayVec::new();
     for k in 0..n {
-        match core.word(slot.number(), (a + k) % ADDRESSES) {
+        match core.word(slot, (a + k) % ADDRESSES) {
             Some(w) => words.push(w),
             None => return None,
         }

@@ -105,7 +105,7 @@ fn value(core: &Core, slot: Slot, s: &Source) -> Word
     ensures { result ≡ value_of (core_at core.now slot) s.now }
 {
     match s {
-        Source::Held(p) => core.get(slot.number(), p.number()).unwrap_or(Word::ZERO),
+        Source::Held(p) => core.get(slot, p.number()).unwrap_or(Word::ZERO),
         Source::Immediate(v) => *v,
     }
 }

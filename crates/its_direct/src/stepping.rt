@@ -13,7 +13,7 @@ ghost use Rattle.its_direct.specs.Plain.{machine_of, Tidy};
 use super::plain::Plain;
 use its_frame::Change;
 use its_records::Exit;
-use its_word::{Slot, Store};
+use its_word::{ConsoleNumber, Slot, Store};
 
 impl Plain {
     /// Makes the changes of a call of slot's job, in their order.
@@ -43,9 +43,9 @@ impl Plain {
             Change::Move { channel, at } => self.move_to(slot, *channel, *at),
             Change::Append { channel, word } => self.append(slot, *channel, *word),
             Change::Close { channel } => self.close(slot, *channel),
-            Change::Take { console } => self.take(*console),
-            Change::Put { console, byte } => self.put(*console, *byte),
-            Change::Hold { console, slot: s } => self.give(*console, *s),
+            Change::Take { console } => self.take(ConsoleNumber::new(*console)),
+            Change::Put { console, byte } => self.put(ConsoleNumber::new(*console), *byte),
+            Change::Hold { console, slot: s } => self.give(ConsoleNumber::new(*console), *s),
             Change::Poke { slot: s, at, word } => self.poke(Slot::new(*s), *at, *word),
             Change::Set {
                 slot: s,

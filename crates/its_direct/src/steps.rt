@@ -218,7 +218,7 @@ impl Plain {
         self.jobs.tree();
         let mut marks = [false; SLOTS];
         for k in 0..SLOTS {
-            marks[k] = self.jobs.job(k as u8).is_some();
+            marks[k] = self.jobs.numbered(k as u8).is_some();
         }
         marks
     }
@@ -352,7 +352,7 @@ fn deposited(core: &Core, slot: Slot, pointer: Word, held: Held) -> Store
     requires size { IsTrue (has_size pointer) }
     ensures { result ≡ deposited (core_at core.now slot) pointer held }
 {
-    let word = core.word(slot.number(), held.place).unwrap_or(Word::ZERO);
+    let word = core.word(slot, held.place).unwrap_or(Word::ZERO);
     Store {
         at: held.place,
         word: deposit(pointer, word, held.byte.value()),

@@ -93,8 +93,8 @@ impl Plain {
         ensures place { self.new.place ≡ self.old.place }
         ensures tidy { Tidy self.new }
     {
-        if let Some(superior) = self.jobs.superior(slot.number()) {
-            self.inform(Slot::new(superior));
+        if let Some(superior) = self.jobs.superior(slot) {
+            self.inform(superior);
         }
     }
 

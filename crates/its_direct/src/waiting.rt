@@ -24,7 +24,7 @@ impl Plain {
         requires kept { Kept self.now }
         ensures { result ≡ true → transition (machine_of self.now) slot ≡ None }
     {
-        let Some(job) = self.jobs.job(slot.number()) else {
+        let Some(job) = self.jobs.job(slot) else {
             return false;
         };
         if job.stopped {
@@ -66,8 +66,8 @@ impl Plain {
     fn can_store(&self, slot: Slot, at: u32) -> bool
         ensures { result ≡ true → bar_of (core_at self.now.core slot) at ≡ None }
     {
-        match self.core.word(slot.number(), at) {
-            Some(_) => self.core.is_storable(slot.number(), at),
+        match self.core.word(slot, at) {
+            Some(_) => self.core.is_storable(slot, at),
             None => false,
         }
     }

@@ -88,7 +88,7 @@ impl Plain {
         ensures absent { result ≡ Err NoAccess.Absent → (16 ≤ a) × (page_of (core_at self.old.core slot) (a / 1024) ≡ None) }
         ensures same { OnErr result (self.new ≡ self.old) }
     {
-        match self.core.put(slot.number(), a, w) {
+        match self.core.put(slot, a, w) {
             Ok(()) => Ok(()),
             Err(e) => Err(e),
         }
@@ -125,7 +125,7 @@ fn any_barred(core: &Core, slot: Slot, a: u32, n: u32) -> bool
 fn is_barred(core: &Core, slot: Slot, a: u32) -> bool
     ensures { result ≡ is_barred (core_at core.now slot) a }
 {
-    core.word(slot.number(), a).is_some() && !core.is_storable(slot.number(), a)
+    core.word(slot, a).is_some() && !core.is_storable(slot, a)
 }
 
 /// How many pages are made for n words of a slot from an address on: those that are absent.
@@ -164,7 +164,7 @@ fn pages_absent(core: &Core, slot: Slot, first: u32, n: u32) -> u32
 fn has_page(core: &Core, slot: Slot, page: u8) -> bool
     ensures { result ≡ is_some (page_of (core_at core.now slot) page) }
 {
-    core.page(slot.number(), page).is_some()
+    core.page(slot, page).is_some()
 }
 
 /// Makes the page of an address of a slot, of zeros, and stores a word there.
@@ -178,6 +178,6 @@ fn lay_word(core: &mut Core, slot: Slot, a: u32, w: Word)
     ensures core { Only (core_at core.old) (core_at core.new) slot (store (with_page (core_at core.old slot) (a / 1024) (Some zero_page)) a w) }
     ensures reserved { Same (clear_at core.old) (clear_at core.new) }
 {
-    core.map_zeros(slot.number(), (a / 1024) as u8);
-    let _ = core.put(slot.number(), a, w);
+    core.map_zeros(slot, (a / 1024) as u8);
+    let _ = core.put(slot, a, w);
 }

@@ -99,7 +99,7 @@ pub fn deliver(core: &mut Core, slot: Slot, job: &mut Job) -> bool
     }
     if let Some(found) = look_up(core, slot, job) {
         let stores = pushes(job, &found);
-        if core.store_all(slot.number(), &stores).is_ok() {
+        if core.store_all(slot, &stores).is_ok() {
             enter(job, &found.entry);
             return false;
         }
@@ -114,15 +114,11 @@ pub fn deliver(core: &mut Core, slot: Slot, job: &mut Job) -> bool
 pub fn dismiss(core: &Core, job: &Job, slot: Slot, p: u32) -> Result<Exit, Fault>
     ensures { result ≡ after_dismissal (core_at core.now slot) job.now p }
 {
-    let pointer = core.word(slot.number(), p).ok_or(Fault::Mpv)?;
-    let saved = core.word(slot.number(), pointer.right()).ok_or(Fault::Mpv)?;
-    let defer2 = core
-        .word(slot.number(), below(pointer, 1))
-        .ok_or(Fault::Mpv)?;
-    let defer1 = core
-        .word(slot.number(), below(pointer, 2))
-        .ok_or(Fault::Mpv)?;
-    if !core.is_storable(slot.number(), p) {
+    let pointer = core.word(slot, p).ok_or(Fault::Mpv)?;
+    let saved = core.word(slot, pointer.right()).ok_or(Fault::Mpv)?;
+    let defer2 = core.word(slot, below(pointer, 1)).ok_or(Fault::Mpv)?;
+    let defer1 = core.word(slot, below(pointer, 2)).ok_or(Fault::Mpv)?;
+    if !core.is_storable(slot, p) {
         return Err(Fault::Wro);
     }
     Ok(Exit {

@@ -98,11 +98,11 @@ fn entry_at(core: &Core, slot: Slot, a: u32) -> Option<TableEntry>
     ensures { result ≡ entry_at (core_at core.now slot) a }
 {
     Some(TableEntry {
-        mask1: core.word(slot.number(), a % ADDRESSES)?,
-        mask2: core.word(slot.number(), (a + 1) % ADDRESSES)?,
-        defer1: core.word(slot.number(), (a + 2) % ADDRESSES)?,
-        defer2: core.word(slot.number(), (a + 3) % ADDRESSES)?,
-        handler: core.word(slot.number(), (a + 4) % ADDRESSES)?,
+        mask1: core.word(slot, a % ADDRESSES)?,
+        mask2: core.word(slot, (a + 1) % ADDRESSES)?,
+        defer1: core.word(slot, (a + 2) % ADDRESSES)?,
+        defer2: core.word(slot, (a + 3) % ADDRESSES)?,
+        handler: core.word(slot, (a + 4) % ADDRESSES)?,
     })
 }
 
@@ -156,11 +156,11 @@ pub(crate) fn look_up(core: &Core, slot: Slot, job: &Job) -> Option<Found>
         ≡ (let ss = pushed job.now f.entry f.place f.pointer in by_stores (core_at core.now slot) job.now f.entry ss (first_fault (core_at core.now slot) ss))) }
     ensures place { IfSome result (λ f. f.place < 2 ^ 18) }
 {
-    let table = core.word(slot.number(), 0o42)?;
+    let table = core.word(slot, 0o42)?;
     let count = entries(table)?;
-    let place = core.word(slot.number(), table.right())?.right();
+    let place = core.word(slot, table.right())?.right();
     let entry = first_entry(core, slot, job, count, table.right() + 1)?;
-    let pointer = core.word(slot.number(), place)?;
+    let pointer = core.word(slot, place)?;
     Some(Found {
         entry,
         place,

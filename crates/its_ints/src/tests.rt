@@ -28,19 +28,19 @@ fn job(pend: u64, mask: u64, defer: u64) -> Job {
     }
 }
 
-/// Makes a page of slot 0.
+/// Makes a page of a slot.
 #[tactic(auto, unfolding(its_core::specs::Cores::core_at))]
-fn make_page(rt: &impl Abort, core: &mut Core, page: u8) -> Result<(), Fail>
-    requires { reserved_at core.old 0 ≡ None }
-    ensures { OnOk result (reserved_at core.new 0 ≡ None) }
+fn make_page(rt: &impl Abort, core: &mut Core, slot: Slot, page: u8) -> Result<(), Fail>
+    requires { reserved_at core.old slot ≡ None }
+    ensures { OnOk result (reserved_at core.new slot ≡ None) }
 {
-    assert!(rt; core.page(0, page).is_none());
-    core.reserve(0);
-    core.clear_quarter(0, 0);
-    core.clear_quarter(0, 1);
-    core.clear_quarter(0, 2);
-    core.clear_quarter(0, 3);
-    core.map(0, 0, page)?;
+    assert!(rt; core.page(slot, page).is_none());
+    core.reserve(slot);
+    core.clear_quarter(slot, 0);
+    core.clear_quarter(slot, 1);
+    core.clear_quarter(slot, 2);
+    core.clear_quarter(slot, 3);
+    core.map(slot, slot, page)?;
     Ok(())
 }
 
@@ -48,7 +48,11 @@ fn make_page(rt: &impl Abort, core: &mut Core, page: u8) -> Result<(), Fail>
 fn load(rt: &impl Abort, core: &mut Core, words: &[(u32, u64)]) {
     for (a, w) in words {
         assert!(rt; *a <= 0o777777);
-        assert_eq!(rt; core.put(0, *a, Word::new(*w)), Ok(()), "at {a:o}");
+        assert_eq!(rt;
+            core.put(Slot::FIRST, *a, Word::new(*w)),
+            Ok(()),
+            "at {a:o}"
+        );
     }
 }
 
@@ -56,7 +60,7 @@ fn load(rt: &impl Abort, core: &mut Core, words: &[(u32, u64)]) {
 fn has(rt: &impl Abort, core: &Core, words: &[(u32, u64)]) {
     for (a, w) in words {
         assert!(rt; *a <= 0o777777);
-        assert_eq!(rt; core.get(0, *a), Ok(Word::new(*w)), "at {a:o}");
+        assert_eq!(rt; core.get(Slot::FIRST, *a), Ok(Word::new(*w)), "at {a:o}");
     }
 }
 
@@ -64,8 +68,9 @@ fn has(rt: &impl Abort, core: &Core, words: &[(u32, u64)]) {
 /// defers them; its handler is at 300. Page 2 is read only. In addition the core has these words.
 fn core_with(rt: &impl Abort, alloc: Global, words: &[(u32, u64)]) -> Result<Core, Fail> {
     let mut core = Core::open(alloc)?;
-    make_page(rt, &mut core, 0)?;
-    make_page(rt, &mut core, 2)?;
+    let slot = Slot::FIRST;
+    make_page(rt, &mut core, slot, 0)?;
+    make_page(rt, &mut core, slot, 2)?;
     load(
         rt,
         &mut core,
@@ -79,8 +84,8 @@ fn core_with(rt: &impl Abort, alloc: Global, words: &[(u32, u64)]) -> Result<Cor
         ],
     );
     load(rt, &mut core, words);
-    assert!(rt; core.page(0, 2).is_some());
-    core.protect(0, 2, false);
+    assert!(rt; core.page(slot, 2).is_some());
+    core.protect(slot, 2, false);
     Ok(core)
 }
 

@@ -1,7 +1,7 @@
 -- The tree of jobs at the beginning, after a job is made, and after a job is removed with all below it.
 use Rattle.std.specs.Prelude.{if◌then◌else◌, ◌≡◌, ◌≢◌, ◌<◌, ◌==◌, ◌≤◌, ℕ, Bool, true, false, Option, Some, None, IfSome, List, length, slice_index_or, slice_set, is_some, is_none, refl}
 use Rattle.std.proofs.Common.{sym, ◌∙◌, ap, arith, inl, inr, length-set, eq-eqb}
-use Rattle.std.proofs.lemmas.Bool.{cases_Bool, cases_eq, ne_eqb}
+use Rattle.std.proofs.lemmas.Bool.{cases_Bool, cases_eq, cases_lt, ne_eqb}
 use Rattle.std.proofs.lemmas.List.{get_or-set_same, get_or-set_other, get_or_past}
 use Rattle.its_word.specs.Limits.{slots}
 use Rattle.its_records.specs.Tree.{climbs_to, is_below}
@@ -24,7 +24,7 @@ no_tree jobs superiors m n none = record {
 
 -- a job is made in a slot that was empty
 module _ (jobs : List (Option Job)) (superiors : List (Option ℕ)) (s : ℕ) (j : Job) (superior : Option ℕ) (t : IsTree jobs superiors) (in_range : s < slots)
-    (free : slice_index_or jobs s None ≡ None) (fits : IfSome superior (λ i. (i < slots) × (is_some (slice_index_or jobs i None) ≡ true))) where
+    (free : slice_index_or jobs s None ≡ None) (fits : IfSome superior (λ i. is_some (slice_index_or jobs i None) ≡ true)) where
   not_empty : (i : ℕ) → is_some (slice_index_or jobs i None) ≡ true → i ≢ s
   not_empty i h e = let full : is_some (slice_index_or jobs s None) ≡ true = ap (λ x. is_some (slice_index_or jobs x None)) (sym e) ∙ h in let wrong : true ≡ false = sym full ∙ ap is_some free in cc
 
@@ -45,26 +45,31 @@ module _ (jobs : List (Option Job)) (superiors : List (Option ℕ)) (s : ℕ) (j
   stays_by None h = tt
   stays_by (Some i) h = stays i h
 
-  fits_below : (o : Option ℕ) → IfSome o (λ i. (i < slots) × (is_some (slice_index_or jobs i None) ≡ true)) → IfSome o (λ i. i < slots)
-  fits_below None h = tt
-  fits_below (Some i) h = h.0
+  -- a job is in a slot that there is
+  in_table : (i : ℕ) → is_some (slice_index_or jobs i None) ≡ true → i < slots
+  in_table i h =
+      let n = t.job_count in
+      elim (cases_lt i slots) [
+        | inl l ↦ l
+        | inr l ↦ absurd (let none : slice_index_or jobs i None ≡ None = get_or_past jobs i None (omega arith) in let wrong : true ≡ false = sym h ∙ ap is_some none in cc)
+      ]
 
-  fits_standing : (o : Option ℕ) → IfSome o (λ i. (i < slots) × (is_some (slice_index_or jobs i None) ≡ true)) → IfSome o (λ i. is_some (slice_index_or jobs i None) ≡ true)
-  fits_standing None h = tt
-  fits_standing (Some i) h = h.1
+  fits_below : (o : Option ℕ) → IfSome o (λ i. is_some (slice_index_or jobs i None) ≡ true) → IfSome o (λ i. i < slots)
+  fits_below None h = tt
+  fits_below (Some i) h = in_table i h
 
   pub made : IsTree (slice_set jobs s (Some j)) (slice_set superiors s superior)
   made =
       let here : slice_index_or (slice_set superiors s superior) s None ≡ superior = get_or-set_same superiors s superior None in_superiors in
       let other : (k : ℕ) → k ≢ s → slice_index_or (slice_set superiors s superior) k None ≡ slice_index_or superiors k None = λ k ne. get_or-set_other superiors s k superior None ne in
       let none : (k : ℕ) → slice_index_or superiors k None ≢ Some s = λ k. nobody k (slice_index_or superiors k None) (t.standing k) in
-      let apart : superior ≢ Some s = nobody s superior (fits_standing superior fits) in
+      let apart : superior ≢ Some s = nobody s superior fits in
       record {
         job_count = length-set jobs s (Some j) ∙ t.job_count;
         superior_count = length-set superiors s superior ∙ t.superior_count;
         below = λ k. elim (cases_eq k s) [ inl e ↦ rw (e, here) (fits_below superior fits) | inr ne ↦ rw (other k ne) (t.below k) ];
         standing = λ k. elim (cases_eq k s) [
-          | inl e ↦ rw (e, here) (stays_by superior (fits_standing superior fits))
+          | inl e ↦ rw (e, here) (stays_by superior fits)
           | inr ne ↦ rw (other k ne) (stays_by (slice_index_or superiors k None) (t.standing k))
         ];
         owned = λ k f. elim (cases_eq k s) [

@@ -9,7 +9,7 @@ ghost use Rattle.its_records.specs.Tree.{least_free, no_job, fresh_job, is_below
 ghost use Rattle.its_jobs.specs.Table.{job_at, superior_at, superior_in, in_tree, IsTree, Without, NoJobs};
 
 use its_records::{Channel, Job};
-use its_word::{NoMemory, SLOTS, Word};
+use its_word::{NoMemory, SLOTS, Slot, Word};
 use std::alloc::Global;
 use std::marker::Model;
 
@@ -27,7 +27,7 @@ const PLACES: u8 = SLOTS as u8;
 #[derive(Drop)]
 pub struct Jobs {
     jobs: Vec<Option<Job>>,
-    superiors: Vec<Option<u8>>,
+    superiors: Vec<Option<Slot>>,
     limit: u8,
 }
 
@@ -75,9 +75,8 @@ impl Jobs {
     }
 
     /// The least empty slot below the limit; None if all of them have a job.
-    pub fn free(&self) -> Option<u8>
+    pub fn free(&self) -> Option<Slot>
         ensures slot { result ≡ least_free self.now.limit (job_at self.now) }
-        ensures below { IfSome result (λ s. s < slots) }
     {
         free_slot(&self.jobs, self.limit)
     }
@@ -87,12 +86,11 @@ impl Jobs {
         &mut self,
         uname: Word,
         jname: Word,
-        superior: Option<u8>,
+        superior: Option<Slot>,
         console: Option<u8>,
-    ) -> Result<u8, NoSlot>
-        requires standing { IfSome superior (λ s. (s < slots) × (is_some (job_at self.old s) ≡ true)) }
+    ) -> Result<Slot, NoSlot>
+        requires standing { IfSome superior (λ s. is_some (job_at self.old s) ≡ true) }
         ensures slot { IfOk result (λ s. least_free self.old.limit (job_at self.old) ≡ Some s) }
-        ensures below { IfOk result (λ s. s < slots) }
         ensures job { IfOk result (λ s. Only (job_at self.old) (job_at self.new) s (Some (fresh_job uname jname console))) }
         ensures superior { IfOk result (λ s. Only (superior_at self.old) (superior_at self.new) s superior) }
         ensures full { OnErr result (least_free self.old.limit (job_at self.old) ≡ None) }
@@ -100,52 +98,58 @@ impl Jobs {
         ensures same { OnErr result (self.new ≡ self.old) }
     {
         let slot = free_slot(&self.jobs, self.limit).ok_or(NoSlot)?;
-        self.jobs[slot as usize] = Some(fresh_job(uname, jname, console));
-        self.superiors[slot as usize] = superior;
+        let place = slot.index();
+        self.jobs[place] = Some(fresh_job(uname, jname, console));
+        self.superiors[place] = superior;
         Ok(slot)
     }
 
-    /// The job of a slot; None if it is empty, and past the last slot.
-    pub fn job(&self, slot: u8) -> Option<&Job>
+    /// The job of a slot; None if it is empty.
+    pub fn job(&self, slot: Slot) -> Option<&Job>
         ensures job { option_copied result ≡ job_at self.now slot }
-        ensures within { IfSome result (λ j. slot < slots) }
     {
-        if usize::from(slot) >= self.jobs.len() {
+        self.jobs[slot.index()].as_ref()
+    }
+
+    /// The job of the slot of a number; None if it is empty, and past the last slot.
+    pub fn numbered(&self, number: u8) -> Option<&Job>
+        ensures job { option_copied result ≡ job_at self.now number }
+        ensures within { IfSome result (λ j. number < slots) }
+    {
+        if usize::from(number) >= self.jobs.len() {
             return None;
         }
-        self.jobs[usize::from(slot)].as_ref()
+        self.jobs[usize::from(number)].as_ref()
     }
 
     /// The job of a slot, to be changed; its superior stays.
-    pub fn job_mut(&mut self, slot: u8) -> Option<&mut Job>
-        requires { slot < slots }
+    pub fn job_mut(&mut self, slot: Slot) -> Option<&mut Job>
         ensures* writes_back { sem 𝓛 (LendsIf the_row job_row self.entry result (λ w. record (self.entry.now) { jobs = slice_set self.entry.now.jobs slot (Some w) }) self.entry.now) }
         ensures value { option_copied_mut result ≡ job_at self.old slot }
     {
-        self.jobs[slot as usize].as_mut()
+        self.jobs[slot.index()].as_mut()
     }
 
     /// Removes the job of a slot, which has no job below it. All others stay as they are.
-    pub fn remove(&mut self, slot: u8)
-        requires slot { slot < slots }
+    pub fn remove(&mut self, slot: Slot)
         requires job { is_some (job_at self.old slot) ≡ true }
         requires leaf { (k : ℕ) → is_below (superior_at self.old) slot k ≡ false }
         ensures job { Only (job_at self.old) (job_at self.new) slot None }
         ensures superior { Only (superior_at self.old) (superior_at self.new) slot None }
         ensures limit { self.new.limit ≡ self.old.limit }
     {
-        self.jobs[slot as usize] = None;
-        self.superiors[slot as usize] = None;
+        let place = slot.index();
+        self.jobs[place] = None;
+        self.superiors[place] = None;
     }
 
     /// Removes the job of a slot and all jobs below it. All others stay as they are.
-    pub fn remove_tree(&mut self, slot: u8)
-        requires { slot < slots }
+    pub fn remove_tree(&mut self, slot: Slot)
         ensures job { Without (in_tree (superior_at self.old) slot) (job_at self.old) (job_at self.new) }
         ensures superior { Without (in_tree (superior_at self.old) slot) (superior_at self.old) (superior_at self.new) }
         ensures limit { self.new.limit ≡ self.old.limit }
     {
-        clear_tree(&mut self.jobs, &self.superiors, slot);
+        clear_tree(&mut self.jobs, &self.superiors, slot.number());
         clear_superiors(&mut self.superiors, &self.jobs);
     }
 
@@ -156,39 +160,34 @@ impl Jobs {
         let _ = &self.jobs;
     }
 
-    /// Whether the job of a slot is below that of another. No job is below itself.
+    /// Whether the job of the slot of a number is below that of another. No job is below itself.
     pub fn is_below(&self, slot: u8, job: u8) -> bool
         ensures { result ≡ is_below (superior_at self.now) slot job }
     {
-        usize::from(job) < SLOTS && is_below(&self.superiors, slot, job)
+        usize::from(job) < SLOTS && is_below(&self.superiors, slot, Slot::new(job))
     }
 
     /// The k-th job below that of a slot, by slot number, from 0; None past the last.
-    pub fn below(&self, slot: u8, k: u32) -> Option<u8>
-        requires { slot < slots }
+    pub fn below(&self, slot: Slot, k: u32) -> Option<Slot>
         ensures job { result ≡ slice_get (slots_below (superior_at self.now) slot) k }
-        ensures within { IfSome result (λ b. b < slots) }
         ensures tree { IsTree self.now.jobs self.now.superiors }
         ensures some { IfSome result (λ b. is_below (superior_at self.now) slot b ≡ true) }
         ensures none { k ≡ 0 → result ≡ None → (j : ℕ) → is_below (superior_at self.now) slot j ≡ false }
     {
-        nth_below(&self.superiors, slot, k)
+        nth_below(&self.superiors, slot.number(), k)
     }
 
-    /// The superior of a slot's job; None if the slot is empty or its job has none, and past the last slot.
-    pub fn superior(&self, slot: u8) -> Option<u8>
+    /// The superior of a slot's job; None if the slot is empty or its job has none.
+    pub fn superior(&self, slot: Slot) -> Option<Slot>
         ensures value { result ≡ superior_at self.now slot }
         ensures standing { IfSome result (λ s. (s < slots) × (is_some (job_at self.now s) ≡ true)) }
     {
-        if usize::from(slot) >= self.superiors.len() {
-            return None;
-        }
-        self.superiors[usize::from(slot)]
+        self.superiors[slot.index()]
     }
 }
 
 /// No slot has a superior.
-fn no_superiors(alloc: Global) -> Result<Vec<Option<u8>>, NoMemory>
+fn no_superiors(alloc: Global) -> Result<Vec<Option<Slot>>, NoMemory>
     ensures length { IfOk result (λ v. length v.items ≡ slots) }
     ensures none { IfOk result (λ v. (k : ℕ) → slice_index_or v.items k None ≡ None) }
 {
@@ -198,15 +197,15 @@ fn no_superiors(alloc: Global) -> Result<Vec<Option<u8>>, NoMemory>
 
 /// The least slot below a limit that is empty.
 #[tactic(auto, using(its_records::proofs::TreeLaws::least_start, its_records::proofs::TreeLaws::least_next, its_records::proofs::TreeLaws::least_found, its_records::proofs::TreeLaws::least_end))]
-fn free_slot(jobs: &[Option<Job>], limit: u8) -> Option<u8>
+fn free_slot(jobs: &[Option<Job>], limit: u8) -> Option<Slot>
     requires jobs { length jobs.now ≡ slots }
     requires limit { limit ≤ slots }
     ensures slot { result ≡ least_free limit (λ k. slice_index_or jobs.now k None) }
-    ensures below { IfSome result (λ s. (s < slots) × (is_some (slice_index_or jobs.now s None) ≡ false)) }
+    ensures empty { IfSome result (λ s. is_some (slice_index_or jobs.now s None) ≡ false) }
 {
     for slot in 0..limit {
         if jobs[slot as usize].is_none() {
-            return Some(slot);
+            return Some(Slot::new(slot));
         }
     }
     None
@@ -238,20 +237,18 @@ fn has_none(jobs: &[Option<Job>]) -> bool
 /// Whether the job of a slot is below that of another: it is climbed from job to superior, at most
 /// as many times as there are slots.
 #[tactic(auto, using(its_records::proofs::TreeLaws::climb_spent, its_records::proofs::TreeLaws::climb_end, its_records::proofs::TreeLaws::climb_turn), unfolding(its_records::specs::Tree::is_below))]
-fn is_below(superiors: &[Option<u8>], slot: u8, job: u8) -> bool
-    requires job { job < slots }
+fn is_below(superiors: &[Option<Slot>], slot: u8, job: Slot) -> bool
     requires length { length superiors.now ≡ slots }
-    requires slots { (k : ℕ) → IfSome (slice_index_or superiors.now k None) (λ s. s < slots) }
     ensures { result ≡ is_below (λ k. slice_index_or superiors.now k None) slot job }
 {
-    if job == slot {
+    if job.number() == slot {
         return false;
     }
-    let mut superior = superiors[job as usize];
+    let mut superior = superiors[job.index()];
     for _step in 0..SLOTS {
         match superior {
-            Some(s) if s == slot => return true,
-            Some(s) => superior = superiors[s as usize],
+            Some(s) if s.number() == slot => return true,
+            Some(s) => superior = superiors[s.index()],
             None => return false,
         }
     }
@@ -259,22 +256,21 @@ fn is_below(superiors: &[Option<u8>], slot: u8, job: u8) -> bool
 }
 
 /// Empties the slots of a job and of all below it.
-fn clear_tree(jobs: &mut Vec<Option<Job>>, superiors: &[Option<u8>], slot: u8)
+fn clear_tree(jobs: &mut Vec<Option<Job>>, superiors: &[Option<Slot>], slot: u8)
     requires jobs { length jobs.old.items ≡ slots }
     requires length { length superiors.now ≡ slots }
-    requires slots { (k : ℕ) → IfSome (slice_index_or superiors.now k None) (λ s. s < slots) }
     ensures length { length jobs.new.items ≡ slots }
     ensures left { Without (in_tree (superior_in superiors.now) slot) (λ k. slice_index_or jobs.old.items k None) (λ k. slice_index_or jobs.new.items k None) }
 {
     for job in 0..PLACES {
-        if job == slot || is_below(superiors, slot, job) {
+        if job == slot || is_below(superiors, slot, Slot::new(job)) {
             jobs[job as usize] = None;
         }
     }
 }
 
 /// Takes the superiors from slots that have no job.
-fn clear_superiors(superiors: &mut Vec<Option<u8>>, jobs: &[Option<Job>])
+fn clear_superiors(superiors: &mut Vec<Option<Slot>>, jobs: &[Option<Job>])
     requires jobs { length jobs.now ≡ slots }
     requires length { length superiors.old.items ≡ slots }
     ensures length { length superiors.new.items ≡ slots }
@@ -289,16 +285,15 @@ fn clear_superiors(superiors: &mut Vec<Option<u8>>, jobs: &[Option<Job>])
 
 /// The k-th slot, from 0, of those below another.
 #[tactic(auto, using(its_records::proofs::TreeLaws::rest_start, its_records::proofs::TreeLaws::nth_skip, its_records::proofs::TreeLaws::nth_here, its_records::proofs::TreeLaws::nth_next, its_records::proofs::TreeLaws::nth_end))]
-fn nth_below(superiors: &[Option<u8>], slot: u8, k: u32) -> Option<u8>
+fn nth_below(superiors: &[Option<Slot>], slot: u8, k: u32) -> Option<Slot>
     requires length { length superiors.now ≡ slots }
-    requires slots { (k : ℕ) → IfSome (slice_index_or superiors.now k None) (λ s. s < slots) }
     ensures job { result ≡ slice_get (slots_below (λ k. slice_index_or superiors.now k None) slot) k }
-    ensures within { IfSome result (λ b. b < slots) }
     ensures some { IfSome result (λ b. is_below (λ k. slice_index_or superiors.now k None) slot b ≡ true) }
     ensures none { k ≡ 0 → result ≡ None → (j : ℕ) → is_below (λ k. slice_index_or superiors.now k None) slot j ≡ false }
 {
     let mut left = k;
     for other in 0..PLACES {
+        let other = Slot::new(other);
         if is_below(superiors, slot, other) {
             if left == 0 {
                 return Some(other);

@@ -5,7 +5,7 @@ ghost use Rattle.its_direct.specs.Plain.{Tidy};
 use its_direct::{Begun, Plain, Spot};
 use its_machine::{MOST_SYMBOLS, SymbolTable};
 use its_records::{Event, Refusal};
-use its_word::{ILO, Slot, Word};
+use its_word::{ConsoleNumber, ILO, Slot, Word};
 use std::process::Abort;
 use std::test::Fail;
 
@@ -83,7 +83,11 @@ fn lines_and_steps(rt: HostRuntime) -> Result<(), Fail> {
     p.version(1);
     assert_eq!(&rt; p.version, 1);
     assert_eq!(&rt;
-        p.load(Word::new(0o42), Word::new(0o43), Some(3)),
+        p.load(
+            Word::new(0o42),
+            Word::new(0o43),
+            Some(ConsoleNumber::new(3))
+        ),
         Ok(Slot::FIRST)
     );
     assert_eq!(&rt;
@@ -91,7 +95,11 @@ fn lines_and_steps(rt: HostRuntime) -> Result<(), Fail> {
         (Spot::Load { slot: Slot::FIRST }, Some(0), true, false)
     );
     assert_eq!(&rt;
-        p.load(Word::new(0o42), Word::new(0o44), Some(3)),
+        p.load(
+            Word::new(0o42),
+            Word::new(0o44),
+            Some(ConsoleNumber::new(3))
+        ),
         Ok(Slot::new(1))
     );
     assert_eq!(&rt;
@@ -119,9 +127,9 @@ fn lines_and_steps(rt: HostRuntime) -> Result<(), Fail> {
     ] {
         assert_eq!(&rt; run_line(&rt, &mut p, Slot::FIRST, line), came, "{line:?}");
     }
-    assert_eq!(&rt; p.type_in(3, b"AB"), 0);
+    assert_eq!(&rt; p.type_in(ConsoleNumber::new(3), b"AB"), 0);
     assert_eq!(&rt; p.consoles[3].waiting(), (2, 0));
-    assert_eq!(&rt; p.drain(3, 64).len(), 0);
+    assert_eq!(&rt; p.drain(ConsoleNumber::new(3), 64).len(), 0);
     assert_eq!(&rt; p.symbol(Slot::FIRST, Word::new(0o123), 2), Ok(()));
     assert_eq!(&rt;
         (p.peek(Slot::new(1)), p.peek(Slot::new(2))),

@@ -1,6 +1,5 @@
 //! What is read of a job: what STATE shows, and the values of its variables.
-ghost use Rattle.std.specs.Prelude.{◌≡◌, ◌<◌, ℕ, Option};
-ghost use Rattle.its_word.specs.Limits.{slots};
+ghost use Rattle.std.specs.Prelude.{◌≡◌, ℕ, Option};
 ghost use Rattle.its_core.specs.Cores.{core_at};
 ghost use Rattle.its_jobs.specs.Table.{superior_at};
 ghost use Rattle.its_plain.specs.Machine.{Chan};
@@ -8,23 +7,24 @@ ghost use Rattle.its_plain.specs.OperatorJobs.{shown};
 ghost use Rattle.its_plain.specs.Own.{number_or_ones, variable_of};
 ghost use Rattle.its_machine.specs.Parts.{bare};
 
+use super::removal::numbered;
 use its_core::Core;
 use its_frame::Variable;
 use its_jobs::Jobs;
 use its_records::{Job, JobShow};
-use its_word::{Word, pc_word};
+use its_word::{Slot, Word, pc_word};
 
 /// A word of ones, which means that there is no number.
 const ONES: u64 = 0o777777777777;
 
 /// What STATE shows of a job with this superior and this nearest symbol.
-pub fn shown(job: &Job, superior: Option<u8>, symbol: Option<(Word, u32)>) -> JobShow
+pub fn shown(job: &Job, superior: Option<Slot>, symbol: Option<(Word, u32)>) -> JobShow
     ensures { result ≡ shown job.now superior symbol }
 {
     JobShow {
         u: job.uname,
         j: job.jname,
-        sup: superior,
+        sup: numbered(superior),
         con: job.console,
         run: !job.stopped,
         pc: pc_word(job.flags, job.pc),
@@ -55,18 +55,17 @@ pub fn variable_of(
     core: &Core,
     jobs: &Jobs,
     index: u8,
-    slot: u8,
+    slot: Slot,
     job: &Job,
     variable: Variable,
 ) -> Word
-    requires { slot < slots }
     ensures { (cs : ℕ → Chan) (a : Option (ℕ × ℕ)) → result ≡ variable_of index (record { core = core_at core.now slot; job = bare job.now; superior = superior_at jobs.now slot; channels = cs; alarm = a }) variable }
 {
     match variable {
         Variable::Uname => job.uname,
         Variable::Jname => job.jname,
         Variable::Uind => Word::new(u64::from(index)),
-        Variable::Suppro => number_or_ones(jobs.superior(slot)),
+        Variable::Suppro => number_or_ones(numbered(jobs.superior(slot))),
         Variable::Cnsl => number_or_ones(job.console),
         Variable::Pages => Word::new(u64::from(core.pages(slot))),
         Variable::Upc => pc_word(job.flags, job.pc),

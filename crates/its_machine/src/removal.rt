@@ -7,17 +7,29 @@ ghost use Rattle.its_machine.specs.Across.{channel_left};
 
 use its_jobs::Jobs;
 use its_records::Channel;
+use its_word::Slot;
 
-/// Whether the job of a slot is that of the root or below it.
-pub fn is_removed(jobs: &Jobs, root: u8, slot: u8) -> bool
+/// The number of a slot, if there is one.
+pub(crate) fn numbered(slot: Option<Slot>) -> Option<u8>
+    ensures { result ≡ slot }
+{
+    match slot {
+        Some(s) => Some(s.number()),
+        None => None,
+    }
+}
+
+/// Whether the job of the slot of a number is that of the root or below it.
+pub fn is_removed(jobs: &Jobs, root: Slot, slot: u8) -> bool
     ensures { result ≡ in_tree (superior_at jobs.now) root slot }
 {
-    slot == root || jobs.is_below(root, slot)
+    let number = root.number();
+    slot == number || jobs.is_below(number, slot)
 }
 
 /// Closes those of these channels that are on jobs of a tree.
 #[tactic(auto, using(crate::proofs::TurningLaws::turning_start, crate::proofs::TurningLaws::turning_more, crate::proofs::TurningLaws::turning_end))]
-pub fn leave_each(jobs: &Jobs, root: u8, channels: &mut [Channel])
+pub fn leave_each(jobs: &Jobs, root: Slot, channels: &mut [Channel])
     ensures { (n : ℕ) → slice_index_or channels.new n Closed ≡ channel_left (in_tree (superior_at jobs.now) root) (slice_index_or channels.old n Closed) }
 {
     for n in 0..channels.len() {
@@ -26,7 +38,7 @@ pub fn leave_each(jobs: &Jobs, root: u8, channels: &mut [Channel])
 }
 
 /// A channel after the removal of a tree.
-fn left(jobs: &Jobs, root: u8, channel: Channel) -> Channel
+fn left(jobs: &Jobs, root: Slot, channel: Channel) -> Channel
     ensures { result ≡ channel_left (in_tree (superior_at jobs.now) root) channel }
 {
     match channel {
@@ -37,17 +49,17 @@ fn left(jobs: &Jobs, root: u8, channel: Channel) -> Channel
 
 /// Passes the consoles that jobs of a tree hold to the superior of the root, or to nobody if it has none.
 #[tactic(auto, using(crate::proofs::TurningLaws::turning_start, crate::proofs::TurningLaws::turning_more, crate::proofs::TurningLaws::turning_end))]
-pub fn pass_on(jobs: &Jobs, root: u8, holders: &mut [Option<u8>])
+pub fn pass_on(jobs: &Jobs, root: Slot, holders: &mut [Option<u8>])
     ensures { (c : ℕ) → slice_index_or holders.new c None ≡ holder_after_removal (in_tree (superior_at jobs.now) root) (superior_at jobs.now root) (slice_index_or holders.old c None) }
 {
-    let heir = jobs.superior(root);
+    let heir = numbered(jobs.superior(root));
     for c in 0..holders.len() {
         holders[c] = passed(jobs, root, heir, holders[c]);
     }
 }
 
 /// The holder of a console after the removal of a tree, whose consoles pass to an heir.
-fn passed(jobs: &Jobs, root: u8, heir: Option<u8>, holder: Option<u8>) -> Option<u8>
+fn passed(jobs: &Jobs, root: Slot, heir: Option<u8>, holder: Option<u8>) -> Option<u8>
     ensures { result ≡ holder_after_removal (in_tree (superior_at jobs.now) root) heir holder }
 {
     match holder {

@@ -4,7 +4,6 @@ pub mod WordLaws
 pub mod PageLaws
 pub mod LoadLaws
 pub mod StartLaws
-pub mod ConsoleLaws
 pub mod PeekLaws
 pub mod PeekStateLaws
 pub mod TypingLaws

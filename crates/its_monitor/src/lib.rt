@@ -7,8 +7,8 @@
 //! - `open`, `load_job`, `load_word`, `go`, `stop`, `cont`, `interrupt`, `exam`, `deposit`, `state`, `advance`,
 //!   `version`, `read_only`, `symbol`, and `type_in` and `drain` of one byte: each is the operator's definition on the
 //!   plain machine (`plain`) and its exact row on the stepped machine (`done`, `shown`, `word`, `unwinds`). Its
-//!   refusals are those of the definition, and a console above 7 is refused as NoConsole (`there`, `refused`). A
-//!   refused call changes nothing (`same`). What holds between two calls is kept (`kept`).
+//!   refusals are those of the definition (`refused`). A refused call changes nothing (`same`). What holds between two
+//!   calls is kept (`kept`).
 //! - `exam` and `state` leave the plain machine unchanged (`leaves`).
 //! - `barred` says whether an `a/` line would store on a read-only page, before and after its job is unwound (`plain`,
 //!   `calmed`).

@@ -73,7 +73,7 @@ fn is_barred(w: &World, slot: Slot, a: u32) -> bool
     requires address { a < 2 ^ 18 }
     ensures { result ≡ is_barred (core_at w.now.core slot) a }
 {
-    match w.core.refusal(slot.number(), a) {
+    match w.core.refusal(slot, a) {
         Some(Fault::Wro) => true,
         Some(_) => false,
         None => false,
@@ -85,7 +85,7 @@ fn is_barred(w: &World, slot: Slot, a: u32) -> bool
 fn has_page(w: &World, slot: Slot, page: u8) -> bool
     ensures { result ≡ is_some (page_of (core_at w.now.core slot) page) }
 {
-    w.core.page(slot.number(), page).is_some()
+    w.core.page(slot, page).is_some()
 }
 
 /// Makes a page of a slot read only that is there.
@@ -94,5 +94,5 @@ fn protect(w: &mut World, slot: Slot, page: u8)
     requires there { is_some (page_of (core_at w.old.core slot) page) ≡ true }
     ensures { CoreBecomes w.old w.new slot (with_page (core_at w.old.core slot) page (marked (page_of (core_at w.old.core slot) page) false)) }
 {
-    w.core.protect(slot.number(), page, false);
+    w.core.protect(slot, page, false);
 }

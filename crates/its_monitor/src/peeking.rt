@@ -171,7 +171,7 @@ fn word_of_input(w: &World, slot: Slot, ask: &Ask, k: usize) -> Option<Word>
 {
     match place_of_input(ask, k) {
         None => None,
-        Some(at) => w.core.word(slot.number(), at),
+        Some(at) => w.core.word(slot, at),
     }
 }
 

@@ -104,7 +104,7 @@ impl Monitor {
     {
         let world = &mut self.world;
         let job = calmed(world, slot)?;
-        let superior = world.jobs.superior(slot.number());
+        let superior = world.jobs.superior(slot);
         let symbol = near(world, slot, job.pc);
         Ok(shown(&job, superior, symbol))
     }

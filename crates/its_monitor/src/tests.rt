@@ -2,14 +2,14 @@ ghost use Rattle.its_monitor.specs.Kept.{Kept};
 
 use super::Monitor;
 use its_records::{FileShow, JobShow, Peek, PeekState, Refusal};
-use its_word::{SLOTS, Slot, Word};
+use its_word::{ConsoleNumber, SLOTS, Slot, Word};
 use std::process::Abort;
 use std::test::Fail;
 
 /// A line of the operator, with the slot that it names, if any.
 #[derive(Clone, Copy, Debug)]
 enum Line {
-    Load(Option<u8>),
+    Load(Option<ConsoleNumber>),
     Word(u32, u64),
     Go(u32),
     Int(u64, u64),
@@ -24,8 +24,8 @@ enum Line {
     Barred(u32),
     Symbol(u64, u32),
     Clock(u64),
-    Type(u8, u8),
-    Drain(u8),
+    Type(ConsoleNumber, u8),
+    Drain(ConsoleNumber),
     File(u64, u64),
     Append(u64, u64, u64),
     Length(u64, u64),
@@ -126,11 +126,11 @@ fn run_line(rt: &impl Abort, m: &mut Monitor, slot: Slot, line: Line) -> Result<
             Ok(Answer::Done)
         }
         Line::Type(console, b) => {
-            let waits = m.type_in(console, b)?;
+            let waits = m.type_in(console, b);
             Ok(Answer::Waits(waits))
         }
         Line::Drain(console) => {
-            let byte = m.drain(console)?;
+            let byte = m.drain(console);
             Ok(Answer::Byte(byte))
         }
         Line::File(x, y) => {
@@ -232,15 +232,28 @@ fn session(rt: HostRuntime) -> Result<(), Fail> {
         (0, Line::Version(1), Ok(Answer::Version(1))),
         (0, Line::Version(2), Ok(Answer::Version(2))),
         (0, Line::Go(0o2000), Err(Refusal::NoJob)),
-        (0, Line::Load(Some(3)), Ok(Answer::Slot(Slot::new(0)))),
+        (
+            0,
+            Line::Load(Some(ConsoleNumber::new(3))),
+            Ok(Answer::Slot(Slot::new(0))),
+        ),
         (0, Line::Version(1), Ok(Answer::Version(2))),
         (0, Line::Load(None), Ok(Answer::Slot(Slot::new(1)))),
-        (0, Line::Load(Some(3)), Ok(Answer::Slot(Slot::new(2)))),
-        (0, Line::Load(Some(8)), Err(Refusal::NoConsole)),
-        (0, Line::Type(8, 0o101), Err(Refusal::NoConsole)),
-        (0, Line::Drain(8), Err(Refusal::NoConsole)),
-        (0, Line::Type(3, 0o101), Ok(Answer::Waits(true))),
-        (0, Line::Drain(3), Ok(Answer::Byte(None))),
+        (
+            0,
+            Line::Load(Some(ConsoleNumber::new(3))),
+            Ok(Answer::Slot(Slot::new(2))),
+        ),
+        (
+            0,
+            Line::Type(ConsoleNumber::new(3), 0o101),
+            Ok(Answer::Waits(true)),
+        ),
+        (
+            0,
+            Line::Drain(ConsoleNumber::new(3)),
+            Ok(Answer::Byte(None)),
+        ),
         (0, Line::Word(0o2000, 0o42), Ok(Answer::Done)),
         (0, Line::Go(0o2000), Ok(Answer::Done)),
         (0, Line::State, Ok(shown(true, 0, 0))),

@@ -36,12 +36,12 @@ impl Monitor {
     {
         let world = &mut self.world;
         present(world, slot)?;
-        match world.core.get(slot.number(), a) {
+        match world.core.get(slot, a) {
             Ok(_) => {}
             Err(e) => return Err(refusal(e)),
         }
         calm(world, slot);
-        match world.core.get(slot.number(), a) {
+        match world.core.get(slot, a) {
             Ok(word) => Ok(word),
             Err(_) => unreachable!(),
         }
@@ -108,7 +108,7 @@ fn undepositable(w: &World, slot: Slot, a: u32) -> Option<Refusal>
     requires address { a < 2 ^ 18 }
     ensures { result ≡ undepositable (can_store (core_at w.now.core slot) a) (is_some (word_at (core_at w.now.core slot) a)) }
 {
-    match w.core.refusal(slot.number(), a) {
+    match w.core.refusal(slot, a) {
         None => None,
         Some(Fault::Wro) => Some(Refusal::ReadOnly),
         Some(_) => Some(Refusal::NoPage),
@@ -120,7 +120,7 @@ fn unloadable(w: &World, slot: Slot, a: u32) -> Option<Refusal>
     requires address { a < 2 ^ 18 }
     ensures { result ≡ unloadable (can_store (core_at w.now.core slot) a) (is_some (word_at (core_at w.now.core slot) a)) (nat_lt (pages_mapped (core_at w.now.core)) most_pages) }
 {
-    match w.core.refusal(slot.number(), a) {
+    match w.core.refusal(slot, a) {
         None => None,
         Some(Fault::Wro) => Some(Refusal::ReadOnly),
         Some(_) => {
@@ -157,7 +157,7 @@ fn make_page(w: &mut World, slot: Slot, page: u8)
     ensures frames { w.new.core.frames ≡ frames_map slot slot page (frames_reserve slot w.old.core.frames) }
     ensures there { page_of (core_at w.new.core slot) page ≡ Some zero_page }
 {
-    w.core.map_zeros(slot.number(), page);
+    w.core.map_zeros(slot, page);
 }
 
 /// Unwinds the job of a slot.

@@ -26,8 +26,8 @@ pub fn unwind_below(w: &mut World, slot: Slot)
     ensures tidy { Tidy w.new }
 {
     let mut k = 0;
-    while let Some(inferior) = w.jobs.below(slot.number(), k) {
-        unwind(w, Slot::new(inferior));
+    while let Some(inferior) = w.jobs.below(slot, k) {
+        unwind(w, inferior);
         k += 1;
     }
 }

@@ -155,7 +155,7 @@ fn held_store(core: &Core, slot: Slot, ask: &Ask, at: u32, byte: Word) -> Store
     ensures { result ≡ deposited (core_at core.now slot) (input ask.now 1) (held_at at byte) }
 {
     let pointer = ask.inputs[1].value;
-    match core.get(slot.number(), at) {
+    match core.get(slot, at) {
         Ok(word) => Store {
             at,
             word: deposit(pointer, word, byte.value()),

@@ -5,7 +5,7 @@ ghost use Rattle.its_jobs.specs.Table.{in_tree, superior_at};
 
 use its_jobs::Jobs;
 use its_records::{End, Link};
-use its_word::Word;
+use its_word::{Slot, Word};
 
 /// A link as it is made, before the first of its ends is opened.
 pub(crate) fn new_link(x: Word, y: Word) -> Link
@@ -65,9 +65,10 @@ pub(crate) fn is_alive(link: &Link) -> bool
 }
 
 /// An end after the removal of a tree of jobs.
-fn end_left(jobs: &Jobs, root: u8, end: End) -> End
+fn end_left(jobs: &Jobs, root: Slot, end: End) -> End
     ensures { result ≡ end_left (in_tree (superior_at jobs.now) root) end }
 {
+    let root = root.number();
     match end {
         End::Opened { slot, .. } if slot == root || jobs.is_below(root, slot) => End::Closed,
         other => other,
@@ -75,7 +76,7 @@ fn end_left(jobs: &Jobs, root: u8, end: End) -> End
 }
 
 /// A link after the removal of a tree of jobs.
-pub(crate) fn link_left(jobs: &Jobs, root: u8, link: Link) -> Link
+pub(crate) fn link_left(jobs: &Jobs, root: Slot, link: Link) -> Link
     ensures { result ≡ link_left (in_tree (superior_at jobs.now) root) link }
 {
     Link {

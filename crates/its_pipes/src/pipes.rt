@@ -12,7 +12,7 @@ use super::ends::{is_alive, is_closed, is_named, link_left, new_link, with_end};
 use circular_buffer::HeapCircularBuffer;
 use its_jobs::Jobs;
 use its_records::{End, LINK_WORDS, LINKS, Link};
-use its_word::{NoMemory, Word};
+use its_word::{NoMemory, Slot, Word};
 use std::alloc::Global;
 use std::marker::Model;
 
@@ -232,7 +232,7 @@ impl Pipes {
 
     /// Closes each end that is open at a job of a tree. A link that then has no open end is gone with its words.
     #[tactic(auto, using(crate::proofs::SweepLaws::sweep_start, crate::proofs::SweepLaws::sweep_next, crate::proofs::SweepLaws::sweep_end))]
-    pub fn leave_links(&mut self, jobs: &Jobs, root: u8)
+    pub fn leave_links(&mut self, jobs: &Jobs, root: Slot)
         ensures { (l : ℕ) → piped self.new l ≡ ends_after_removal (in_tree (superior_at jobs.now) root) (piped self.old l) }
     {
         self.bounds();
@@ -242,7 +242,7 @@ impl Pipes {
     }
 
     /// The same of one link.
-    fn leave_link(&mut self, jobs: &Jobs, root: u8, l: u8)
+    fn leave_link(&mut self, jobs: &Jobs, root: Slot, l: u8)
         requires { l < most_links }
         ensures { Only (piped self.old) (piped self.new) l (ends_after_removal (in_tree (superior_at jobs.now) root) (piped self.old l)) }
     {

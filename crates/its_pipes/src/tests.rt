@@ -1,7 +1,10 @@
+ghost use Rattle.std.specs.Prelude.{◌≡◌, true, IfSome, is_some};
+ghost use Rattle.its_jobs.specs.Table.{job_at};
+
 use super::{End, Link, Pipes};
 use its_jobs::{Jobs, NoSlot};
 use its_records::LINKS;
-use its_word::Word;
+use its_word::{SLOTS, Slot, Word};
 use std::process::Abort;
 use std::test::Fail;
 
@@ -126,12 +129,20 @@ fn numbers(rt: HostRuntime) -> Result<(), Fail> {
     Ok(())
 }
 
+/// The slot of a superior, which has a job; None if there is none.
+fn standing(rt: &impl Abort, jobs: &Jobs, superior: Option<u8>) -> Option<Slot>
+    ensures { IfSome result (λ s. is_some (job_at jobs.now s) ≡ true) }
+{
+    let number = superior?;
+    assert!(rt; usize::from(number) < SLOTS);
+    let slot = Slot::new(number);
+    assert!(rt; jobs.job(slot).is_some());
+    Some(slot)
+}
+
 /// Makes a job, below another if one is given.
-fn made(rt: &impl Abort, jobs: &mut Jobs, superior: Option<u8>) -> Result<u8, NoSlot> {
-    if let Some(s) = superior {
-        assert!(rt; usize::from(s) < 96);
-        assert!(rt; jobs.job(s).is_some());
-    }
+fn made(rt: &impl Abort, jobs: &mut Jobs, superior: Option<u8>) -> Result<Slot, NoSlot> {
+    let superior = standing(rt, jobs, superior);
     jobs.create(word(7), word(7), superior, None)
 }
 
@@ -149,7 +160,7 @@ fn removal(rt: HostRuntime) -> Result<(), Fail> {
         send(&rt, &mut pipes, l, 8);
     }
     join(&rt, &mut pipes, 3, true, 2);
-    pipes.leave_links(&jobs, 1);
+    pipes.leave_links(&jobs, Slot::new(1));
     let ends = |l: u8| pipes.link(l).map(|link| (link.reader, link.writer));
     assert_eq!(rt; ends(0), Some((End::Closed, at(3))));
     assert_eq!(rt; ends(1), None);

@@ -16,7 +16,7 @@ use super::replies::Reply;
 use super::runs::Run;
 use arrayvec::ArrayVec;
 use its_records::{FileShow, JobShow, Peek, Reason};
-use its_word::{Slot, Word};
+use its_word::{ConsoleNumber, Slot, Word};
 
 /// Writes a line, which has at most 1543 bytes, into an empty array.
 #[tactic(auto, using(crate::proofs::LongestLine::ticks_short))]
@@ -71,27 +71,27 @@ fn print_ticks(s: Slot, runs: &[Run], out: &mut ArrayVec<u8, 2048>)
 
 /// `Y c k`: TYPE on console `c`, when `dropped` bytes found no room.
 #[tactic(auto, unfolding(crate::specs::Printing::text_of_line, its_word::specs::Text::spaced))]
-fn print_typed(c: u8, dropped: u32, out: &mut ArrayVec<u8, 2048>)
+fn print_typed(c: ConsoleNumber, dropped: u32, out: &mut ArrayVec<u8, 2048>)
     requires { out.old.items ≡ [] }
     ensures text { out.new.items ≡ text_of_line (Typed c dropped) }
     ensures short { length out.new.items ≤ 1543 }
 {
     out.push(b'Y');
-    put_number(out, u64::from(c));
+    put_number(out, u64::from(c.number()));
     put_number(out, u64::from(dropped));
     out.push(b'\n');
 }
 
 /// `D c` and at most 64 bytes that DRAIN took from console `c`.
 #[tactic(auto, using(its_word::proofs::SpacedLaws::after_field), unfolding(crate::specs::Printing::text_of_line))]
-fn print_drained(c: u8, bytes: &[u8], out: &mut ArrayVec<u8, 2048>)
+fn print_drained(c: ConsoleNumber, bytes: &[u8], out: &mut ArrayVec<u8, 2048>)
     requires empty { out.old.items ≡ [] }
     requires few { length bytes.now ≤ 64 }
     ensures text { out.new.items ≡ text_of_line (Drained c bytes.now) }
     ensures short { length out.new.items ≤ 1543 }
 {
     out.push(b'D');
-    put_number(out, u64::from(c));
+    put_number(out, u64::from(c.number()));
     put_bytes(out, bytes);
     out.push(b'\n');
 }

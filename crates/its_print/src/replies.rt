@@ -1,6 +1,6 @@
 use super::runs::Run;
 use its_records::{FileShow, JobShow, Peek, Reason};
-use its_word::{Slot, Word};
+use its_word::{ConsoleNumber, Slot, Word};
 
 /// A line of a transcript. What takes more than a few words is lent.
 #[derive(Drop)]
@@ -16,12 +16,12 @@ pub enum Reply<'a> {
     },
     /// TYPE on a console, when some bytes found no room.
     Typed {
-        c: u8,
+        c: ConsoleNumber,
         dropped: u32,
     },
     /// The bytes that DRAIN took from a console, 64 at most.
     Drained {
-        c: u8,
+        c: ConsoleNumber,
         bytes: &'a [u8],
     },
     /// The words of a slot from an address on, 8 at most.

@@ -8,7 +8,6 @@ use Rattle.its_records.specs.declared.session.Refusal.TheVariants as refusals
 -- a refusal, as a session says it
 abbrev pub reason_of : Refusal → Reason
 reason_of refusals.NoJob = reasons.NoJob
-reason_of refusals.NoConsole = reasons.NoCons
 reason_of refusals.NoPage = reasons.NoPage
 reason_of refusals.ReadOnly = reasons.ReadOnly
 reason_of refusals.NoFile = reasons.NoFile

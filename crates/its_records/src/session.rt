@@ -2,11 +2,10 @@ ghost use Rattle.std.specs.Prelude.{◌≡◌};
 ghost use Rattle.its_records.specs.Refusals.{reason_of};
 
 use arrayvec::ArrayVec;
-use its_word::{Slot, Word};
+use its_word::{ConsoleNumber, Slot, Word};
 
 /// A line of a session, read. Addresses `a` are below 2^18, slots `s` are below 64 in version 1 of the
-/// session text and below 96 in version 2, consoles `c` are below 8; docs/SESSION.md has the numbers of
-/// each line.
+/// session text and below 96 in version 2; docs/SESSION.md has the numbers of each line.
 #[derive(Debug, PartialEq, Eq, Drop)]
 pub enum Event {
     Nothing,
@@ -17,7 +16,7 @@ pub enum Event {
     Load {
         u: Word,
         j: Word,
-        console: Option<u8>,
+        console: Option<ConsoleNumber>,
     },
     Words {
         a: u32,
@@ -54,11 +53,11 @@ pub enum Event {
         q: u32,
     },
     TypeIn {
-        c: u8,
+        c: ConsoleNumber,
         bytes: ArrayVec<u8, 32>,
     },
     Drain {
-        c: u8,
+        c: ConsoleNumber,
         n: u32,
     },
     Clock {
@@ -148,7 +147,6 @@ pub enum Reason {
 #[derive(Clone, Copy, Debug, PartialEq, Eq)]
 pub enum Refusal {
     NoJob,
-    NoConsole,
     NoPage,
     ReadOnly,
     NoFile,
@@ -164,7 +162,6 @@ impl Refusal {
     {
         match self {
             Refusal::NoJob => Reason::NoJob,
-            Refusal::NoConsole => Reason::NoCons,
             Refusal::NoPage => Reason::NoPage,
             Refusal::ReadOnly => Reason::ReadOnly,
             Refusal::NoFile => Reason::NoFile,

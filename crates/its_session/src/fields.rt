@@ -5,7 +5,7 @@ ghost use Rattle.its_session.specs.Reading.{bytes_in, console_at, name_in, numbe
 
 use arrayvec::ArrayVec;
 use its_records::Bad;
-use its_word::{Slot, Word, read_octal, read_sixbit};
+use its_word::{ConsoleNumber, Slot, Word, read_octal, read_sixbit};
 
 /// A number.
 pub fn number(word: &[u8]) -> Result<Word, Bad>
@@ -78,11 +78,11 @@ pub fn count(most: u32, n: Word) -> Result<u32, Bad>
 }
 
 /// A console.
-pub fn console(n: Word) -> Result<u8, Bad>
+pub fn console(n: Word) -> Result<ConsoleNumber, Bad>
     ensures { result ≡ console_at n }
 {
     match n.value() {
-        n @ ..=7 => Ok(n as u8),
+        n @ ..=7 => Ok(ConsoleNumber::new(n as u8)),
         _ => Err(Bad::NoConsole),
     }
 }

@@ -6,7 +6,7 @@ ghost use Rattle.its_session.specs.Generated.{placed, letter, started, echoed, e
 
 use arrayvec::ArrayVec;
 use its_records::Event;
-use its_word::{Slot, Word};
+use its_word::{ConsoleNumber, Slot, Word};
 
 /// How many jobs there are, one at each console.
 const JOBS: u8 = 8;
@@ -78,7 +78,8 @@ fn line(n: u64, k: u64) -> Option<Event>
     ensures { result ≡ slice_get (generated_session n) k }
 {
     if k < ALL_START_LINES {
-        return started((k / START_LINES) as u8, k % START_LINES);
+        let c = ConsoleNumber::new((k / START_LINES) as u8);
+        return started(c, k % START_LINES);
     }
     let k = k - ALL_START_LINES;
     let r = round_at(k);
@@ -90,7 +91,7 @@ fn line(n: u64, k: u64) -> Option<Event>
 
 /// The k-th line of those that start a job.
 #[tactic(auto, unfolding(crate::specs::Generated::started))]
-fn started(c: u8, k: u64) -> Option<Event>
+fn started(c: ConsoleNumber, k: u64) -> Option<Event>
     ensures { result ≡ slice_get (started c) k }
 {
     match k {
@@ -145,6 +146,7 @@ fn round(r: u64, k: u64) -> Option<Event>
 {
     let mut left = k;
     for c in 0..JOBS {
+        let c = ConsoleNumber::new(c);
         let lines = if looks(r, c) { 4 } else { 3 };
         if left < lines {
             return echoed(r, c, left);
@@ -155,28 +157,27 @@ fn round(r: u64, k: u64) -> Option<Event>
 }
 
 /// Whether round r has an EXAM at console c.
-fn looks(r: u64, c: u8) -> bool
+fn looks(r: u64, c: ConsoleNumber) -> bool
     requires { r < 2 ^ 32 }
     ensures { result ≡ ((r + c) % 3 == 0) }
 {
-    (r + u64::from(c)) % 3 == 0
+    (r + u64::from(c.number())) % 3 == 0
 }
 
 /// Line k of round r at console c.
 #[tactic(auto, unfolding(crate::specs::Generated::echoed))]
-fn echoed(r: u64, c: u8, k: u64) -> Option<Event>
-    requires round { r < 2 ^ 32 }
-    requires console { c < 8 }
+fn echoed(r: u64, c: ConsoleNumber, k: u64) -> Option<Event>
+    requires { r < 2 ^ 32 }
     ensures { result ≡ slice_get (echoed r c) k }
 {
     match (k, looks(r, c)) {
         (0, _) => Some(type_letter(r, c)),
         (1, _) => Some(Event::Tick {
-            s: Slot::new(c),
+            s: Slot::new(c.number()),
             n: 0o24,
         }),
         (2, true) => Some(Event::Exam {
-            s: Slot::new(c),
+            s: Slot::new(c.number()),
             a: 3,
             n: 1,
         }),
@@ -186,12 +187,12 @@ fn echoed(r: u64, c: u8, k: u64) -> Option<Event>
 }
 
 /// The TYPE line of round r at console c.
-fn type_letter(r: u64, c: u8) -> Event
+fn type_letter(r: u64, c: ConsoleNumber) -> Event
     requires { r < 2 ^ 32 }
     ensures { result ≡ events.TypeIn c (record { items = letter r c ∷ [] }) }
 {
     let mut bytes = ArrayVec::new();
-    bytes.push(b'A' + ((7 * r + u64::from(c)) % 26) as u8);
+    bytes.push(b'A' + ((7 * r + u64::from(c.number())) % 26) as u8);
     Event::TypeIn { c, bytes }
 }
 
@@ -201,7 +202,8 @@ fn end(k: u64) -> Option<Event>
     ensures { result ≡ slice_get (all_emptied ++ events.End ∷ []) k }
 {
     if k < ALL_EMPTY_LINES {
-        return emptied((k / EMPTY_LINES) as u8, k % EMPTY_LINES);
+        let c = ConsoleNumber::new((k / EMPTY_LINES) as u8);
+        return emptied(c, k % EMPTY_LINES);
     }
     if k == ALL_EMPTY_LINES {
         Some(Event::End)
@@ -212,13 +214,12 @@ fn end(k: u64) -> Option<Event>
 
 /// The k-th line of those that empty a console.
 #[tactic(auto, unfolding(crate::specs::Generated::emptied))]
-fn emptied(c: u8, k: u64) -> Option<Event>
-    requires { c < 8 }
+fn emptied(c: ConsoleNumber, k: u64) -> Option<Event>
     ensures { result ≡ slice_get (emptied c) k }
 {
     match k {
         0 => Some(Event::Tick {
-            s: Slot::new(c),
+            s: Slot::new(c.number()),
             n: 0o40,
         }),
         1 => Some(Event::Drain { c, n: 0o100 }),

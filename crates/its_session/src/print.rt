@@ -10,7 +10,7 @@ ghost use Rattle.its_session.specs.Writing.{AreWords, HasWords, console_text, na
 use super::put::{put_address, put_bytes, put_console, put_name, put_number, put_word, put_words};
 use arrayvec::ArrayVec;
 use its_records::Event;
-use its_word::{Slot, Word, octal6};
+use its_word::{ConsoleNumber, Slot, Word, octal6};
 
 /// Writes the line of an event of version 2, without LF: addresses with six digits, machine words with twelve. `read_line` reads it in version 2 as that event at
 /// the event's place, and `Nothing` at any place. The event's numbers and names are in the ranges of its line.
@@ -45,7 +45,7 @@ fn write(e: &Event, out: &mut ArrayVec<u8, 256>)
         Event::Tick { s, n } => two_numbers(out, b"TICK", u64::from(s.number()), u64::from(*n)),
         Event::Run { n, q } => two_numbers(out, b"RUN", u64::from(*n), u64::from(*q)),
         Event::TypeIn { c, bytes } => type_in(out, *c, bytes.as_slice()),
-        Event::Drain { c, n } => two_numbers(out, b"DRAIN", u64::from(*c), u64::from(*n)),
+        Event::Drain { c, n } => two_numbers(out, b"DRAIN", u64::from(c.number()), u64::from(*n)),
         Event::Clock { n } => number(out, b"CLOCK", *n),
         Event::Int { s, v, w } => interrupt(out, *s, *v, *w),
         Event::Exam { s, a, n } => span(out, b"EXAM", *s, *a, *n),
@@ -169,7 +169,7 @@ fn names(out: &mut ArrayVec<u8, 256>, word: &[u8], d: Word, x: Word, y: Word)
 
 /// `LOAD u j c`
 #[tactic(auto, unfolding(its_word::specs::Text::spaced))]
-fn load(out: &mut ArrayVec<u8, 256>, u: Word, j: Word, console: Option<u8>)
+fn load(out: &mut ArrayVec<u8, 256>, u: Word, j: Word, console: Option<ConsoleNumber>)
     requires { out.old.items ≡ [] }
     ensures { out.new.items ≡ spaced (codes "LOAD") (name_of u ∷ name_of j ∷ console_text console ∷ []) }
 {
@@ -215,12 +215,12 @@ fn append(out: &mut ArrayVec<u8, 256>, words: &[Word])
 
 /// `TYPE c` and bytes
 #[tactic(auto, using(its_word::proofs::SpacedLaws::after_field))]
-fn type_in(out: &mut ArrayVec<u8, 256>, c: u8, bytes: &[u8])
+fn type_in(out: &mut ArrayVec<u8, 256>, c: ConsoleNumber, bytes: &[u8])
     requires empty { out.old.items ≡ [] }
     requires few { length bytes.now ≤ 32 }
     ensures { out.new.items ≡ spaced (codes "TYPE") (digits_of c ∷ map digits_of bytes.now) }
 {
     first(out, b"TYPE");
-    put_number(out, u64::from(c));
+    put_number(out, u64::from(c.number()));
     put_bytes(out, bytes);
 }

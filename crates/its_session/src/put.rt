@@ -6,7 +6,7 @@ ghost use Rattle.its_word.specs.Text.{digits_of, octal6_of, octal12_of, spaced};
 ghost use Rattle.its_session.specs.Writing.{characters, console_text, name_of};
 
 use arrayvec::ArrayVec;
-use its_word::{Word, octal, octal6};
+use its_word::{ConsoleNumber, Word, octal, octal6};
 
 /// A word as it is.
 #[tactic(auto, unfolding(its_word::specs::Text::spaced))]
@@ -50,13 +50,13 @@ pub fn put_word(out: &mut ArrayVec<u8, 256>, w: Word)
 }
 
 /// A console, or `-`.
-pub fn put_console(out: &mut ArrayVec<u8, 256>, console: Option<u8>)
+pub fn put_console(out: &mut ArrayVec<u8, 256>, console: Option<ConsoleNumber>)
     requires { array_vec_len out.old + 12 < 256 }
     ensures text { out.new.items ≡ spaced out.old.items (console_text console ∷ []) }
     ensures len { array_vec_len out.new ≤ array_vec_len out.old + 13 }
 {
     match console {
-        Some(c) => put_number(out, u64::from(c)),
+        Some(c) => put_number(out, u64::from(c.number())),
         None => put(out, b"-"),
     }
 }

@@ -5,7 +5,7 @@ ghost use Rattle.its_session.specs.Reading.{console_in};
 
 use super::fields::{at_most, bytes, console, count, name, number, numbers, page, slot};
 use its_records::{Bad, Event};
-use its_word::Slot;
+use its_word::{ConsoleNumber, Slot};
 
 /// `LOAD u j c`
 #[tactic(auto, using(crate::proofs::RowLaws::three_words), unfolding(crate::specs::Grammar::load_line))]
@@ -21,7 +21,7 @@ pub fn load(words: &[&[u8]]) -> Result<Event, Bad>
 }
 
 /// A console, or `-` for none.
-fn console_or_dash(word: &[u8]) -> Result<Option<u8>, Bad>
+fn console_or_dash(word: &[u8]) -> Result<Option<ConsoleNumber>, Bad>
     ensures { result ≡ console_in word.now }
 {
     match word {

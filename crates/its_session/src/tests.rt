@@ -1,7 +1,7 @@
 use super::*;
 use arrayvec::ArrayVec;
 use its_records::{Bad, Event, Place};
-use its_word::{Slot, Word};
+use its_word::{ConsoleNumber, Slot, Word};
 use std::process::Abort;
 
 macro_rules! reads {
@@ -41,10 +41,10 @@ fn refuses(rt: &impl Abort, place: Place, version: u8, lines: &str, bad: Bad) {
 fn reads_blocks(rt: HostRuntime) {
     let (u, j) = (Word::new(0o650000000000), Word::new(0o520000000000));
     reads!(rt; Place::Plain, b"LOAD U J -", Event::Load { u, j, console: None });
-    reads!(rt; Place::Plain, b"LOAD U J 0", Event::Load { u, j, console: Some(0) });
-    reads!(rt; Place::Plain, b"LOAD U J 7", Event::Load { u, j, console: Some(7) });
+    reads!(rt; Place::Plain, b"LOAD U J 0", Event::Load { u, j, console: Some(ConsoleNumber::new(0)) });
+    reads!(rt; Place::Plain, b"LOAD U J 7", Event::Load { u, j, console: Some(ConsoleNumber::new(7)) });
     let (u, j) = (Word::new(0o017741722031), Word::new(0o737576000000));
-    reads!(rt; Place::Plain, b"LOAD !_AZ09 []^ 007", Event::Load { u, j, console: Some(7) });
+    reads!(rt; Place::Plain, b"LOAD !_AZ09 []^ 007", Event::Load { u, j, console: Some(ConsoleNumber::new(7)) });
     reads!(rt; Place::Load, b"100/ 201040000005 202040000200", Event::Words { a: 0o100, words: words(&[0o201040000005, 0o202040000200]) });
     reads!(rt; Place::Load, b"0/ 0", Event::Words { a: 0, words: words(&[0]) });
     reads!(rt; Place::Load, b"777777/ 1", Event::Words { a: 0o777777, words: words(&[1]) });
@@ -69,11 +69,11 @@ fn reads_operator_lines(rt: HostRuntime) {
     reads!(rt; Place::Plain, b"TICK 0 1", Event::Tick { s: Slot::new(0), n: 1 });
     reads!(rt; Place::Plain, b"TICK 77 1000", Event::Tick { s: Slot::new(0o77), n: 0o1000 });
     reads!(rt; Place::Plain, b"  TICK 000   00000000010 ", Event::Tick { s: Slot::new(0), n: 0o10 });
-    reads!(rt; Place::Plain, b"TYPE 0 0", Event::TypeIn { c: 0, bytes: bytes(&[0]) });
-    reads!(rt; Place::Plain, b"TYPE 7 101 177", Event::TypeIn { c: 7, bytes: bytes(&[0o101, 0o177]) });
-    reads!(rt; Place::Plain, b"TYPE 0 1 1 1 1 1 1 1 1 1 1 1 1 1 1 1 1 1 1 1 1 1 1 1 1 1 1 1 1 1 1 1 1", Event::TypeIn { c: 0, bytes: bytes(&[1; 32]) });
-    reads!(rt; Place::Plain, b"DRAIN 0 1", Event::Drain { c: 0, n: 1 });
-    reads!(rt; Place::Plain, b"DRAIN 7 100", Event::Drain { c: 7, n: 0o100 });
+    reads!(rt; Place::Plain, b"TYPE 0 0", Event::TypeIn { c: ConsoleNumber::new(0), bytes: bytes(&[0]) });
+    reads!(rt; Place::Plain, b"TYPE 7 101 177", Event::TypeIn { c: ConsoleNumber::new(7), bytes: bytes(&[0o101, 0o177]) });
+    reads!(rt; Place::Plain, b"TYPE 0 1 1 1 1 1 1 1 1 1 1 1 1 1 1 1 1 1 1 1 1 1 1 1 1 1 1 1 1 1 1 1 1", Event::TypeIn { c: ConsoleNumber::new(0), bytes: bytes(&[1; 32]) });
+    reads!(rt; Place::Plain, b"DRAIN 0 1", Event::Drain { c: ConsoleNumber::new(0), n: 1 });
+    reads!(rt; Place::Plain, b"DRAIN 7 100", Event::Drain { c: ConsoleNumber::new(7), n: 0o100 });
     reads!(rt; Place::Plain, b"CLOCK 0", Event::Clock { n: 0 });
     reads!(rt; Place::Plain, b"CLOCK 777777777777", Event::Clock { n: 0o777777777777 });
     reads!(rt; Place::Plain, b"INT 0 1000 0", Event::Int { s: Slot::new(0), v: Word::new(0o1000), w: Word::ZERO });

@@ -10,7 +10,7 @@ use its_calls::View;
 use its_links::Links;
 use its_monitor::Monitor;
 use its_records::{Pace, Refusal};
-use its_word::{Slot, Word};
+use its_word::{ConsoleNumber, Slot, Word};
 use its_world::World;
 use std::process::Abort;
 use std::test::Fail;
@@ -35,7 +35,7 @@ fn started(rt: &impl Abort, m: &mut Monitor) -> Result<Slot, Refusal>
     requires kept { Kept m.old.world }
     ensures kept { Kept m.new.world }
 {
-    let slot = m.load_job(Word::new(7), Word::new(7), Some(0))?;
+    let slot = m.load_job(Word::new(7), Word::new(7), Some(ConsoleNumber::new(0)))?;
     for (a, word) in IMAGE {
         assert!(rt; a <= 0o777777);
         m.load_word(slot, a, Word::new(word))?;
@@ -93,7 +93,7 @@ fn a_slot_in_a_wrong_ring(rt: HostRuntime) -> Result<(), Fail> {
     let mut m = Monitor::open(rt.alloc())?;
     let slot = started(&rt, &mut m)?;
     assert_eq!(rt; last_of(&mut m, slot, 11), Pace::Wait);
-    assert!(rt; m.type_in(0, 0o141)?);
+    assert!(rt; m.type_in(ConsoleNumber::new(0), 0o141));
     assert!(rt; put_back(&mut m.world, slot));
     assert_eq!(rt; m.tick(slot), Pace::Wait);
     assert_eq!(rt; m.world.consoles[0].waiting(), (1, 0));

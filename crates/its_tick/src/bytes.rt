@@ -49,7 +49,7 @@ fn makes_byte(w: &mut World, slot: Slot) -> bool
     requires kept { Kept w.old }
     ensures { ByteMadeIf result w.old w.new slot }
 {
-    let Some(job) = w.jobs.job(slot.number()) else {
+    let Some(job) = w.jobs.job(slot) else {
         return false;
     };
     if job.stopped {

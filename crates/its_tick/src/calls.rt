@@ -174,7 +174,7 @@ fn reserve(w: &mut World, slot: Slot)
     requires none { clear_at w.old.core slot ≡ None }
     ensures { PageBecomes w.old w.new slot (Some 0) }
 {
-    w.core.reserve(slot.number());
+    w.core.reserve(slot);
 }
 
 /// Clears the next quarter of the page that the call of a slot has reserved.
@@ -205,7 +205,7 @@ fn clear_quarter(w: &mut World, slot: Slot, q: u8)
     requires page { clear_at w.old.core slot ≡ Some q }
     ensures { PageBecomes w.old w.new slot (Some (q + 1)) }
 {
-    w.core.clear_quarter(slot.number(), q);
+    w.core.clear_quarter(slot, q);
 }
 
 /// A call that is held is tried. If it is SIOT, most trials move one byte, and need neither a world that is made ready nor a decision as a

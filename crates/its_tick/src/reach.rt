@@ -68,10 +68,10 @@ fn unwind_tree(w: &mut World, slot: Slot)
     ensures pages { w.new.core.frames ≡ pages_unwound (slots_in Reach.Tree (state_of w.old).raw slot (superior_at w.old.jobs slot)) (state_of w.old) w.old.core.frames }
     ensures tidy { Tidy w.new }
 {
-    let superior = w.jobs.superior(slot.number());
+    let superior = w.jobs.superior(slot);
     unwind_below(w, slot);
     if let Some(superior) = superior {
-        calm(w, Slot::new(superior));
+        calm(w, superior);
     }
 }
 

@@ -78,7 +78,7 @@ fn one_tick(w: &mut World, slot: Slot) -> Pace
     ensures pages { w.new.core.frames ≡ pages_ticked (state_of w.old) slot w.old.core.frames }
     ensures tidy { Tidy w.new }
 {
-    let Some(job) = w.jobs.job(slot.number()) else {
+    let Some(job) = w.jobs.job(slot) else {
         return Pace::Off;
     };
     if job.stopped {
@@ -108,7 +108,7 @@ pub fn steps(w: &mut World, slot: Slot, n: u32) -> u32
     ensures pages { w.new.core.frames ≡ w.old.core.frames }
     ensures kept { Kept w.new }
 {
-    let Some(job) = w.jobs.job(slot.number()) else {
+    let Some(job) = w.jobs.job(slot) else {
         return 0;
     };
     if job.stopped {
@@ -126,7 +126,7 @@ pub fn running(w: &World, slot: Slot) -> bool
     ensures raw { result ≡ runs (state_of w.now).raw slot }
     ensures plain { result ≡ runs (plain_of w.now) slot }
 {
-    match w.jobs.job(slot.number()) {
+    match w.jobs.job(slot) {
         Some(job) => !job.stopped,
         None => false,
     }

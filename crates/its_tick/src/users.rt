@@ -102,9 +102,10 @@ fn tell_superior(w: &mut World, slot: Slot)
     ensures pages { w.new.core.frames ≡ pages_unwound (informed_slots true (superior_at w.old.jobs slot)) (state_of w.old) w.old.core.frames }
     ensures tidy { Tidy w.new }
 {
-    if let Some(superior) = w.jobs.superior(slot.number()) {
-        calm(w, Slot::new(superior));
-        apply(w, slot, &[Change::Inform { slot: superior }]);
+    if let Some(superior) = w.jobs.superior(slot) {
+        calm(w, superior);
+        let number = superior.number();
+        apply(w, slot, &[Change::Inform { slot: number }]);
     }
 }
 
@@ -153,7 +154,7 @@ fn near_call(w: &World, slot: Slot) -> Option<Near>
     requires pc { IfSome (job_at w.now.jobs slot) (λ j. j.pc < 2 ^ 18) }
     ensures { IfSome result (λ n. IfSome (job_at w.now.jobs slot) (λ j. unit_of (core_at w.now.core slot) j ≡ Called (near_site j.pc n))) }
 {
-    match w.jobs.job(slot.number()) {
+    match w.jobs.job(slot) {
         Some(job) => call_at_hand(&w.core, slot, job),
         None => unreachable!(),
     }
@@ -178,7 +179,7 @@ fn pc_of(w: &World, slot: Slot) -> u32
     requires { is_some (job_at w.now.jobs slot) ≡ true }
     ensures { IfSome (job_at w.now.jobs slot) (λ j. result ≡ j.pc) }
 {
-    match w.jobs.job(slot.number()) {
+    match w.jobs.job(slot) {
         Some(job) => job.pc,
         None => unreachable!(),
     }
@@ -205,7 +206,7 @@ pub fn units_in_place(w: &mut World, slot: Slot, n: u32) -> u32
     ensures made { UnitsMade w.old w.new slot result n }
     ensures same { result ≡ 0 → w.new ≡ w.old }
 {
-    match w.jobs.job_mut(slot.number()) {
+    match w.jobs.job_mut(slot) {
         Some(job) => run_units(&mut w.core, slot, job, n),
         None => unreachable!(),
     }
@@ -234,7 +235,7 @@ fn site_of(w: &World, slot: Slot) -> Site
     requires called { IfSome (job_at w.now.jobs slot) (λ j. IsCalled (unit_of (core_at w.now.core slot) j)) }
     ensures { IfSome (job_at w.now.jobs slot) (λ j. unit_of (core_at w.now.core slot) j ≡ Called result) }
 {
-    match w.jobs.job(slot.number()) {
+    match w.jobs.job(slot) {
         Some(job) => site(&w.core, slot, job),
         None => unreachable!(),
     }

@@ -1,6 +1,6 @@
 -- From what the monitor answered to the result of the event.
-use Rattle.std.specs.Prelude.{◌≡◌, ◌<◌, ◌≤◌, ◌+◌, ◌^◌, ℕ, Bool, true, Option, Some, None, IfSome, is_some, Result, Ok, Err, OnOk, IfErr, List, [], ◌∷◌, length, take, refl}
-use Rattle.std.proofs.Common.{sym, ◌∙◌, ap, subst, arith}
+use Rattle.std.specs.Prelude.{◌≡◌, ◌<◌, ◌+◌, ◌^◌, ℕ, Bool, true, Option, Some, None, is_some, Result, Ok, Err, OnOk, IfErr, List, [], ◌∷◌, length, take, refl}
+use Rattle.std.proofs.Common.{sym, ◌∙◌, ap, subst}
 use Rattle.its_files.specs.Files.{entry_at, is_file, file_at}
 use Rattle.its_records.specs.declared.session.Event.{Event}
 use Rattle.its_records.specs.declared.session.Event.TheVariants as events
@@ -229,10 +229,6 @@ unfolding lined operate after_calm
 peek_refused v b b' s e ps w k h = refuses v v b b' (events.Peek s) e ps w (record { calm = refl; is = ap (peeked_at s) h ∙ ap (λ x. Done (Refuses (reason_of x))) (sym k) })
 
 -- lines of a console
-pub console_fits : (o : Option ℕ) → IfSome o (λ k. k ≤ 7) → IfSome o (λ k. k < 8)
-console_fits None h = tt
-console_fits (Some k) h = omega (arith, h)
-
 pub landed : (v v' : State) (m : Machine) → Lands v v' (Ok m) → m ≡ v'.raw
 landed v v' m h = let k : Ok m ≡ Ok v'.raw = h.is in cc
 

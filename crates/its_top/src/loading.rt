@@ -1,27 +1,14 @@
-//! LOAD, and the words of the `a/` lines after it.
-ghost use Rattle.std.specs.Prelude.{◌≡◌, ◌≤◌, ◌<◌, ◌+◌, ◌^◌, Err, IfSome, IfOk, IfErr, OnOk, length, OnErr};
-ghost use Rattle.its_plain.specs.OperatorJobs.{with_words_loaded, with_words_stored, after_load};
+//! The words of the `a/` lines after LOAD.
+ghost use Rattle.std.specs.Prelude.{◌≡◌, ◌≤◌, ◌+◌, ◌^◌, Err, IfErr, OnOk, length};
+ghost use Rattle.its_plain.specs.OperatorJobs.{with_words_loaded, with_words_stored};
 ghost use Rattle.its_stepped.specs.Unwind.{unwound};
 ghost use Rattle.its_world.specs.World.{state_of};
 ghost use Rattle.its_records.specs.Refusals.{reason_of};
-ghost use Rattle.its_monitor.specs.Kept.{Kept, Lands, Loads, Refused};
+ghost use Rattle.its_monitor.specs.Kept.{Kept, Lands};
 
 use its_monitor::Monitor;
 use its_records::Refusal;
 use its_word::{Slot, Word};
-
-/// LOAD of a job on a console, or on none.
-#[tactic(auto, using(its_monitor::proofs::ConsoleLaws::refused_there))]
-pub fn load_job(m: &mut Monitor, u: Word, j: Word, console: Option<u8>) -> Result<Slot, Refusal>
-    requires sound { Kept m.old.world }
-    requires console { IfSome console (λ c. c < 8) }
-    ensures done { IfOk result (λ s. Loads (state_of m.old.world) (state_of m.new.world) (after_load (state_of m.old.world).raw u j console) s) }
-    ensures refused { IfErr result (λ e. Refused (state_of m.old.world) (state_of m.old.world) (λ x. after_load x u j console) e) }
-    ensures same { OnErr result (m.new ≡ m.old) }
-    ensures sound { Kept m.new.world }
-{
-    m.load_job(u, j, console)
-}
 
 /// Loads the words of an a/ line, in order; all are tested for read-only pages before the first is stored.
 #[tactic(auto, using(crate::proofs::LoadingLaws::barred, crate::proofs::LoadingLaws::stored, crate::proofs::LoadingLaws::not_stored))]

@@ -1,5 +1,5 @@
 //! An event is performed: what it does to the monitor and to the block, and what it shows.
-ghost use Rattle.std.specs.Prelude.{◌≡◌, ◌≤◌, ◌<◌, ◌+◌, ◌^◌, Ok, Err, IfSome, IfOk, IfErr, OnOk, List, length};
+ghost use Rattle.std.specs.Prelude.{◌≡◌, ◌≤◌, ◌+◌, ◌^◌, Ok, Err, IfOk, IfErr, OnOk, List, length};
 ghost use Rattle.its_records.specs.declared.calls.Pace.{Pace};
 ghost use Rattle.its_session.specs.Fits.{EventFits};
 ghost use Rattle.its_plain.specs.Operator.{Block};
@@ -14,7 +14,7 @@ ghost use Rattle.its_top.specs.Performing.{Performed, quiet};
 
 use super::consoles::{drain_bytes, type_bytes};
 use super::filing::{add_words, find_file, list_files, make_file};
-use super::loading::{load_job, load_words};
+use super::loading::load_words;
 use super::progress::Progress;
 use super::room::Runs;
 use super::shown::{Over, Shown};
@@ -22,10 +22,10 @@ use super::ticking::paces_of;
 use arrayvec::ArrayVec;
 use its_monitor::Monitor;
 use its_records::{Event, Refusal};
-use its_word::{Slot, Word};
+use its_word::{ConsoleNumber, Slot, Word};
 
 /// Performs an event, unless the event ends the session. The letters of its ticks are then in the room for them, and nothing else is.
-#[tactic(auto, using(crate::proofs::PerformLaws::nothing_performed, crate::proofs::PerformLaws::run_performed, crate::proofs::PerformLaws::end_performed, crate::proofs::PerformLaws::end_file_performed, crate::proofs::PerformLaws::append_performed, crate::proofs::PerformLaws::version_performed, crate::proofs::PerformLaws::go_performed, crate::proofs::PerformLaws::words_performed, crate::proofs::PerformLaws::read_only_performed, crate::proofs::PerformLaws::symbol_performed, crate::proofs::PerformLaws::ticks_performed, crate::proofs::PerformLaws::typed_performed, crate::proofs::PerformLaws::drained_performed, crate::proofs::PerformLaws::int_performed, crate::proofs::PerformLaws::deposit_performed, crate::proofs::PerformLaws::stop_performed, crate::proofs::PerformLaws::cont_performed, crate::proofs::PerformLaws::clock_performed, crate::proofs::PerformLaws::console_fits, crate::proofs::PaceLaws::no_letters), unfolding(its_session::specs::Grammar::last_slot))]
+#[tactic(auto, using(crate::proofs::PerformLaws::nothing_performed, crate::proofs::PerformLaws::run_performed, crate::proofs::PerformLaws::end_performed, crate::proofs::PerformLaws::end_file_performed, crate::proofs::PerformLaws::append_performed, crate::proofs::PerformLaws::version_performed, crate::proofs::PerformLaws::go_performed, crate::proofs::PerformLaws::words_performed, crate::proofs::PerformLaws::read_only_performed, crate::proofs::PerformLaws::symbol_performed, crate::proofs::PerformLaws::ticks_performed, crate::proofs::PerformLaws::typed_performed, crate::proofs::PerformLaws::drained_performed, crate::proofs::PerformLaws::int_performed, crate::proofs::PerformLaws::deposit_performed, crate::proofs::PerformLaws::stop_performed, crate::proofs::PerformLaws::cont_performed, crate::proofs::PerformLaws::clock_performed, crate::proofs::PaceLaws::no_letters), unfolding(its_session::specs::Grammar::last_slot))]
 pub fn perform(
     m: &mut Monitor,
     p: &mut Progress,
@@ -99,15 +99,14 @@ fn load(
     p: &mut Progress,
     u: Word,
     j: Word,
-    console: Option<u8>,
+    console: Option<ConsoleNumber>,
 ) -> Result<Shown, Over>
     requires sound { Kept m.old.world }
-    requires console { IfSome console (λ c. c < 8) }
     ensures performed { (ps : List Pace) → Performed result (state_of m.old.world) (block_of p.old.slot p.old.file) (Event.Load u j console) ps m.new.world (block_of p.new.slot p.new.file) }
     ensures sound { Kept m.new.world }
     ensures kept { p.new.number ≡ p.old.number }
 {
-    match load_job(m, u, j, console) {
+    match m.load_job(u, j, console) {
         Ok(s) => {
             p.slot = s;
             Ok(Shown::Loaded { s })

@@ -1,6 +1,6 @@
 use arrayvec::ArrayVec;
 use its_records::{JobShow, Peek, Refusal};
-use its_word::{Slot, Word};
+use its_word::{ConsoleNumber, Slot, Word};
 
 /// What an event shows after which the session goes on. The letters of its ticks are in the room for them.
 #[derive(Debug, PartialEq, Eq, Drop)]
@@ -13,11 +13,11 @@ pub enum Shown {
         s: Slot,
     },
     Typed {
-        c: u8,
+        c: ConsoleNumber,
         dropped: u32,
     },
     Drained {
-        c: u8,
+        c: ConsoleNumber,
         bytes: ArrayVec<u8, 64>,
     },
     Words {

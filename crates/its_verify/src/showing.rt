@@ -20,7 +20,7 @@ use its_direct::{Answer, Plain};
 use its_io::{Failed, Source};
 use its_print::Reply;
 use its_records::Event;
-use its_word::{Slot, Word};
+use its_word::{ConsoleNumber, Slot, Word};
 
 /// How many words a line of SHOW has.
 const ROW_WORDS: u32 = 8;
@@ -82,7 +82,7 @@ fn show_loaded<S: Source>(
 fn show_typed<S: Source>(
     reader: &mut TranscriptReader,
     src: &mut S,
-    c: u8,
+    c: ConsoleNumber,
     answer: &Answer,
     line: &mut Bytes,
 ) -> Result<Option<Outcome>, Failed>
@@ -104,7 +104,7 @@ fn show_typed<S: Source>(
 fn show_drained<S: Source>(
     reader: &mut TranscriptReader,
     src: &mut S,
-    c: u8,
+    c: ConsoleNumber,
     answer: &Answer,
     line: &mut Bytes,
 ) -> Result<Option<Outcome>, Failed>

@@ -6,6 +6,10 @@ use Rattle.std.specs.Prelude.{if◌then◌else◌, ◌==◌, ℕ}
 abbrev pub slots : ℕ
 slots = 96
 
+-- consoles; they go by the numbers below it
+abbrev pub consoles : ℕ
+consoles = 8
+
 -- jobs that a session can have: 64 in version 1 of the session text, one for each place in version 2. The slots of jobs
 -- are below this number
 unfoldable pub limit_of : ℕ → ℕ

@@ -10,6 +10,7 @@
 #![tactic(auto)]
 
 mod access;
+mod console_number;
 mod digits;
 mod filling;
 mod flags;
@@ -30,6 +31,7 @@ mod text;
 mod word;
 
 pub use access::{Address, Fault, NoAccess};
+pub use console_number::ConsoleNumber;
 pub use digits::{digits_read_back, octal, octal6};
 pub use filling::filled;
 pub use flags::{

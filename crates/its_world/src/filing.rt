@@ -17,7 +17,7 @@ use super::world::{CONSOLES, World};
 use its_calls::View;
 use its_frame::{CallName, Wait};
 use its_records::{Ask, Channel, Job, LINKS};
-use its_word::{Slot, Word};
+use its_word::{ConsoleNumber, Slot, Word};
 
 /// How many bytes wait at most at a console, in one direction.
 const MOST_WAITING: u32 = 64;
@@ -108,7 +108,7 @@ impl World {
         ensures { result ≡ wait_reason (job_at self.now.jobs slot) ask.now }
     {
         let name = CallName::named(ask.name);
-        match self.jobs.job(slot.number()) {
+        match self.jobs.job(slot) {
             Some(job) => reason_by(
                 job.console.unwrap_or(0),
                 channel_of(job, first_input(ask)),
@@ -159,10 +159,10 @@ impl World {
 
     /// Whether no slot is on the Awake list of a console.
     #[inline]
-    fn is_still(&self, console: u8) -> bool
-        ensures { result ≡ true → (console < 8) × (list_at self.now.rings.lists (26 + console) ≡ []) }
+    fn is_still(&self, console: ConsoleNumber) -> bool
+        ensures { result ≡ true → list_at self.now.rings.lists (26 + console) ≡ [] }
     {
-        console < 8 && self.rings.front(26 + u32::from(console)).is_none()
+        self.rings.front(26 + u32::from(console.number())).is_none()
     }
 
     /// Whether the channel of the call of a slot is on no link, and nobody is on the Awake list of its job's console. If so, the slot is on no
@@ -174,13 +174,17 @@ impl World {
         let View::Waiting { ask, .. } = self.frame(slot) else {
             return false;
         };
-        let Some(job) = self.jobs.job(slot.number()) else {
+        let Some(job) = self.jobs.job(slot) else {
             return false;
         };
         if is_link(channel_of(job, first_input(ask))) {
             return false;
         }
-        self.is_still(job.console.unwrap_or(0))
+        let console = job.console.unwrap_or(0);
+        if console >= CONSOLES as u8 {
+            return false;
+        }
+        self.is_still(ConsoleNumber::new(console))
     }
 
     /// Whether a slot is on the Awake list of the console or link at which its call waits.
@@ -281,11 +285,10 @@ impl World {
     }
 
     /// Puts each slot that is on a list of a console on the list to which it belongs.
-    pub fn resettle(&mut self, console: u8)
-        requires { console < 8 }
+    pub fn resettle(&mut self, console: ConsoleNumber)
         ensures { Resettled self.old self.new (lists_at console) }
     {
-        let c = u32::from(console);
+        let c = u32::from(console.number());
         self.settle(2 + c);
         self.settle(10 + c);
         self.settle(18 + c);
@@ -293,21 +296,19 @@ impl World {
     }
 
     /// The same of those that wait for its input, or wait there and can go on.
-    pub fn resettle_input(&mut self, console: u8)
-        requires { console < 8 }
+    pub fn resettle_input(&mut self, console: ConsoleNumber)
         ensures { Resettled self.old self.new (input_lists console) }
     {
-        let c = u32::from(console);
+        let c = u32::from(console.number());
         self.settle_any(2 + c);
         self.settle_any(26 + c);
     }
 
     /// The same of those that wait for its output, or wait there and can go on.
-    pub fn resettle_output(&mut self, console: u8)
-        requires { console < 8 }
+    pub fn resettle_output(&mut self, console: ConsoleNumber)
         ensures { Resettled self.old self.new (output_lists console) }
     {
-        let c = u32::from(console);
+        let c = u32::from(console.number());
         self.settle_any(10 + c);
         self.settle_any(18 + c);
         self.settle_any(26 + c);
@@ -337,7 +338,7 @@ impl World {
         ensures { Resettled self.old self.new (lists_to 8) }
     {
         for c in 0..CONSOLES as u8 {
-            self.resettle(c);
+            self.resettle(ConsoleNumber::new(c));
         }
     }
 

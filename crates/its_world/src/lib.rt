@@ -23,5 +23,6 @@ mod symbols;
 mod world;
 
 pub use its_word::NoMemory;
+pub use storage::within;
 pub use symbols::forget_removed;
 pub use world::World;

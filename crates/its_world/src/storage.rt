@@ -18,7 +18,7 @@ use its_records::Channel;
 use its_word::{Slot, Word};
 
 /// Does nothing: a slot has one of the numbers that there are.
-fn within(slot: Slot)
+pub fn within(slot: Slot)
     ensures { slot < slots }
 {
     let _ = slot.number();
@@ -30,7 +30,7 @@ impl World {
         requires channel { n < 16 }
         ensures { result ≡ channel_at self.now.jobs slot n }
     {
-        match self.jobs.job(slot.number()) {
+        match self.jobs.job(slot) {
             Some(job) => job.channels[usize::from(n)],
             None => Channel::Closed,
         }
@@ -42,7 +42,7 @@ impl World {
         requires channel { n < 16 }
         ensures { ChannelBecomes self.old self.new slot n channel self.old.files }
     {
-        if self.jobs.job(slot.number()).is_some() {
+        if self.jobs.job(slot).is_some() {
             self.write_channel(slot, n, channel);
             self.refile(slot);
         }
@@ -55,7 +55,7 @@ impl World {
         requires some { is_some (job_at self.old.jobs slot) ≡ true }
         ensures { ChannelWritten self.old self.new slot n channel }
     {
-        if let Some(job) = self.jobs.job_mut(slot.number()) {
+        if let Some(job) = self.jobs.job_mut(slot) {
             job.channels[usize::from(n)] = channel;
         }
     }

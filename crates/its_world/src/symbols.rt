@@ -16,7 +16,7 @@ pub fn forget_removed(lists: &mut Vec<SymbolTable>, jobs: &Jobs)
     ensures left { (k : ℕ) → symbols_at lists.new.items k ≡ symbols_after_removal (is_none (job_at jobs.now k)) (symbols_at lists.old.items k) }
 {
     for slot in 0..SLOTS {
-        if jobs.job(slot as u8).is_none() {
+        if jobs.numbered(slot as u8).is_none() {
             lists[slot].clear();
         }
     }

@@ -14,7 +14,7 @@ use its_links::Links;
 use its_machine::{SymbolTable, no_alarms, no_symbols, quiet_consoles};
 use its_pipes::Pipes;
 use its_records::Job;
-use its_word::{NoAccess, NoMemory, SLOTS, Slot, Word};
+use its_word::{ConsoleNumber, NoAccess, NoMemory, SLOTS, Slot, Word};
 use std::alloc::Global;
 
 /// How many consoles there are.
@@ -105,7 +105,7 @@ impl World {
     pub fn registers(&self, slot: Slot) -> Option<Job>
         ensures { result ≡ job_at self.now.jobs slot }
     {
-        self.jobs.job(slot.number()).copied()
+        self.jobs.job(slot).copied()
     }
 
     /// Writes the registers of a slot's job, which keeps its place on the wait lists.
@@ -114,7 +114,7 @@ impl World {
         requires some { is_some (job_at self.old.jobs slot) ≡ true }
         ensures { SlotWritten self.old self.new slot (Some job) (call_in self.old slot) }
     {
-        if let Some(j) = self.jobs.job_mut(slot.number()) {
+        if let Some(j) = self.jobs.job_mut(slot) {
             *j = job;
         }
     }
@@ -138,7 +138,7 @@ impl World {
         ensures absent { result ≡ Err NoAccess.Absent → (16 ≤ a) × (page_of (core_at self.old.core slot) (a / 1024) ≡ None) }
         ensures same { OnErr result (self.new ≡ self.old) }
     {
-        match self.core.put(slot.number(), a, w) {
+        match self.core.put(slot, a, w) {
             Ok(()) => Ok(()),
             Err(e) => Err(e),
         }
@@ -162,7 +162,7 @@ impl World {
         requires page { is_some (clear_at self.old.core slot) ≡ true }
         ensures { PageBecomes self.old self.new slot None }
     {
-        self.core.give_back(slot.number());
+        self.core.give_back(slot);
     }
 
     /// Whether a slot's job is inside a call.
@@ -174,8 +174,7 @@ impl World {
 
     /// A byte is typed at a console. False if 64 typed bytes wait; the byte is then lost.
     #[tactic(auto, using(crate::proofs::WorldLaws::console_heard))]
-    pub fn type_in(&mut self, console: u8, b: u8) -> bool
-        requires { console < 8 }
+    pub fn type_in(&mut self, console: ConsoleNumber, b: u8) -> bool
         ensures kept { IsTrue result ↔ (length (console_at self.old.consoles.items console).input < most_waiting) }
         ensures typed { ConsoleBecomes self.old self.new console (typed_at b (console_at self.old.consoles.items console)) }
     {
@@ -186,18 +185,16 @@ impl World {
 
     /// Types a byte; those that wait keep their places.
     #[tactic(auto, using(crate::proofs::WorldLaws::console_written))]
-    fn write_typed(&mut self, console: u8, b: u8) -> bool
-        requires { console < 8 }
+    fn write_typed(&mut self, console: ConsoleNumber, b: u8) -> bool
         ensures kept { IsTrue result ↔ (length (console_at self.old.consoles.items console).input < most_waiting) }
         ensures typed { ConsoleWritten self.old self.new console (typed_at b (console_at self.old.consoles.items console)) }
     {
-        type_at(&mut self.consoles[usize::from(console)], b)
+        type_at(&mut self.consoles[console.index()], b)
     }
 
     /// Takes the typed byte that has waited longest at a console; None if none waits.
     #[tactic(auto, using(crate::proofs::WorldLaws::console_heard))]
-    pub fn take(&mut self, console: u8) -> Option<u8>
-        requires { console < 8 }
+    pub fn take(&mut self, console: ConsoleNumber) -> Option<u8>
         ensures first { result ≡ slice_get (console_at self.old.consoles.items console).input 0 }
         ensures rest { ConsoleBecomes self.old self.new console (after_take (console_at self.old.consoles.items console)) }
     {
@@ -208,18 +205,16 @@ impl World {
 
     /// Takes a byte; those that wait keep their places.
     #[tactic(auto, using(crate::proofs::WorldLaws::console_written, crate::proofs::WorldLaws::rest_is))]
-    fn write_taken(&mut self, console: u8) -> Option<u8>
-        requires { console < 8 }
+    fn write_taken(&mut self, console: ConsoleNumber) -> Option<u8>
         ensures first { result ≡ slice_get (console_at self.old.consoles.items console).input 0 }
         ensures rest { ConsoleWritten self.old self.new console (after_take (console_at self.old.consoles.items console)) }
     {
-        self.consoles[usize::from(console)].take()
+        self.consoles[console.index()].take()
     }
 
     /// Puts a byte out at a console. False if 64 bytes wait to be drained; then nothing is put.
     #[tactic(auto, using(crate::proofs::WorldLaws::console_spoken))]
-    pub fn put(&mut self, console: u8, b: u8) -> bool
-        requires { console < 8 }
+    pub fn put(&mut self, console: ConsoleNumber, b: u8) -> bool
         ensures kept { IsTrue result ↔ (length (console_at self.old.consoles.items console).output < most_waiting) }
         ensures put { IsTrue result → ConsoleBecomes self.old self.new console (after_put b (console_at self.old.consoles.items console)) }
         ensures same { result ≡ false → self.new ≡ self.old }
@@ -234,19 +229,17 @@ impl World {
 
     /// Puts a byte out; those that wait keep their places.
     #[tactic(auto, using(crate::proofs::WorldLaws::console_written))]
-    fn write_put(&mut self, console: u8, b: u8) -> bool
-        requires { console < 8 }
+    fn write_put(&mut self, console: ConsoleNumber, b: u8) -> bool
         ensures kept { IsTrue result ↔ (length (console_at self.old.consoles.items console).output < most_waiting) }
         ensures put { IsTrue result → ConsoleWritten self.old self.new console (after_put b (console_at self.old.consoles.items console)) }
         ensures same { result ≡ false → self.new ≡ self.old }
     {
-        self.consoles[usize::from(console)].put(b)
+        self.consoles[console.index()].put(b)
     }
 
     /// Drains the byte of a console that was put out first; None if none waits.
     #[tactic(auto, using(crate::proofs::WorldLaws::console_spoken))]
-    pub fn drain(&mut self, console: u8) -> Option<u8>
-        requires { console < 8 }
+    pub fn drain(&mut self, console: ConsoleNumber) -> Option<u8>
         ensures first { result ≡ slice_get (console_at self.old.consoles.items console).output 0 }
         ensures rest { ConsoleBecomes self.old self.new console (drained_at (console_at self.old.consoles.items console)) }
     {
@@ -257,12 +250,11 @@ impl World {
 
     /// Drains a byte; those that wait keep their places.
     #[tactic(auto, using(crate::proofs::WorldLaws::console_written))]
-    fn write_drained(&mut self, console: u8) -> Option<u8>
-        requires { console < 8 }
+    fn write_drained(&mut self, console: ConsoleNumber) -> Option<u8>
         ensures first { result ≡ slice_get (console_at self.old.consoles.items console).output 0 }
         ensures rest { ConsoleWritten self.old self.new console (drained_at (console_at self.old.consoles.items console)) }
     {
-        self.consoles[usize::from(console)].drain()
+        self.consoles[console.index()].drain()
     }
 
     /// Keeps a symbol of a slot's job, the last; there is room for it.
@@ -285,8 +277,7 @@ impl World {
 
     /// Gives a console another holder, or none.
     #[tactic(auto, using(crate::proofs::WorldLaws::holder_becomes))]
-    pub fn hold(&mut self, console: u8, holder: Option<u8>)
-        requires { console < 8 }
+    pub fn hold(&mut self, console: ConsoleNumber, holder: Option<u8>)
         ensures { HolderBecomes self.old self.new console holder }
     {
         self.write_holder(console, holder);
@@ -295,11 +286,10 @@ impl World {
 
     /// Writes the holder of a console; those that wait keep their places.
     #[tactic(auto, using(crate::proofs::WorldLaws::holder_written))]
-    fn write_holder(&mut self, console: u8, holder: Option<u8>)
-        requires { console < 8 }
+    fn write_holder(&mut self, console: ConsoleNumber, holder: Option<u8>)
         ensures { HolderWritten self.old self.new console holder }
     {
-        self.holders[usize::from(console)] = holder;
+        self.holders[console.index()] = holder;
     }
 
     /// Sets the clock to a later time. A sleeper whose time has come leaves the list of those that wait for a time.

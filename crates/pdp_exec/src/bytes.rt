@@ -38,7 +38,7 @@ fn target(core: &Core, slot: Slot, x: &Context, p: Word) -> Result<u32, Fault>
     let Address {
         e,
         flags_word: _last,
-    } = core.effective(slot.number(), p, &mut used)?;
+    } = core.effective(slot, p, &mut used)?;
     Ok(e)
 }
 

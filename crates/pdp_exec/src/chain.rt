@@ -95,7 +95,7 @@ pub fn at_hand(core: &Core, slot: Slot, job: &Job) -> Option<AtHand>
         return None;
     }
     let mut used = 0;
-    let Address { e, flags_word } = core.effective(slot.number(), w, &mut used).ok()?;
+    let Address { e, flags_word } = core.effective(slot, w, &mut used).ok()?;
     Some(AtHand {
         opcode: opcode(w),
         context: Context {
@@ -187,7 +187,7 @@ fn chain_step(
 {
     let i = instruction(w)?;
     let mut after = used;
-    let Address { e, flags_word } = core.address(slot.number(), w, &mut after, reads)?;
+    let Address { e, flags_word } = core.address(slot, w, &mut after, reads)?;
     let x = Context {
         pc: job.pc,
         flags: job.flags,

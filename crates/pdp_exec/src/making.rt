@@ -24,7 +24,7 @@ fn make_one(core: &mut Core, slot: Slot, s: Store) -> Result<(), Fault>
     ensures frames { core.new.frames ≡ core.old.frames }
     ensures same { OnErr result (core.new ≡ core.old) }
 {
-    match core.put(slot.number(), s.at % ADDRESSES, s.word) {
+    match core.put(slot, s.at % ADDRESSES, s.word) {
         Ok(()) => Ok(()),
         Err(NoAccess::Absent) => Err(Fault::Mpv),
         Err(NoAccess::ReadOnly) => Err(Fault::Wro),
@@ -39,7 +39,7 @@ fn put(core: &mut Core, slot: Slot, s: Store)
     ensures reserved { core.new.reserved ≡ core.old.reserved }
     ensures frames { core.new.frames ≡ core.old.frames }
 {
-    let _ = core.put(slot.number(), s.at % ADDRESSES, s.word);
+    let _ = core.put(slot, s.at % ADDRESSES, s.word);
 }
 
 /// Makes two stores, in this order, or none of them.
@@ -52,10 +52,10 @@ fn make_two(core: &mut Core, slot: Slot, s: Store, t: Store) -> Result<(), Fault
     ensures frames { core.new.frames ≡ core.old.frames }
     ensures same { OnErr result (core.new ≡ core.old) }
 {
-    if let Some(f) = core.refusal(slot.number(), s.at % ADDRESSES) {
+    if let Some(f) = core.refusal(slot, s.at % ADDRESSES) {
         return Err(f);
     }
-    if let Some(f) = core.refusal(slot.number(), t.at % ADDRESSES) {
+    if let Some(f) = core.refusal(slot, t.at % ADDRESSES) {
         return Err(f);
     }
     put(core, slot, s);
@@ -72,7 +72,7 @@ fn make_three(core: &mut Core, slot: Slot, stores: [Store; 3]) -> Result<(), Fau
     ensures frames { core.new.frames ≡ core.old.frames }
     ensures same { OnErr result (core.new ≡ core.old) }
 {
-    core.store_all(slot.number(), &stores)
+    core.store_all(slot, &stores)
 }
 
 /// Makes the stores of a unit, or none of them.

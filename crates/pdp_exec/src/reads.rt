@@ -14,7 +14,7 @@ pub fn read(core: &Core, slot: Slot, a: u32) -> Result<Word, Fault>
     requires address { a < 2 ^ 18 }
     ensures { result ≡ read_of (core_at core.now slot) a }
 {
-    core.get(slot.number(), a).map_err(|_| Fault::Mpv)
+    core.get(slot, a).map_err(|_| Fault::Mpv)
 }
 
 /// An accumulator.
@@ -23,7 +23,7 @@ fn acc(core: &Core, slot: Slot, a: u32) -> Word
     requires a { a < 16 }
     ensures { result ≡ acc_at (core_at core.now slot) a }
 {
-    core.get(slot.number(), a).unwrap_or(Word::ZERO)
+    core.get(slot, a).unwrap_or(Word::ZERO)
 }
 
 /// The accumulator that A names.

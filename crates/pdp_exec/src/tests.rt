@@ -663,13 +663,14 @@ fn make_page(core: &mut Core, slot: Slot, page: u8)
     requires none { slice_index_or core.old.reserved 0 None ≡ None }
     ensures none { slice_index_or core.new.reserved 0 None ≡ None }
 {
-    core.reserve(0);
-    core.clear_quarter(0, 0);
-    core.clear_quarter(0, 1);
-    core.clear_quarter(0, 2);
-    core.clear_quarter(0, 3);
-    if core.page(slot.number(), page).is_some() || core.map(0, slot.number(), page).is_err() {
-        core.give_back(0);
+    let first = Slot::new(0);
+    core.reserve(first);
+    core.clear_quarter(first, 0);
+    core.clear_quarter(first, 1);
+    core.clear_quarter(first, 2);
+    core.clear_quarter(first, 3);
+    if core.page(slot, page).is_some() || core.map(first, slot, page).is_err() {
+        core.give_back(first);
     }
 }
 
@@ -681,7 +682,7 @@ impl Bench {
             if place >= 16 {
                 make_page(&mut self.core, slot, (place / 1024) as u8);
             }
-            assert!(rt; self.core.put(slot.number(), place, w).is_ok());
+            assert!(rt; self.core.put(slot, place, w).is_ok());
         }
     }
 
@@ -689,9 +690,10 @@ impl Bench {
     fn protect(&mut self, rt: &impl Abort, list: &str) {
         for text in list.split_whitespace() {
             let page = (number(rt, Some(text)).right() % 256) as u8;
-            make_page(&mut self.core, Slot::new(0), page);
-            if self.core.page(0, page).is_some() {
-                self.core.protect(0, page, false);
+            let slot = Slot::new(0);
+            make_page(&mut self.core, slot, page);
+            if self.core.page(slot, page).is_some() {
+                self.core.protect(slot, page, false);
             }
         }
     }
@@ -708,7 +710,7 @@ impl Bench {
 
     /// Performs the call of a row.
     fn call(&mut self, rt: &impl Abort, row: &str) {
-        self.core.drop_all(0);
+        self.core.drop_all(Slot::new(0));
         let mut fields = row.split('|');
         self.load(rt, Slot::new(0), fields.next().expect(rt, "words"));
         let mut caller = job(0o100, USER);
@@ -741,7 +743,7 @@ impl Bench {
     fn agrees(&self, rt: &impl Abort, list: &str) -> bool {
         for text in list.split_whitespace() {
             let (place, _) = pair(rt, text);
-            if self.core.get(0, place) != self.core.get(1, place) {
+            if self.core.get(Slot::new(0), place) != self.core.get(Slot::new(1), place) {
                 return false;
             }
         }
@@ -750,8 +752,8 @@ impl Bench {
 
     /// Runs the units of a row in slot 0, and makes slot 1 what it must be after them.
     fn check(&mut self, rt: &impl Abort, row: &str) {
-        self.core.drop_all(0);
-        self.core.drop_all(1);
+        self.core.drop_all(Slot::new(0));
+        self.core.drop_all(Slot::new(1));
         let mut fields = row.split('|');
         let mut start = fields.next().expect(rt, "PC").split_whitespace();
         let mut job = job(

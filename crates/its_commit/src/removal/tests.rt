@@ -1,5 +1,6 @@
-ghost use Rattle.std.specs.Prelude.{◌≡◌, ◌<◌, ℕ, true, None, slice_set, IfOk};
+ghost use Rattle.std.specs.Prelude.{◌≡◌, ◌<◌, ℕ, true, None, slice_set, IfOk, IfSome, is_some};
 ghost use Rattle.its_records.specs.declared.jobs.Channel.TheVariants.{Usr};
+ghost use Rattle.its_jobs.specs.Table.{job_at};
 ghost use Rattle.its_stepped.specs.Sound.{Sound};
 ghost use Rattle.its_world.specs.Tidy.{Tidy};
 ghost use Rattle.its_world.specs.World.{state_of};
@@ -10,7 +11,7 @@ use its_frame::Change;
 use its_jobs::{Job, Jobs};
 use its_records::Channel;
 use its_word::{SLOTS, Slot, Word};
-use its_world::World;
+use its_world::{World, within};
 use std::alloc::Global;
 use std::process::Abort;
 use std::test::Fail;
@@ -38,19 +39,27 @@ fn jobs(rt: &impl Abort, alloc: Global, superiors: [Option<u8>; 4], slot: u8) ->
     Ok(jobs)
 }
 
+/// The slot of a superior, which has a job; None if there is none.
+fn standing(rt: &impl Abort, jobs: &Jobs, superior: Option<u8>) -> Option<Slot>
+    ensures { IfSome result (λ s. is_some (job_at jobs.now s) ≡ true) }
+{
+    let number = superior?;
+    assert!(rt; usize::from(number) < SLOTS);
+    let slot = Slot::new(number);
+    assert!(rt; jobs.job(slot).is_some());
+    Some(slot)
+}
+
 /// A job more, whose first channel is open on a slot.
 fn add(rt: &impl Abort, jobs: &mut Jobs, superior: Option<u8>, slot: u8)
     requires { Elsewhere jobs.old }
     ensures jobs { Elsewhere jobs.new }
     ensures limit { jobs.new.limit ≡ jobs.old.limit }
 {
-    if let Some(s) = superior {
-        assert!(rt; usize::from(s) < SLOTS);
-        assert!(rt; jobs.job(s).is_some());
-    }
+    let superior = standing(rt, jobs, superior);
     let made = jobs.create(Word::new(7), Word::new(0o107), superior, None);
     if let Ok(k) = made {
-        open_on(jobs, Slot::new(k), slot);
+        open_on(jobs, k, slot);
     }
 }
 
@@ -60,7 +69,8 @@ fn open_on(jobs: &mut Jobs, k: Slot, slot: u8)
     ensures jobs { Elsewhere jobs.new }
     ensures limit { jobs.new.limit ≡ jobs.old.limit }
 {
-    if let Some(job) = jobs.job_mut(k.number()) {
+    within(k);
+    if let Some(job) = jobs.job_mut(k) {
         *job = opened(*job, slot);
     }
 }
@@ -86,8 +96,8 @@ fn removed(rt: &impl Abort, w: &mut World, caller: u8, root: u8)
     requires page { (k : ℕ) → (state_of w.old).reserved k ≡ None }
     requires tidy { Tidy w.old }
 {
-    assert!(rt; w.jobs.job(caller).is_some());
-    assert!(rt; w.jobs.job(root).is_some());
+    assert!(rt; w.jobs.numbered(caller).is_some());
+    assert!(rt; w.jobs.numbered(root).is_some());
     assert!(rt; caller != root);
     assert!(rt; !w.jobs.is_below(root, caller));
     w.jobs.tree();
@@ -100,13 +110,15 @@ fn made(rt: &impl Abort, w: &mut World, maker: u8, slot: u8)
     requires tidy { Tidy w.old }
     ensures { Tidy w.new }
 {
-    assert!(rt; w.jobs.job(maker).is_some());
-    assert!(rt; w.jobs.free() == Some(slot));
+    assert!(rt; w.jobs.numbered(maker).is_some());
+    assert!(rt; usize::from(slot) < SLOTS);
+    let place = Slot::new(slot);
+    assert!(rt; w.jobs.free() == Some(place));
     let (u, j) = (Word::new(7), Word::new(0o107));
     apply(w, Slot::new(maker), &[Change::Make { slot, u, j }]);
-    assert_eq!(rt; w.jobs.superior(slot), Some(maker));
-    assert_eq!(rt; w.jobs.job(slot).map(|job| job.stopped), Some(true));
-    assert_eq!(rt; first(w.jobs.job(slot)), Some(Channel::Closed));
+    assert_eq!(rt; w.jobs.superior(place), Some(Slot::new(maker)));
+    assert_eq!(rt; w.jobs.job(place).map(|job| job.stopped), Some(true));
+    assert_eq!(rt; first(w.jobs.job(place)), Some(Channel::Closed));
 }
 
 /// A call stores a word in an accumulator of a job, which then has it.
@@ -115,11 +127,11 @@ fn poked(rt: &impl Abort, w: &mut World, caller: Slot, slot: u8, at: u32)
     requires tidy { Tidy w.old }
     ensures { Tidy w.new }
 {
-    assert!(rt; w.jobs.job(slot).is_some());
-    assert_eq!(rt; w.core.get(slot, at), Ok(Word::ZERO));
+    assert!(rt; w.jobs.numbered(slot).is_some());
+    assert_eq!(rt; w.core.get(Slot::new(slot), at), Ok(Word::ZERO));
     let word = Word::new(7);
     apply(w, caller, &[Change::Poke { slot, at, word }]);
-    assert_eq!(rt; w.core.get(slot, at), Ok(word));
+    assert_eq!(rt; w.core.get(Slot::new(slot), at), Ok(word));
 }
 
 /// Jobs make inferiors, each in the least free slot, and store words in them.
@@ -179,7 +191,11 @@ fn trees(rt: HostRuntime) -> Result<(), Fail> {
         w.holders = [Some(0), Some(1), Some(2), Some(3), None, None, None, None];
         removed(&rt, &mut w, caller, root);
         for (slot, want) in left.into_iter().enumerate() {
-            assert_eq!(rt; first(w.jobs.job(slot as u8)), want, "{slot} of {root}");
+            assert_eq!(rt;
+                first(w.jobs.numbered(slot as u8)),
+                want,
+                "{slot} of {root}"
+            );
         }
         for (console, want) in holders.into_iter().enumerate() {
             assert_eq!(rt; w.holders.get(console), Some(&want), "{console} of {root}");

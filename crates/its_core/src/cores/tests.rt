@@ -1,10 +1,10 @@
 ghost use Rattle.std.specs.Prelude.{◌≡◌, ◌≢◌, ◌<◌, ℕ, None};
-ghost use Rattle.its_word.specs.Limits.{slots};
 ghost use Rattle.its_core.specs.Frames.{all_frames};
 ghost use Rattle.its_core.specs.Cores.{reserved_at};
 
 use super::*;
 use crate::tests::clear_page;
+use its_word::Slot;
 use std::test::Fail;
 
 /// The page frame after a page frame in its list; None if it ends a list or is in none.
@@ -19,8 +19,7 @@ fn behind(core: &Core, frame: u32) -> Option<u32>
 }
 
 /// Makes an absent page of a slot that has none reserved, if it can.
-fn add_page(core: &mut Core, slot: u8, page: u8)
-    requires slot { slot < slots }
+fn add_page(core: &mut Core, slot: Slot, page: u8)
     requires none { reserved_at core.old slot ≡ None }
     ensures none { reserved_at core.new slot ≡ None }
     ensures others { (k : ℕ) → k ≢ slot → reserved_at core.new k ≡ reserved_at core.old k }
@@ -37,27 +36,28 @@ fn add_page(core: &mut Core, slot: u8, page: u8)
 #[tactic(auto, using(crate::proofs::CoresLaws::same_reserved_at))]
 fn frames_are_taken_and_given_up_in_order(rt: HostRuntime) -> Result<(), Fail> {
     let mut core = Core::open(rt.alloc())?;
+    let (slot, other) = (Slot::new(6), Slot::new(7));
     assert_eq!(rt; core.lists.front(FREE), Some(0));
     assert_eq!(rt; behind(&core, 0), Some(1));
     assert_eq!(rt; behind(&core, FRAMES - 1), None);
-    add_page(&mut core, 6, 9);
-    add_page(&mut core, 6, 3);
-    core.reserve(7);
+    add_page(&mut core, slot, 9);
+    add_page(&mut core, slot, 3);
+    core.reserve(other);
     assert_eq!(rt; core.lists.front(FREE), Some(3));
-    assert_eq!(rt; core.lists.front(list_of(6)), Some(0));
+    assert_eq!(rt; core.lists.front(list_of(slot)), Some(0));
     assert_eq!(rt; behind(&core, 0), Some(1));
     assert_eq!(rt; behind(&core, 1), None);
     assert!(rt; !core.lists.linked(2));
-    assert!(rt; core.page(6, 9).is_some());
-    core.unmap(6, 9);
-    core.give_back(7);
+    assert!(rt; core.page(slot, 9).is_some());
+    core.unmap(slot, 9);
+    core.give_back(other);
     assert_eq!(rt; behind(&core, FRAMES - 1), Some(0));
     assert_eq!(rt; behind(&core, 0), Some(2));
-    add_page(&mut core, 6, 9);
-    assert_eq!(rt; core.lists.front(list_of(6)), Some(1));
+    add_page(&mut core, slot, 9);
+    assert_eq!(rt; core.lists.front(list_of(slot)), Some(1));
     assert_eq!(rt; behind(&core, 1), Some(3));
-    core.drop_all(6);
-    assert_eq!(rt; core.lists.front(list_of(6)), None);
+    core.drop_all(slot);
+    assert_eq!(rt; core.lists.front(list_of(slot)), None);
     assert_eq!(rt; behind(&core, 2), Some(1));
     assert_eq!(rt; behind(&core, 1), Some(3));
     assert_eq!(rt; behind(&core, 3), None);

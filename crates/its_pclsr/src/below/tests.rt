@@ -1,12 +1,13 @@
-ghost use Rattle.std.specs.Prelude.{◌≡◌, true, slice_set, IfOk};
+ghost use Rattle.std.specs.Prelude.{◌≡◌, true, slice_set, IfOk, IfSome, is_some};
 ghost use Rattle.its_records.specs.declared.jobs.Channel.TheVariants.{Usr};
+ghost use Rattle.its_jobs.specs.Table.{job_at};
 ghost use Rattle.its_commit.specs.Removal.{Elsewhere};
 
 use super::unwind_below;
 use its_jobs::{Job, Jobs};
 use its_records::Channel;
 use its_word::{SLOTS, Slot, Word};
-use its_world::World;
+use its_world::{World, within};
 use std::alloc::Global;
 use std::process::Abort;
 use std::test::Fail;
@@ -34,19 +35,27 @@ fn jobs(rt: &impl Abort, alloc: Global, superiors: [Option<u8>; 4]) -> Result<Jo
     Ok(jobs)
 }
 
+/// The slot of a superior, which has a job; None if there is none.
+fn standing(rt: &impl Abort, jobs: &Jobs, superior: Option<u8>) -> Option<Slot>
+    ensures { IfSome result (λ s. is_some (job_at jobs.now s) ≡ true) }
+{
+    let number = superior?;
+    assert!(rt; usize::from(number) < SLOTS);
+    let slot = Slot::new(number);
+    assert!(rt; jobs.job(slot).is_some());
+    Some(slot)
+}
+
 /// A job more, whose first channel is open.
 fn add(rt: &impl Abort, jobs: &mut Jobs, superior: Option<u8>)
     requires { Elsewhere jobs.old }
     ensures jobs { Elsewhere jobs.new }
     ensures limit { jobs.new.limit ≡ jobs.old.limit }
 {
-    if let Some(s) = superior {
-        assert!(rt; usize::from(s) < SLOTS);
-        assert!(rt; jobs.job(s).is_some());
-    }
+    let superior = standing(rt, jobs, superior);
     let made = jobs.create(Word::new(7), Word::new(0o107), superior, None);
     if let Ok(k) = made {
-        open(jobs, Slot::new(k));
+        open(jobs, k);
     }
 }
 
@@ -56,7 +65,8 @@ fn open(jobs: &mut Jobs, k: Slot)
     ensures jobs { Elsewhere jobs.new }
     ensures limit { jobs.new.limit ≡ jobs.old.limit }
 {
-    if let Some(job) = jobs.job_mut(k.number()) {
+    within(k);
+    if let Some(job) = jobs.job_mut(k) {
         *job = opened(*job);
     }
 }
@@ -78,7 +88,7 @@ fn nothing_to_unwind(rt: HostRuntime) -> Result<(), Fail> {
     w.jobs = jobs(&rt, rt.alloc(), [None, Some(0), Some(1), None])?;
     unwind_below(&mut w, Slot::FIRST);
     for slot in 0..4u8 {
-        assert_eq!(rt; w.jobs.job(slot).map(|j| j.channels[0]), Some(on()));
+        assert_eq!(rt; w.jobs.numbered(slot).map(|j| j.channels[0]), Some(on()));
     }
     Ok(())
 }

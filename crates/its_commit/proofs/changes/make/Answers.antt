@@ -4,7 +4,7 @@ use Rattle.its_commit.proofs.ChangeLaws.{none_full, inferior_made, inferior_tidy
 use Rattle.its_commit.proofs.changes.make.Goals as goal
 
 pub create-requires : goal.create-requires
-create-requires c = rw c.number.ensures.value (record { standing = (rw c.number.ensures.value at c.number.ensures.below, has_job c.args.w.now c.args.maker c.requires.job) })
+create-requires c = record { standing = has_job c.args.w.now c.args.maker c.requires.job }
 
 pub unreachable-requires : goal.unreachable-requires
 unreachable-requires c = none_full c.args.w.now c.args.slot c.requires.free c.in-Err.ensures.full
@@ -14,7 +14,7 @@ returns-clause-row c =
     inferior_made c.args.w.now _ c.args.maker c.in-Ok.field-0 c.args.u c.args.j c.console_of-console.result
     (record {
       job = c.in-Ok.ensures.job;
-      superior = rw c.number.ensures.value at c.in-Ok.ensures.superior;
+      superior = c.in-Ok.ensures.superior;
       rest = refl;
     })
     c.in-Ok.ensures.slot c.requires.tidy c.args.slot c.requires.free c.console_of-console.ensures
@@ -24,7 +24,7 @@ returns-clause-tidy c =
     inferior_tidy c.args.w.now _ c.args.maker c.in-Ok.field-0 c.args.u c.args.j c.console_of-console.result
     (record {
       job = c.in-Ok.ensures.job;
-      superior = rw c.number.ensures.value at c.in-Ok.ensures.superior;
+      superior = c.in-Ok.ensures.superior;
       rest = refl;
     })
     c.in-Ok.ensures.slot c.requires.tidy

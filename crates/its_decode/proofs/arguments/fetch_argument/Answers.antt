@@ -9,7 +9,7 @@ returns-clause-fetched c =
     record {
       placed = record { argument = argument_for c.kind_of.result c.in_ok-e.field-0.e; used = c.add_argument.new.progress.used };
       answer =
-          argument_ok _ _ _ _ _ _ _ c.kind_of.ensures (sym c.in_ok-e.was ∙ (rw c.number.ensures.value at c.address.ensures.answer)) (c.add_argument.ensures.used ∙ (rw c.number.ensures.value at c.address.ensures.used))
+          argument_ok _ _ _ _ _ _ _ c.kind_of.ensures (sym c.in_ok-e.was ∙ c.address.ensures.answer) (c.add_argument.ensures.used ∙ c.address.ensures.used)
           c.in_ok-add_argument.ensures.answer;
       used = refl;
       added = record {

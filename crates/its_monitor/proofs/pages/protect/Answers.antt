@@ -3,4 +3,4 @@ use Rattle.its_world.proofs.WorldLaws.{core_becomes}
 use Rattle.its_monitor.proofs.pages.protect.Goals as goal
 
 pub returns : goal.returns
-returns c = core_becomes _ _ _ _ (rw c.number.ensures.value at c.protect.ensures.marked) c.protect.ensures.reserved c.protect.ensures.frames refl
+returns c = core_becomes _ _ _ _ c.protect.ensures.marked c.protect.ensures.reserved c.protect.ensures.frames refl

@@ -6,5 +6,5 @@ use Rattle.its_world.proofs.WorldLaws.{page_becomes}
 use Rattle.its_tick.proofs.calls.reserve.Goals as goal
 
 pub returns : goal.returns
-returns c = page_becomes c.args.w.now _ c.args.slot (Some 0) (rw c.number.ensures.value at c.reserve.ensures.quarters) c.reserve.ensures.cores
-    ((rw c.number.ensures.value at c.reserve.ensures.frames) ∙ sym (frames_reserved _ 0 _ _ c.requires.none)) refl
+returns c = page_becomes c.args.w.now _ c.args.slot (Some 0) c.reserve.ensures.quarters c.reserve.ensures.cores
+    (c.reserve.ensures.frames ∙ sym (frames_reserved _ 0 _ _ c.requires.none)) refl

@@ -7,9 +7,9 @@ use Rattle.its_tick.proofs.reach.unwind_tree.Goals as goal
 pub returns-in-Some-clause-row : goal.returns-in-Some-clause-row
 returns-in-Some-clause-row c =
     tree_unwound (state_of c.unwind_below.new.w) (state_of c.args.w.now) (state_of c.calm.new.w) c.args.slot c.in-Some.superior _
-    c.unwind_below.ensures.unwinds (rw c.new.ensures at c.calm.ensures.row) (sym (rw c.number.ensures.value at c.superior-superior.ensures.value) ∙ c.in-Some.is)
+    c.unwind_below.ensures.unwinds c.calm.ensures.row (sym c.superior-superior.ensures.value ∙ c.in-Some.is)
 
 pub returns-in-Some-clause-pages : goal.returns-in-Some-clause-pages
 returns-in-Some-clause-pages c =
     tree_pages (state_of c.unwind_below.new.w) (state_of c.args.w.now) c.args.slot c.in-Some.superior _ _ _ _
-    c.unwind_below.ensures.unwinds c.unwind_below.ensures.pages (rw c.new.ensures at c.calm.ensures.pages) (sym (rw c.number.ensures.value at c.superior-superior.ensures.value) ∙ c.in-Some.is)
+    c.unwind_below.ensures.unwinds c.unwind_below.ensures.pages c.calm.ensures.pages (sym c.superior-superior.ensures.value ∙ c.in-Some.is)

@@ -4,12 +4,12 @@ use Rattle.its_tick.proofs.ticks.steps.Goals as goal
 
 pub returns-clause-state : goal.returns-clause-state
 returns-clause-state c =
-    steps_state c.args.w.now c.units_in_place.new.w c.args.slot c.units_in_place.result c.args.n c.in-Some.job.now c.units_in_place.ensures.made (sym (rw c.number.ensures.value at c.in-Some.ensures.job)) c.if-job.false
+    steps_state c.args.w.now c.units_in_place.new.w c.args.slot c.units_in_place.result c.args.n c.in-Some.job.now c.units_in_place.ensures.made (sym c.in-Some.ensures.job) c.if-job.false
     (sym c.has_frame.ensures ∙ c.if-has_frame.false)
 
 pub returns-clause-paces : goal.returns-clause-paces
 returns-clause-paces c =
-    steps_paces c.args.w.now c.units_in_place.new.w c.args.slot c.units_in_place.result c.args.n c.in-Some.job.now c.units_in_place.ensures.made (sym (rw c.number.ensures.value at c.in-Some.ensures.job)) c.if-job.false
+    steps_paces c.args.w.now c.units_in_place.new.w c.args.slot c.units_in_place.result c.args.n c.in-Some.job.now c.units_in_place.ensures.made (sym c.in-Some.ensures.job) c.if-job.false
     (sym c.has_frame.ensures ∙ c.if-has_frame.false)
 
 pub returns-clause-pages : goal.returns-clause-pages
@@ -18,14 +18,14 @@ returns-clause-pages c = steps_pages _ _ _ _ _ c.units_in_place.ensures.made
 pub returns-clause-kept : goal.returns-clause-kept
 returns-clause-kept c =
     steps_kept c.args.w.now c.units_in_place.new.w c.args.slot c.units_in_place.result c.requires.kept
-    (steps_state c.args.w.now c.units_in_place.new.w c.args.slot c.units_in_place.result c.args.n c.in-Some.job.now c.units_in_place.ensures.made (sym (rw c.number.ensures.value at c.in-Some.ensures.job)) c.if-job.false
+    (steps_state c.args.w.now c.units_in_place.new.w c.args.slot c.units_in_place.result c.args.n c.in-Some.job.now c.units_in_place.ensures.made (sym c.in-Some.ensures.job) c.if-job.false
     (sym c.has_frame.ensures ∙ c.if-has_frame.false))
-    (steps_tidy c.args.w.now c.units_in_place.new.w c.args.slot c.units_in_place.result c.args.n c.in-Some.job.now c.units_in_place.ensures.made (sym (rw c.number.ensures.value at c.in-Some.ensures.job)) c.if-job.false
+    (steps_tidy c.args.w.now c.units_in_place.new.w c.args.slot c.units_in_place.result c.args.n c.in-Some.job.now c.units_in_place.ensures.made (sym c.in-Some.ensures.job) c.if-job.false
     (sym c.has_frame.ensures ∙ c.if-has_frame.false) c.requires.kept.tidy)
 
 pub returns-clause-most : goal.returns-clause-most
 returns-clause-most c =
-    steps_most c.args.w.now c.units_in_place.new.w c.args.slot c.units_in_place.result c.args.n c.in-Some.job.now c.units_in_place.ensures.made (sym (rw c.number.ensures.value at c.in-Some.ensures.job)) c.if-job.false
+    steps_most c.args.w.now c.units_in_place.new.w c.args.slot c.units_in_place.result c.args.n c.in-Some.job.now c.units_in_place.ensures.made (sym c.in-Some.ensures.job) c.if-job.false
     (sym c.has_frame.ensures ∙ c.if-has_frame.false)
 
 -- bytes of SIOT

@@ -4,7 +4,7 @@ use Rattle.its_top.proofs.consoles.drain_bytes.Goals as goal
 
 pub loop-k-preserved : goal.loop-k-preserved
 loop-k-preserved c = record {
-  sound = c.drain.ensures.sound;
+  sound = c.drain.ensures.kept;
   few = omega (arith, c.push.ensures.len, c.loop-k.invariant.few);
   so_far = draining_some _ _ _ _ _ _ _ _ _ c.loop-k-test.true c.loop-k.invariant.so_far c.drain.ensures.done (sym c.in-Some.is ∙ c.drain.ensures.first) c.push.ensures.items;
 }

@@ -6,12 +6,12 @@ use Rattle.its_top.proofs.consoles.type_bytes.Goals as goal
 pub loop-b-preserved : goal.loop-b-preserved
 loop-b-preserved c = elim c.if-not-type_in.branch [
   | then-not-type_in w ↦ record {
-    sound = c.type_in.ensures.sound;
+    sound = c.type_in.ensures.kept;
     few = omega (arith, w.count-is, c.loop-b.invariant.few);
     so_far = typing_full _ _ _ _ _ _ _ _ _ _ c.loop-b-test.true refl c.loop-b.invariant.so_far c.type_in.ensures.done c.type_in.ensures.waits w.if-not-type_in.true w.count-is;
   }
   | else-not-type_in w ↦ record {
-    sound = c.type_in.ensures.sound;
+    sound = c.type_in.ensures.kept;
     few = omega (arith, w.count-is, c.loop-b.invariant.few);
     so_far = typing_room _ _ _ _ _ _ _ _ _ _ c.loop-b-test.true refl c.loop-b.invariant.so_far c.type_in.ensures.done c.type_in.ensures.waits w.if-not-type_in.false w.count-is;
   }

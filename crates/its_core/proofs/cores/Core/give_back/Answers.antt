@@ -23,10 +23,10 @@ push_back-requires-clause-apart c =
 pub invariant_of-self : goal.invariant_of-self
 invariant_of-self c =
     let e : slice_index_or c.self.inside.held.items c.args.slot None ≡ Some c.held_in-h.result = cc in
-    (rw (c.from.ensures, c.push_back.ensures.lists) (give_pool _ _ _ _ _ _ c.self.invariant.0 c.args.slot c.held_in-h.result c.requires.slot e), c.self.invariant.1)
+    (rw (c.index.ensures.value, c.push_back.ensures.lists) (give_pool _ _ _ _ _ _ c.self.invariant.0 c.args.slot c.held_in-h.result c.within.ensures e), c.self.invariant.1)
 
 pub returns-clause-reserved : goal.returns-clause-reserved
-returns-clause-reserved c = rw (c.from.ensures, ← c.self.view_is) (set_only _ _ _ _ _ _ c.self.invariant.0 _ c.args.slot None c.requires.slot)
+returns-clause-reserved c = rw (c.index.ensures.value, ← c.self.view_is) (set_only _ _ _ _ _ _ c.self.invariant.0 _ c.args.slot None c.within.ensures)
 
 pub returns-clause-quarters : goal.returns-clause-quarters
 returns-clause-quarters c = clear_only _ _ _ _ (returns-clause-reserved c)
@@ -38,7 +38,7 @@ returns-clause-cores c =
 pub returns-clause-frames : goal.returns-clause-frames
 returns-clause-frames c =
     let e : slice_index_or c.self.inside.held.items c.args.slot None ≡ Some c.held_in-h.result = cc in
-    rw (c.from.ensures, c.push_back.ensures.lists, ← c.self.view_is) (give_frames _ _ _ _ _ _ c.self.invariant.0 c.args.slot c.held_in-h.result e)
+    rw (c.index.ensures.value, c.push_back.ensures.lists, ← c.self.view_is) (give_frames _ _ _ _ _ _ c.self.invariant.0 c.args.slot c.held_in-h.result e)
 
 pub returns-clause-listed : goal.returns-clause-listed
 returns-clause-listed c = listed_seen _ _ _ _ _ _ (invariant_of-self c).0

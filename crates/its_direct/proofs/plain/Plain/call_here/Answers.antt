@@ -10,6 +10,6 @@ pub ask-requires : goal.ask-requires
 ask-requires c =
     record {
       fits = site_here c.args.self.now c.args.slot c.in-Some.job.now c.near_site.result
-          (placed_at c.args.self.now c.args.slot (job_at c.args.self.now.jobs c.args.slot) c.in-Some.job.now refl (sym (rw c.number.ensures.value at c.job.ensures.job) ∙ ap option_copied c.in-Some.is) c.requires.kept.tidy)
+          (placed_at c.args.self.now c.args.slot (job_at c.args.self.now.jobs c.args.slot) c.in-Some.job.now refl (sym c.job.ensures.job ∙ ap option_copied c.in-Some.is) c.requires.kept.tidy)
           (c.in-Some-call_at_hand.ensures ∙ ap Called (sym c.near_site.ensures));
     }

@@ -5,10 +5,10 @@ use Rattle.its_direct.proofs.plain.Plain.unmap.Goals as goal
 
 pub returns-clause-row : goal.returns-clause-row
 returns-clause-row c =
-    let b = core_becomes c.args.self.now _ _ _ (rw c.number.ensures.value at c.unmap.ensures.unmapped) c.unmap.ensures.reserved refl (record { is = refl }) in
+    let b = core_becomes c.args.self.now _ _ _ c.unmap.ensures.unmapped c.unmap.ensures.reserved refl (record { is = refl }) in
     page_dropped _ _ _ _ c.requires.can b
 
 pub returns-clause-tidy : goal.returns-clause-tidy
 returns-clause-tidy c =
-    let b = core_becomes c.args.self.now _ _ _ (rw c.number.ensures.value at c.unmap.ensures.unmapped) c.unmap.ensures.reserved refl (record { is = refl }) in
+    let b = core_becomes c.args.self.now _ _ _ c.unmap.ensures.unmapped c.unmap.ensures.reserved refl (record { is = refl }) in
     page_tidied _ _ _ c.args.page _ c.requires.can b c.requires.tidy

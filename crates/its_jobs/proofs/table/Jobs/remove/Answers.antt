@@ -3,4 +3,6 @@ use Rattle.its_jobs.proofs.TableLaws.{removed}
 use Rattle.its_jobs.proofs.table.Jobs.remove.Goals as goal
 
 pub invariant_of-self : goal.invariant_of-self
-invariant_of-self c = record { tree = removed _ _ _ c.self.invariant.tree c.requires.slot (rw (← c.self.view_is) at c.requires.leaf); few = c.self.invariant.few }
+invariant_of-self c =
+    let within = (rw c.index-place.ensures.value at c.index-place.ensures.below) in
+    rw c.index-place.ensures.value (record { tree = removed _ _ _ c.self.invariant.tree within (rw (← c.self.view_is) at c.requires.leaf); few = c.self.invariant.few })

@@ -5,4 +5,4 @@ pub loop-c-init : goal.loop-c-init
 loop-c-init c = settled_start c.args.self.now
 
 pub loop-c-preserved : goal.loop-c-preserved
-loop-c-preserved c = settled_more c.args.self.now c.loop-c.self c.resettle.new.self c.loop-c.c c.loop-c.invariant c.resettle.ensures
+loop-c-preserved c = settled_more c.args.self.now c.loop-c.self c.resettle.new.self c.loop-c.c c.loop-c.invariant (rw c.new.ensures at c.resettle.ensures)
