@@ -15,8 +15,6 @@ mod party;
 mod returning;
 mod setting;
 mod sleeping;
-#[cfg(test)]
-mod tests;
 mod transfer;
 mod variables;
 

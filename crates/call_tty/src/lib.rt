@@ -7,8 +7,6 @@
 
 mod consoles;
 mod open;
-#[cfg(test)]
-mod tests;
 mod transfer;
 mod waiting;
 

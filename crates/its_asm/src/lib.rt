@@ -20,8 +20,6 @@ mod reason;
 mod single;
 mod statements;
 mod symbols;
-#[cfg(test)]
-mod tests;
 mod words;
 
 pub use assembly::{Image, assemble};

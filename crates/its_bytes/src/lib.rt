@@ -7,9 +7,6 @@
 ghost use Rattle.std.specs.Prelude.{◌≡◌, ◌<◌, ◌≤◌, ◌+◌, ◌*◌, ◌/◌, ◌%◌, ◌^◌, IsTrue};
 ghost use Rattle.its_word.specs.Byte.{deposit_of, has_size, increment_of, load_of, position, size};
 
-#[cfg(test)]
-mod tests;
-
 use its_word::Word;
 
 /// P, how many bits are at the right of the byte.

@@ -15,9 +15,6 @@ ghost use Rattle.its_commit.specs.Pages.{pages_swept};
 ghost use Rattle.its_commit.specs.Removal.{Closes, Empties, Sweeps, Swept};
 ghost use Rattle.its_world.specs.World.{state_of, in_raw, with_frames, CoreBecomes};
 
-#[cfg(test)]
-mod tests;
-
 use its_machine::{is_removed, leave_each, pass_on};
 use its_word::{SLOTS, Slot};
 use its_world::{World, forget_removed, within};

@@ -18,8 +18,6 @@
 mod address;
 mod cores;
 mod stores;
-#[cfg(test)]
-mod tests;
 
 pub use cores::{Core, Full};
 pub use its_word::{Address, Fault, NoAccess, NoMemory};

@@ -17,8 +17,6 @@ mod blocks;
 mod directory;
 mod entry;
 mod files;
-#[cfg(test)]
-mod tests;
 
 pub use blocks::Full;
 pub use entry::{CloseFault, Entry, Locked, Mark, Parts, RenameFault};

@@ -31,8 +31,6 @@ mod pages;
 mod peeking;
 mod registers;
 mod symbols;
-#[cfg(test)]
-mod tests;
 mod typing;
 mod words;
 

@@ -15,8 +15,6 @@ mod print;
 mod put;
 mod read;
 mod rows;
-#[cfg(test)]
-mod tests;
 
 pub use generator::generated;
 pub use print::print_event;

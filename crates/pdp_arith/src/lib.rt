@@ -9,8 +9,6 @@ mod compare;
 mod product;
 mod quotient;
 mod sums;
-#[cfg(test)]
-mod tests;
 
 pub use compare::compares;
 pub use product::{imul, mul};

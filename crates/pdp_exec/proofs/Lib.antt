@@ -2,6 +2,5 @@ pub mod ByteLaws
 pub mod ChainLaws
 pub mod MakingLaws
 pub mod ReadLaws
-pub mod TestLaws
 pub mod SeriesLaws
 pub mod NearLaws

@@ -19,8 +19,6 @@ mod plans;
 mod reads;
 mod series;
 mod stores;
-#[cfg(test)]
-mod tests;
 mod units;
 
 pub use near::{Near, call_at_hand};

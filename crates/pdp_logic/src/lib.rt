@@ -11,8 +11,6 @@ mod count;
 mod halves;
 mod masked;
 mod shifts;
-#[cfg(test)]
-mod tests;
 
 pub use arithmetic::{ash, ashc};
 pub use booleans::boolean;

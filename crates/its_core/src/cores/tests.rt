@@ -1,11 +1,25 @@
-ghost use Rattle.std.specs.Prelude.{◌≡◌, ◌≢◌, ◌<◌, ℕ, None};
+ghost use Rattle.std.specs.Prelude.{◌≡◌, ◌≢◌, ◌<◌, ℕ, Some, None};
 ghost use Rattle.its_core.specs.Frames.{all_frames};
-ghost use Rattle.its_core.specs.Cores.{reserved_at};
+ghost use Rattle.its_core.specs.Cores.{core_at, reserved_at, clear_at};
 
 use super::*;
-use crate::tests::clear_page;
 use its_word::Slot;
 use std::test::Fail;
+
+/// Reserves a page for a slot, and clears it.
+#[tactic(auto, using(crate::proofs::CoresLaws::same_core_at))]
+fn clear_page(core: &mut Core, slot: Slot)
+    requires none { reserved_at core.old slot ≡ None }
+    ensures clear { clear_at core.new slot ≡ Some 4 }
+    ensures cores { (k : ℕ) → core_at core.new k ≡ core_at core.old k }
+    ensures others { (k : ℕ) → k ≢ slot → reserved_at core.new k ≡ reserved_at core.old k }
+{
+    core.reserve(slot);
+    core.clear_quarter(slot, 0);
+    core.clear_quarter(slot, 1);
+    core.clear_quarter(slot, 2);
+    core.clear_quarter(slot, 3);
+}
 
 /// The page frame after a page frame in its list; None if it ends a list or is in none.
 fn behind(core: &Core, frame: u32) -> Option<u32>
