@@ -2,5 +2,4 @@ pub mod ReachLaws
 pub mod RawLaws
 pub mod ChannelLaws
 pub mod StopLaws
-pub mod ApartLaws
 pub mod PartLaws

@@ -1,6 +1,6 @@
 -- A part of SIOT that moves a byte, or why it moves none, as decisions.
 -- No promise rests on this.
-use Rattle.std.specs.Prelude.{◌==◌, ◌&&◌, ◌||◌, ℕ, Bool, false, not, Option, Some, None, Result, Ok, Err, List, [], ◌∷◌}
+use Rattle.std.specs.Prelude.{ℕ, Option, Some, None, Result, Ok, Err, [], ◌∷◌}
 use Rattle.its_records.specs.declared.calls.Ask.{Ask}
 use Rattle.its_records.specs.declared.jobs.Job.{Job}
 use Rattle.its_frame.specs.declared.change.Change.{Change}
@@ -46,13 +46,3 @@ part_in (Err s) = None
 abbrev pub stop_in : Job → Ask → Result ℕ Stop → Option Decision
 stop_in j a (Ok n) = None
 stop_in j a (Err s) = Some (stop_of j a s)
-
--- whether a place is one of three
-abbrev pub is_met : ℕ → ℕ → ℕ → ℕ → Bool
-is_met p k n q = ((q == p) || (q == k)) || (q == n)
-
--- two or three places that differ from each other and from another one
-abbrev pub are_unlike : List ℕ → ℕ → Bool
-are_unlike (a ∷ b ∷ []) n = (not (a == b) && not (a == n)) && not (b == n)
-are_unlike (a ∷ b ∷ c ∷ []) n = ((((not (a == b) && not (a == c)) && not (b == c)) && not (a == n)) && not (b == n)) && not (c == n)
-are_unlike _ n = false

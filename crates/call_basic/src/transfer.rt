@@ -15,12 +15,13 @@ ghost use Rattle.its_machine.specs.Called.{bar_of, first_of};
 ghost use Rattle.call_basic.specs.Parts.{change_of, going, part_in, part_of, stop_in, stop_of};
 ghost use Rattle.call_basic.specs.Seen.{seen_by};
 
-use super::arguments::{are_apart, in_footprint, input, place_of_input};
+use super::arguments::{in_footprint, input, place_of_input};
 use super::ends::{exit_after, fails, faults, finishes};
 use super::sleeping::{is_negative, is_read_only, is_shared_place};
 use arrayvec::ArrayVec;
 use its_bytes::{has_size, increment};
 use its_frame::{Change, Decision, Held, Store, Wait, error};
+use its_machine::are_apart;
 use its_records::{Ask, Job};
 use its_word::{Fault, Slot, Word};
 use its_world::World;

@@ -1,4 +1,3 @@
-pub mod ApartLaws
 pub mod SiotLaws
 pub mod FileLaws
 pub mod InferiorLaws

@@ -5,4 +5,3 @@ pub mod Directory
 pub mod Targets
 pub mod Reach
 pub mod Moving
-pub mod Apart

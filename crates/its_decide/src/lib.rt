@@ -6,7 +6,6 @@
 //! (`Fits`), and `disturbed_by` says whom its commit disturbs: at most one job, or those of whom `disturbs` asks slot by slot.
 #![tactic(auto)]
 
-mod apart;
 mod arguments;
 mod basic;
 mod caller;

@@ -11,11 +11,11 @@ ghost use Rattle.its_machine.specs.Called.{bar_of, first_of};
 ghost use Rattle.its_decide.specs.Called.{looks};
 ghost use Rattle.its_decide.specs.Moving.{halted, halted_by};
 
-use super::apart::are_apart;
 use super::caller::Caller;
 use super::moving::Halt;
 use its_bytes::{has_size, increment};
 use its_frame::error;
+use its_machine::are_apart;
 use its_word::{Fault, Word};
 
 /// Bits 13 to 17 of a byte pointer, I and X, are the low five bits of its left half.

@@ -26,3 +26,4 @@ pub mod OpenLaws
 pub mod CoreLaws
 pub mod DirLaws
 pub mod VersionLaws
+pub mod ApartLaws

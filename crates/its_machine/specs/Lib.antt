@@ -4,3 +4,4 @@ pub mod Can
 pub mod Called
 pub mod Refusals
 pub mod Channels
+pub mod Apart

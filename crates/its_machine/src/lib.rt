@@ -8,6 +8,7 @@
 //!   symbol that STATE shows.
 //! - What STATE shows of a job (`shown`), and the value of a variable (`variable_of`), are the definition's; so are ALR and the next time
 //!   of an alarm that goes (`with_alr`, `time_after`), and channels and holders after a removal (`leave_each`, `pass_on`).
+//! - The words that SIOT reads are apart if one look at all of them says so (`are_apart`).
 //! - What a call decides is possible (`CallCanLaws`).
 //! - A delivery and a unit do the same to registers with and without their channels (`delivered_bare`, `unit_bare`).
 //! - A channel is on a file or a draft that exists (`reading_file`, `writing_draft`), a file is the one with its names
@@ -15,12 +16,14 @@
 #![tactic(auto)]
 
 mod alarms;
+mod apart;
 mod opening;
 mod readings;
 mod removal;
 mod symbols;
 
 pub use alarms::{time_after, with_alr};
+pub use apart::are_apart;
 pub use opening::{no_alarms, no_symbols, quiet_consoles};
 pub use readings::{shown, variable_of};
 pub use removal::{is_removed, leave_each, pass_on};

@@ -5,7 +5,7 @@ use Rattle.std.proofs.Common.{sym, ◌∙◌, ap}
 use Rattle.std.proofs.lemmas.Bool.{eq-eqb, eqb-true}
 use Rattle.its_records.specs.declared.calls.Ask.{Ask}
 use Rattle.its_plain.specs.Footprint.{among, in_footprint, is_shared, times}
-use Rattle.call_basic.specs.Parts.{are_unlike, is_met}
+use Rattle.its_machine.specs.Apart.{are_unlike, is_met}
 
 neither : (a b : Bool) → a ≡ false → b ≡ false → (a || b) ≡ false
 neither a b e f = ap (λ x. x || b) e ∙ f
