@@ -6,9 +6,6 @@ ghost use Rattle.its_core.specs.Frames.{all_frames, free, numbers, row, emptied,
 ghost use Rattle.its_links.specs.Lists.{no_lists, first};
 ghost use Rattle.its_core.specs.Cores.{core_at, reserved_at, clear_at, clear_with, cleared, zeroed, mark_of, IsEmpty};
 
-#[cfg(test)]
-mod tests;
-
 use its_links::Links;
 use its_word::{
     ADDRESSES, MAPPED_PAGES, NoAccess, NoMemory, ReadyWords, SLOTS, Slot, Word, filled,

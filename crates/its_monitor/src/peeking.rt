@@ -9,9 +9,6 @@ ghost use Rattle.its_world.specs.World.{state_of, plain_of};
 ghost use Rattle.its_monitor.specs.Kept.{Kept};
 ghost use Rattle.its_monitor.specs.Peeking.{Shows};
 
-#[cfg(test)]
-mod tests;
-
 use super::monitor::Monitor;
 use its_calls::View;
 use its_frame::CallName;
