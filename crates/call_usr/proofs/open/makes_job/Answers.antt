@@ -10,7 +10,7 @@ use Rattle.call_usr.proofs.open.makes_job.Goals as goal
 pub returns-in-Some : goal.returns-in-Some
 unfolding view state_of
 returns-in-Some c =
-    c.made.ensures
+    (rw c.number.ensures.value at c.made.ensures)
     ∙ ap (makes_job (seen_by c.args.w.now c.args.slot c.args.job.now c.args.ask.now) c.args.ask.now c.args.n c.args.u c.args.x)
     (c.in-Some.ensures.slot ∙ sym (outlines_free c.args.w.now c.args.slot c.args.job.now c.args.ask.now))
 

@@ -23,5 +23,5 @@ returns-in-None c =
     let a = c.args.ask.now in
     let peeks = siot_peeks v a (next_pointer (input a 1)) (input a 2) (input a 0) c.args.at in
     c.siot_peeks.ensures
-    ∙ ap peeks (c.word.ensures.word ∙ ap (λ x. word_at x c.args.at) (sym (other_here c.args.w.now c.args.slot c.args.job.now a c.args.inferior c.requires.targets)))
+    ∙ ap peeks ((rw c.new.ensures at c.word.ensures.word) ∙ ap (λ x. word_at x c.args.at) (sym (other_here c.args.w.now c.args.slot c.args.job.now a c.args.inferior c.requires.targets)))
     ∙ siot_goes v a true (at_end c.args.at) c.at_end.result (peeks (word_at (other_core v) c.args.at)) c.at_end.ensures (sym c.stopped.ensures ∙ c.in-None.is)
