@@ -229,6 +229,8 @@ class Measures(unittest.TestCase):
         with tempfile.TemporaryDirectory() as folder:
             ended = MEASURE.run(script(folder, "cat; exit 5"), b"CLOCK 1\n")
             self.assertEqual((ended.status, ended.output), (5, b"CLOCK 1\n"))
+            self.assertGreaterEqual(ended.whole, ended.seconds)
+            self.assertEqual(MEASURE.run(script(folder, "echo $1"), b"", command="verify").output, b"verify\n")
             self.assertEqual(MEASURE.run(script(folder, "kill -9 $$"), b"").status, -9)
             refused = MEASURE.with_data(script(folder, "ulimit -d"), b"", 12288)
             self.assertEqual(refused.output, b"12288\n")
@@ -237,21 +239,33 @@ class Measures(unittest.TestCase):
     def test_limits(self):
         def rows(**changed):
             """Whether each number is within its limit."""
-            found = dict(halves=lambda program: (1.0, 1.3), resident=lambda *words: 6144, looks=lambda program: (2.0, 1.0), with_data=runs)
+            found = dict(halves=lambda program: (1.0, 1.3), resident=lambda *words: 6144, looks=lambda program: (2.0, 1.0), with_data=runs,
+                         judging=lambda program: [])
             with mock.patch.multiple(MEASURE, **{**found, **changed}):
                 return [within for _, within in MEASURE.measured("its")]
 
         def runs(program, session, kilobytes):
             """A run with so much memory."""
             wanted = text_of("sessions/first.out").encode()
-            return MEASURE.Run(0, wanted, 0.0) if kilobytes >= MEASURE.ENOUGH else MEASURE.Run(5, b"", 0.0)
+            return MEASURE.Run(0, wanted, 0.0, 0.0) if kilobytes >= MEASURE.ENOUGH else MEASURE.Run(5, b"", 0.0, 0.0)
 
         self.assertEqual(rows(), [True] * 6)
         self.assertEqual(rows(halves=lambda program: (1.0, 1.31)), [False] + [True] * 5)
         self.assertEqual(rows(looks=lambda program: (2.1, 1.0)), [True, False] + [True] * 4)
         self.assertEqual(rows(resident=lambda *words: 6145), [True] * 3 + [False] + [True] * 2)
-        self.assertEqual(rows(with_data=lambda *words: MEASURE.Run(5, b"", 0.0)), [True] * 4 + [False, True])
-        self.assertEqual(rows(with_data=lambda *words: MEASURE.Run(0, b"", 0.0)), [True] * 4 + [False] * 2)
+        self.assertEqual(rows(with_data=lambda *words: MEASURE.Run(5, b"", 0.0, 0.0)), [True] * 4 + [False, True])
+        self.assertEqual(rows(with_data=lambda *words: MEASURE.Run(0, b"", 0.0, 0.0)), [True] * 4 + [False] * 2)
+
+    def test_many_lines(self):
+        for name, session in MEASURE.many_lines():
+            self.assertNotIn("", {line.kind for line in lines_of(session[:4000].decode().rsplit("\n", 1)[0])[:-1]}, name)
+        for taken, within in (((1.0, 1.2), True), ((1.0, 1.21), False)):
+            with mock.patch.multiple(MEASURE, many_lines=lambda: [("a", b"")], judged=lambda program, session: taken):
+                self.assertEqual([ok for _, ok in MEASURE.judging("its")], [within])
+        with tempfile.TemporaryDirectory() as folder:
+            self.assertEqual(len(MEASURE.judged(script(folder, "cat"), b"END\n")), 2)
+            with self.assertRaisesRegex(Wrong, "run ends with status 0, and verify with 2"):
+                MEASURE.judged(script(folder, "cat >/dev/null; [ $1 = run ] || { echo NO 1; exit 2; }"), b"END\n")
 
     def test_status(self):
         for within, status, written in ((True, 0, "ok    a\n"), (False, 1, "PAST  a\n")):
