@@ -29,7 +29,7 @@ impl Plain {
         ensures same { OnErr result (self.new ≡ self.old) }
         ensures tidy { Tidy self.new }
     {
-        match self.make(u, j, ConsoleNumber::numbered(console)) {
+        match self.make(u, j, ConsoleNumber::numbered(&console)) {
             Ok(slot) => {
                 within(slot);
                 self.hold_console(slot, console);

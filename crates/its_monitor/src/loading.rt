@@ -33,7 +33,7 @@ impl Monitor {
         ensures kept { Kept self.new.world }
     {
         let world = &mut self.world;
-        match make(world, u, j, ConsoleNumber::numbered(console)) {
+        match make(world, u, j, ConsoleNumber::numbered(&console)) {
             Ok(slot) => {
                 hold_console(world, slot, console);
                 Ok(slot)

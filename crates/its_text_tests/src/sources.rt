@@ -214,7 +214,7 @@ fn shown(alloc: Global, text: &[u8]) -> Result<String, Fail> {
     let (u, j, start) = (image.u.value(), image.j.value(), image.start);
     let mut out = format!(in alloc;
         "{u:o} {j:o} {:?} {start:o}",
-        ConsoleNumber::numbered(image.console)
+        ConsoleNumber::numbered(&image.console)
     )?;
     for k in 0..9 {
         if let Some((a, w)) = image.words.at(k) {

@@ -58,8 +58,8 @@ impl ConsoleNumber {
     }
 
     /// A console as a number, if there is one.
-    pub fn numbered(console: Option<ConsoleNumber>) -> Option<u8>
-        ensures value { result ≡ console }
+    pub fn numbered(console: &Option<ConsoleNumber>) -> Option<u8>
+        ensures value { result ≡ console.now }
         ensures below { IfSome result (λ c. c < consoles) }
     {
         match console {
