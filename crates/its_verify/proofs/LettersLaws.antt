@@ -1,20 +1,16 @@
 -- The letters of a line, one after another.
-use Rattle.std.proofs.Common.{◌≡◌, ◌<◌, ◌≤◌, ◌+◌, ◌-◌, ℕ, zero, suc, Bool, true, false, Some, None, List, [], ◌∷◌, ◌++◌, length, replicate, drop, get_or, refl, add-one, sym, ap, subst, ◌∙◌, arith}
-use Rattle.std.proofs.Math.Seq.{drop-cons}
-use Rattle.std.proofs.Math.ListN.{drop_of_length-le}
+use Rattle.std.proofs.Common.{◌≡◌, ◌<◌, ◌≤◌, ◌+◌, ◌-◌, ℕ, zero, suc, Bool, true, false, Some, None, List, ◌∷◌, ◌++◌, replicate, refl, sym, ap, subst, ◌∙◌, arith}
 use Rattle.std.proofs.lemmas.Bool.{false≢true}
 use Rattle.std.specs.Prelude.{option_and_then}
 use Rattle.its_records.specs.declared.calls.Pace.{Pace}
 use Rattle.its_records.specs.declared.calls.Pace.TheVariants.{Wait, Off}
-use Rattle.its_print.specs.declared.runs.Run.{Run}
-use Rattle.its_print.specs.Runs.{paces_in}
 use Rattle.its_plain.specs.Licence.{Dots}
 use Rattle.its_plain.specs.Machine.{Machine}
 use Rattle.its_plain.specs.Operator.{Block}
 use Rattle.its_plain.specs.Transcript.{after_letter}
 use Rattle.its_direct.specs.Plain.{machine_of}
 use Rattle.its_verify.specs.Letters.{led_to, paced, ticks_in}
-use Rattle.its_verify.specs.JudgeState.{Again, AllLed, walk_of, Sure, Led, LedIf, RunLed, RunOn, RunsLed, LeadsOn}
+use Rattle.its_verify.specs.JudgeState.{Again, AllLed, walk_of, Sure, Led, LedIf, RunLed, RunOn, RunsLed}
 use Rattle.its_verify.specs.declared.judge.Judge.{Judge}
 
 -- one letter
@@ -81,30 +77,6 @@ waits_again j i k p is so = all_again j i k p (subst (λ (q : Pace). Led j j i q
 
 pub off_again : (j : Judge) (i k : ℕ) (p : Pace) → p ≡ Off → Again p j i → RunLed true j j i (replicate k p)
 off_again j i k p is so = all_again j i k p (subst (λ (q : Pace). Led j j i q) (sym is) (subst (λ (q : Pace). Again q j i) is so))
-
--- runs
-pub runs_start : (old : Judge) (i k : ℕ) (rs : List Run) → k ≡ 0 → LeadsOn old old i (paces_in rs) (paces_in (drop k rs))
-runs_start old i k rs none b n = ap (λ (j : ℕ). paced (walk_of old b n) i (paces_in (drop j rs))) (sym none)
-
-run_at : (rs : List Run) (k : ℕ) (d : Run) → k < length rs → paces_in (drop k rs) ≡ ((get_or rs k d).pace ∷ replicate (get_or rs k d).more (get_or rs k d).pace) ++ paces_in (drop (k + 1) rs)
-run_at rs k d below = rw (drop-cons rs k d below, add-one k) refl
-
-pub runs_on : (old now new : Judge) (i k : ℕ) (rs : List Run) (d : Run) (all : List Pace) (licensed : Bool) → k < length rs → LeadsOn old now i all (paces_in (drop k rs)) → licensed ≡ true
-    → RunLed licensed now new i ((get_or rs k d).pace ∷ replicate (get_or rs k d).more (get_or rs k d).pace) → LeadsOn old new i all (paces_in (drop (k + 1) rs))
-runs_on old now new i k rs d all true below so is led b n =
-    so b n ∙ ap (paced (walk_of now b n) i) (run_at rs k d below) ∙ led b n (paces_in (drop (k + 1) rs))
-runs_on old now new i k rs d all false below so is led b n = absurd (false≢true is)
-
-pub runs_stop : (old now new : Judge) (i k : ℕ) (rs : List Run) (d : Run) (all : List Pace) (licensed : Bool) → k < length rs → LeadsOn old now i all (paces_in (drop k rs)) → licensed ≡ false
-    → RunLed licensed now new i ((get_or rs k d).pace ∷ replicate (get_or rs k d).more (get_or rs k d).pace) → RunsLed false old new i all
-runs_stop old now new i k rs d all false below so is led b n =
-    so b n ∙ ap (paced (walk_of now b n) i) (run_at rs k d below) ∙ led b n (paces_in (drop (k + 1) rs))
-runs_stop old now new i k rs d all true below so is led b n = absurd (false≢true (sym is))
-
-pub runs_end : (old now : Judge) (i k : ℕ) (rs : List Run) (all : List Pace) → length rs ≤ k → LeadsOn old now i all (paces_in (drop k rs)) → RunsLed true old now i all
-runs_end old now i k rs all past so b n =
-    let none : drop k rs ≡ [] = drop_of_length-le rs past in
-    so b n ∙ ap (λ (qs : List Run). paced (walk_of now b n) i (paces_in qs)) none
 
 -- the letters of a line
 pub all_led : (licensed : Bool) (old new : Judge) (i k : ℕ) (text : List ℕ) (ps : List Pace) → ticks_in i k text ≡ Some ps → RunsLed licensed old new i ps

@@ -29,3 +29,4 @@ pub mod VerifyLaws
 mod Examples
 pub mod SeriesLaws
 pub mod StarsLaws
+pub mod GatheredLaws

@@ -14,3 +14,4 @@ pub mod Verifier
 pub mod Showing
 pub mod Going
 pub mod Finds
+pub mod Gathered

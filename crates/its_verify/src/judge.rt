@@ -11,6 +11,7 @@ ghost use Rattle.its_plain.specs.Turns.{is_running, runs, turn_after};
 ghost use Rattle.its_robin.specs.Robin.{first_running};
 ghost use Rattle.its_verify.specs.JudgeState.{Again, AllLed, dots_of, forgotten, Forgets, LedIf, RunLed, RunsLed, Sure};
 
+use super::gathered::Gathered;
 use super::room::Room;
 use super::ticks::read_ticks;
 use its_direct::{Answer, NoMemory, Plain, Spot};
@@ -20,7 +21,7 @@ use its_word::{SLOTS, Slot};
 use std::alloc::Global;
 
 /// No more `.` than this come in a row.
-const MOST_DOTS: u8 = 16;
+pub(crate) const MOST_DOTS: u8 = 16;
 
 /// The plain machine as the lines of a session and the letters of a transcript lead it; for each slot how many `.` came since its last
 /// `*`, its last disturbance or its making; and whether a letter came that was not licensed.
@@ -101,7 +102,7 @@ impl Judge {
     }
 
     /// Whether the letters of some runs of a slot are licensed, each in its turn.
-    #[tactic(auto, using(crate::proofs::LettersLaws::runs_start, crate::proofs::LettersLaws::runs_on, crate::proofs::LettersLaws::runs_stop, crate::proofs::LettersLaws::runs_end))]
+    #[tactic(auto, using(crate::proofs::GatheredLaws::runs_start, crate::proofs::GatheredLaws::runs_on, crate::proofs::GatheredLaws::runs_stop, crate::proofs::GatheredLaws::runs_end))]
     pub fn runs_licensed(&mut self, slot: Slot, runs: &[Run]) -> bool
         requires going { self.old.ended ≡ false }
         requires outside { self.old.plain.place ≡ Spot.Plain }
@@ -111,10 +112,13 @@ impl Judge {
         ensures sure { result ≡ true → Sure self.new }
         ensures place { self.new.plain.place ≡ self.old.plain.place }
     {
-        for run in runs {
-            if !self.run_led(slot, *run) {
+        let mut rest = runs;
+        while let Some((first, behind)) = rest.split_first() {
+            let (gathered, left) = Gathered::with_behind(*first, behind);
+            if !self.gathered_led(slot, &gathered) {
                 return false;
             }
+            rest = left;
         }
         true
     }

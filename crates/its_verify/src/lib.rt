@@ -19,6 +19,7 @@
 //!   except for want of memory and faults of the source).
 #![tactic(auto)]
 
+mod gathered;
 mod judge;
 mod keeping;
 mod outcome;

@@ -1,0 +1,120 @@
+//! Letters of a slot that are led together: runs of `*`, without the `.` between them. Behind a `*` up to 16 `.` are licensed if one more `*`
+//! is, and that one sets their count to 0.
+ghost use Rattle.std.specs.Prelude.{◌≡◌, ◌≤◌, length, true, false, IfSome};
+
+use super::judge::{Judge, MOST_DOTS};
+use its_direct::Spot;
+use its_print::Run;
+use its_records::Pace;
+use its_word::Slot;
+
+/// Letters that are not led yet: a run, and so many `.` behind it.
+#[derive(Drop)]
+pub(crate) struct Gathered {
+    pub run: Run,
+    pub dots: u32,
+    ghost few: { dots ≤ 16 },
+}
+
+impl Gathered {
+    ghost use Rattle.its_verify.specs.Gathered.{Begins, Gathers};
+
+    /// A run, and so many `.` behind it.
+    fn new(run: Run, dots: u32) -> Gathered
+        requires few { dots ≤ 16 }
+        ensures run { result.run ≡ run }
+        ensures dots { result.dots ≡ dots }
+    {
+        Gathered { run, dots }
+    }
+
+    /// The letters of a run and of those behind it with which it may be led, and the runs that are left.
+    #[tactic(auto, using(crate::proofs::GatheredLaws::begins_first, crate::proofs::GatheredLaws::begins_more))]
+    pub(crate) fn with_behind(first: Run, behind: &[Run]) -> (Gathered, &[Run])
+        ensures begins { Begins first behind.now result.0 result.1.now }
+        ensures fewer { length result.1.now ≤ length behind.now }
+    {
+        let mut gathered = Gathered::new(first, 0);
+        let mut rest = behind;
+        while let Some((run, after)) = rest.split_first() {
+            let Some(more) = gathered.with(*run) else {
+                return (gathered, rest);
+            };
+            gathered = more;
+            rest = after;
+        }
+        (gathered, rest)
+    }
+
+    /// These letters and a run behind them, if that may be led with them: it is of `.` or of `*`, and these begin with `*`.
+    fn with(&self, run: Run) -> Option<Gathered>
+        ensures { IfSome result (Gathers self.now run) }
+    {
+        match (self.run.pace, run.pace) {
+            (Pace::Step, Pace::Step) => self.with_stars(run),
+            (Pace::Step, Pace::Work) => self.with_dots(run),
+            _ => None,
+        }
+    }
+
+    /// The same of a run of `*`: the `.` before it are left out.
+    #[tactic(auto, using(crate::proofs::GatheredLaws::stars_gathered))]
+    fn with_stars(&self, run: Run) -> Option<Gathered>
+        requires first { self.now.run.pace ≡ Pace.Step }
+        requires stars { run.pace ≡ Pace.Step }
+        ensures { IfSome result (Gathers self.now run) }
+    {
+        let more = self.run.more.checked_add(run.more)?.checked_add(1)?;
+        Some(Gathered::new(
+            Run {
+                pace: Pace::Step,
+                more,
+            },
+            0,
+        ))
+    }
+
+    /// The same of a run of `.`: there may be as many as are licensed in a row.
+    #[tactic(auto, using(crate::proofs::GatheredLaws::dots_gathered))]
+    fn with_dots(&self, run: Run) -> Option<Gathered>
+        requires dots { run.pace ≡ Pace.Work }
+        ensures { IfSome result (Gathers self.now run) }
+    {
+        let dots = self.dots.checked_add(run.more)?.checked_add(1)?;
+        if dots > u32::from(MOST_DOTS) {
+            return None;
+        }
+        Some(Gathered::new(self.run, dots))
+    }
+}
+
+impl Judge {
+    ghost use Rattle.its_verify.specs.Gathered.{letters_of};
+    ghost use Rattle.its_verify.specs.JudgeState.{RunLed, Sure};
+
+    /// Whether the letters that were gathered of a slot are licensed, each in its turn.
+    #[tactic(auto, using(crate::proofs::GatheredLaws::run_alone, crate::proofs::GatheredLaws::run_unled, crate::proofs::GatheredLaws::dots_then))]
+    pub(crate) fn gathered_led(&mut self, slot: Slot, gathered: &Gathered) -> bool
+        requires going { self.old.ended ≡ false }
+        requires outside { self.old.plain.place ≡ Spot.Plain }
+        requires sure { Sure self.old }
+        ensures led { RunLed result self.old self.new slot (letters_of gathered.now) }
+        ensures ended { result ≡ true → self.new.ended ≡ false }
+        ensures sure { result ≡ true → Sure self.new }
+        ensures place { self.new.plain.place ≡ self.old.plain.place }
+    {
+        if !self.run_led(slot, gathered.run) {
+            return false;
+        }
+        if gathered.dots == 0 {
+            return true;
+        }
+        self.run_licensed(
+            slot,
+            Run {
+                pace: Pace::Work,
+                more: gathered.dots - 1,
+            },
+        )
+    }
+}
