@@ -1,19 +1,20 @@
 -- What a call sees of files and of the channels on them, by their numbers.
-use Rattle.std.specs.Prelude.{◌≡◌, ◌+◌, ℕ, true, is_some, length}
-use Rattle.std.proofs.Common.{sym, ◌∙◌, ap, arith}
+use Rattle.std.specs.Prelude.{◌≡◌, ◌+◌, ℕ, Bool, true, false, Option, Some, None, length, refl}
+use Rattle.std.proofs.Common.{sym, ◌∙◌, arith}
 use Rattle.its_records.specs.declared.jobs.Channel.TheVariants.{Reading, Writing}
 use Rattle.its_files.specs.Blocks.{blocks, free_blocks, is_full, blocks_used}
-use Rattle.its_files.specs.Files.{Store, IsStore, directory, entry_at, is_file, is_draft, words_at}
-use Rattle.its_files.proofs.EntryLaws.{file_stands}
-use Rattle.its_plain.specs.CallFile.{channels_in, is_full as has_no_room, reads}
+use Rattle.its_files.specs.Files.{Store, IsStore, directory, entry_at, found, is_file, is_draft, words_at}
+use Rattle.its_plain.specs.CallFile.{channels_in, is_full as has_no_room, is_read}
 use Rattle.its_plain.specs.Machine.{Names}
 use Rattle.its_plain.specs.View.{view}
 use Rattle.its_machine.specs.Across.{channel_at}
 use Rattle.its_machine.specs.Parts.{chan_of}
 use Rattle.its_machine.proofs.RoomLaws.{full_on}
+use Rattle.its_machine.proofs.StandLaws.{read_is, reader_found}
 use Rattle.its_machine.proofs.StandLaws as stands
 use Rattle.its_machine.specs.Called.{channel_under}
 use Rattle.its_decide.specs.Called.{looks}
+use Rattle.its_decide.specs.Directory.{has_readers}
 use Rattle.its_decide.specs.Fits.{SeenFits}
 use Rattle.its_decide.specs.declared.caller.Caller.{Caller}
 use Rattle.its_machine.proofs.NumberLaws.{held, reading_number, writing_number}
@@ -27,11 +28,17 @@ module _ (c : Caller) where
   unfolding view
   seen_channel = chan_seen files c.seen.now.core.now c.seen.now.jobs.now c.seen.now.alarms.now.items
 
-  pub seen_reads : (names : Names) (k n : ℕ) → reads names (channels_in (looks c) k n) ≡ reads names (chan_of files (channel_at c.seen.now.jobs.now k n))
-  seen_reads names k n = ap (reads names) (seen_channel k n)
+  -- whether a channel reads the file with some names
+  read_by : (names : Names) (o : Option ℕ) → SeenFits c.seen.now → IsStore files → found files names ≡ o → is_read names (λ k n. chan_of files (channel_at c.seen.now.jobs.now k n)) ≡ has_readers files o
+  read_by names (Some f) fits whole e = read_is files c.seen.now.jobs.now whole fits.across names f e
+  read_by names None fits whole e = none (is_read names (λ k n. chan_of files (channel_at c.seen.now.jobs.now k n))) refl
+    where
+      none : (b : Bool) → is_read names (λ k n. chan_of files (channel_at c.seen.now.jobs.now k n)) ≡ b → b ≡ false
+      none false h = refl
+      none true h = let r = reader_found files c.seen.now.jobs.now whole fits.across names h in cc
 
-  pub file_of_channel : (k n f at : ℕ) → SeenFits c.seen.now → channel_at c.seen.now.jobs.now k n ≡ Reading f at → is_some (entry_at files f) ≡ true
-  file_of_channel k n f at fits e = file_stands (entry_at files f) (stands.reading_file files c.seen.now.jobs.now fits.across k n f at e)
+  pub seen_read : (names : Names) → SeenFits c.seen.now → IsStore files → is_read names (channels_in (looks c)) ≡ has_readers files (found files names)
+  seen_read names fits whole = (λ i. is_read names (λ k n. seen_channel k n i)) ∙ read_by names (found files names) fits whole refl
 
   -- what a channel of the caller is on exists
   pub reading_file : (n f at : ℕ) → SeenFits c.seen.now → channel_under c.job.now n ≡ Reading f at → is_file (entry_at files f) ≡ true

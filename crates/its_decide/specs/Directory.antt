@@ -1,12 +1,17 @@
--- Why a file is neither deleted nor renamed, in the form that code answers.
+-- Whether a channel reads a file, and why a file is neither deleted nor renamed, in the forms that code answers.
 -- No promise rests on this.
-use Rattle.std.specs.Prelude.{if◌then◌else◌, ◌==◌, ℕ, not, Option, Some, None}
+use Rattle.std.specs.Prelude.{if◌then◌else◌, ◌==◌, ℕ, Bool, false, not, Option, Some, None, nat_lt}
 use Rattle.its_records.specs.declared.calls.Ask.{Ask}
+use Rattle.its_files.specs.Files.{Store, readers_at}
 use Rattle.its_frame.specs.Errors as error
 use Rattle.its_plain.specs.Arguments.{input}
 use Rattle.its_plain.specs.CallFile.{channels_in, disk_device, has_file, is_read}
 use Rattle.its_plain.specs.Machine.{Names}
 use Rattle.its_plain.specs.View.{View}
+
+abbrev pub has_readers : Store → Option ℕ → Bool
+has_readers s (Some f) = nat_lt 0 (readers_at s f)
+has_readers s None = false
 
 abbrev pub error_of_file : View → Ask → Names → Option ℕ
 error_of_file v a names =

@@ -1,14 +1,11 @@
 //! The directory as a call sees it: which file has some names, and whether a channel reads it. CLOSE of a draft, DELETE and
 //! RENAME.
-ghost use Rattle.std.specs.Prelude.{◌≡◌, ◌<◌, length};
-ghost use Rattle.std.specs.List.{list_any, range_with_len};
-ghost use Rattle.its_word.specs.Directory.{same_names as are_same};
-ghost use Rattle.its_files.specs.Files.{directory, file_at};
+ghost use Rattle.std.specs.Prelude.{◌≡◌, ◌<◌};
+ghost use Rattle.its_files.specs.Files.{directory, file_at, found};
 ghost use Rattle.its_plain.specs.Arguments.{input};
-ghost use Rattle.its_plain.specs.CallFile.{channels_in, closes_draft, delete, has_file, is_read, names_from, reads, rename};
-ghost use Rattle.its_machine.specs.Across.{channel_at};
+ghost use Rattle.its_plain.specs.CallFile.{channels_in, closes_draft, delete, has_file, is_read, names_from, rename};
 ghost use Rattle.its_decide.specs.Called.{looks};
-ghost use Rattle.its_decide.specs.Directory.{error_of_file};
+ghost use Rattle.its_decide.specs.Directory.{error_of_file, has_readers};
 ghost use Rattle.its_decide.specs.Fits.{SeenFits};
 ghost use Rattle.its_records.specs.declared.jobs.Channel.TheVariants.{Writing};
 ghost use Rattle.its_machine.specs.Called.{channel_under};
@@ -16,16 +13,13 @@ ghost use Rattle.its_machine.specs.Called.{channel_under};
 use super::caller::Caller;
 use its_frame::{Change, Decision, error};
 use its_records::Channel;
-use its_word::{SLOTS, Word};
+use its_word::Word;
 
 /// The device of files, in SIXBIT.
 pub(crate) const DSK: u64 = 0o446353000000;
 
 /// How many files there are at most.
 const FILES: u32 = 256;
-
-/// How many channels a job has.
-const CHANNELS: usize = 16;
 
 impl Caller<'_> {
     /// The directory, name 1 and name 2 of a file, of which the two names and the directory are the inputs from k on.
@@ -37,50 +31,38 @@ impl Caller<'_> {
     }
 
     /// Whether there is a file with these names.
-    #[tactic(auto, using(its_machine::proofs::StoreLaws::has_named, its_machine::proofs::SeenLaws::three))]
+    #[tactic(auto, using(its_machine::proofs::StoreLaws::has_named))]
     pub(crate) fn has_file(&self, names: [Word; 3]) -> bool
         ensures { result ≡ has_file names (directory self.now.seen.now.files.now) }
     {
-        self.seen.files.find(names[0], names[1], names[2]).is_some()
+        self.file(names).is_some()
     }
 
     /// Whether any channel of any job reads the file with these names.
-    #[tactic(auto, unfolding(its_plain::specs::CallFile::is_read))]
+    #[tactic(auto, using(crate::proofs::FileLaws::seen_read))]
     fn is_read(&self, names: [Word; 3]) -> bool
         requires { SeenFits self.now.seen.now }
         ensures { result ≡ is_read names (channels_in (looks self.now)) }
     {
-        (0..SLOTS as u8).any(|k| self.is_reader(k, names))
+        self.seen.files.seen();
+        self.has_readers(self.file(names))
     }
 
-    /// Whether a channel of the job of a slot reads the file with these names.
-    #[tactic(auto, unfolding(its_plain::specs::View::view))]
-    fn is_reader(&self, slot: u8, names: [Word; 3]) -> bool
-        requires { SeenFits self.now.seen.now }
-        ensures { result ≡ list_any (λ n. reads names (channels_in (looks self.now) slot n)) (range_with_len 0 16) }
+    /// The number of the file with these names.
+    #[tactic(auto, using(its_machine::proofs::SeenLaws::three))]
+    fn file(&self, names: [Word; 3]) -> Option<u32>
+        ensures { result ≡ found self.now.seen.now.files.now names }
     {
-        (0..CHANNELS).any(|n| self.reads(slot, n, names))
+        self.seen.files.find(names[0], names[1], names[2])
     }
 
-    /// Whether channel n of the job of a slot reads the file with these names.
-    #[tactic(auto, using(crate::proofs::FileLaws::seen_reads, crate::proofs::FileLaws::file_of_channel))]
-    fn reads(&self, slot: u8, n: usize, names: [Word; 3]) -> bool
-        requires { SeenFits self.now.seen.now }
-        ensures { result ≡ reads names (channels_in (looks self.now) slot n) }
+    /// Whether a channel reads a file, if there is one.
+    fn has_readers(&self, file: Option<u32>) -> bool
+        ensures { result ≡ has_readers self.now.seen.now.files.now file }
     {
-        match self.channel_of(slot, n) {
-            Channel::Reading { file, .. } => are_same(&names, &self.seen.files.names(file)),
-            _ => false,
-        }
-    }
-
-    /// Channel n of the job of a slot; closed if the slot is empty.
-    fn channel_of(&self, slot: u8, n: usize) -> Channel
-        ensures { result ≡ channel_at self.now.seen.now.jobs.now slot n }
-    {
-        match self.seen.jobs.numbered(slot) {
-            Some(job) => job.channels.get(n).copied().unwrap_or(Channel::Closed),
-            None => Channel::Closed,
+        match file {
+            Some(id) => self.seen.files.readers(id) > 0,
+            None => false,
         }
     }
 
@@ -158,14 +140,4 @@ impl Caller<'_> {
             new_y,
         })
     }
-}
-
-/// Whether two directories, names 1 and names 2 are the same.
-#[tactic(auto, unfolding(its_word::specs::Directory::same_names))]
-fn are_same(a: &[Word], b: &[Word]) -> bool
-    requires a { length a.now ≡ 3 }
-    requires b { length b.now ≡ 3 }
-    ensures { result ≡ are_same a.now b.now }
-{
-    a[0] == b[0] && a[1] == b[1] && a[2] == b[2]
 }
