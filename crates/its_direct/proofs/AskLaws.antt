@@ -18,9 +18,11 @@ use Rattle.its_records.specs.declared.calls.Placed.{Placed}
 use Rattle.its_records.specs.declared.calls.Site.{Site}
 use Rattle.its_plain.specs.UnitPlan.{given}
 use Rattle.its_plain.specs.Traced.{Traced, Located, also, gives, located, located_by, word}
-use Rattle.its_plain.specs.Decode.{Shape, argument, argument_at, argument_words, arguments, ask, ask_by, ask_of, block_at, checked, control_of, error_at_of, has_bit_0, input_of, is_legal, kind_of, operand_of, output_of, parsed, held_place, shaped, up_to_last, value_of, words_of}
+use Rattle.its_plain.specs.Decode.{Shape, argument, argument_at, argument_words, arguments, ask, ask_by, ask_of, block_at, checked, control_of, error_at_of, has_bit_0, input_of, is_legal, kind_of, operand_of, output_of, parsed, held_place, iot_ask, shaped, up_to_last, value_of, words_of}
 use Rattle.its_plain.proofs.ReadLaws.{also_err, also_ok, unread}
-use Rattle.its_direct.specs.Asking.{Reads, Sorts, ask_from, first_error, no_parts, parts_of, sorted_by, with_argument}
+use Rattle.pdp_exec.specs.Near.{near_site}
+use Rattle.pdp_exec.specs.declared.near.Near.{Near}
+use Rattle.its_direct.specs.Asking.{Reads, Sorts, ask_from, block_site, first_error, iot_asked, no_parts, parts_of, put_as, sorted_by, with_argument}
 use Rattle.its_direct.specs.declared.sorting.Parts.{Parts}
 
 -- what is left of a reading, after what was read so far
@@ -415,3 +417,24 @@ asked_is c s block p a start mid new none is r x e =
     (ends (Ok (record { block = block.items; arguments = h.items.items })) (shaped c s) new start
     (goes (arguments (words_of block.items) c s.used []) (shape_of block) h.items (shaped c s) mid start new (block_left c s block start mid r)
     (record { answer = h.is; places = x.places })))
+
+-- of its PC nothing is asked
+same_ask : (c : Core) (s : Site) → s.channel ≡ None → ask c (block_site s.e s.used s.decode.items) ≡ ask c s
+unfolding ask shaped
+same_ask c s none = sym (ap (ask_by c s) none)
+
+-- what is asked was put into a place
+pub block_put : {X : Type 0} (c : Core) (s : Site) (seen : List ℕ) (r q : Result X Fault) (a : Ask) → s.channel ≡ None → seen ≡ s.decode.items → r ≡ q → put_as r a ≡ ask c (block_site s.e s.used seen)
+    → put_as q a ≡ ask c s
+block_put c s seen r q a none is out h = ap (λ x. put_as x a) (sym out) ∙ h ∙ ap (λ ps. ask c (block_site s.e s.used ps)) is ∙ same_ask c s none
+
+pub iot_put : (s : Site) (n : ℕ) (seen : List ℕ) (a : Ask) → a ≡ iot_asked s.e n seen → seen ≡ s.decode.items → a ≡ iot_ask s n
+unfolding iot_ask
+iot_put s n seen a h is = h ∙ ap (iot_asked s.e n) is
+
+pub near_iot_put : (c : Core) (pc : ℕ) (n : Near) (channel : ℕ) (seen : List ℕ) (a : Ask) → n.channel ≡ Some channel → seen ≡ pc ∷ [] → a ≡ iot_asked n.e channel seen → Ok a ≡ ask c (near_site pc n)
+unfolding ask
+near_iot_put c pc n channel seen a is noted h = ap Ok (iot_put (near_site pc n) channel seen a h noted) ∙ sym (ap (ask_by c (near_site pc n)) is)
+
+pub near_block_put : (c : Core) (pc : ℕ) (n : Near) (seen : List ℕ) (r : Result Ask Fault) → n.channel ≡ None → seen ≡ pc ∷ [] → r ≡ ask c (block_site n.e 0 seen) → r ≡ ask c (near_site pc n)
+near_block_put c pc n seen r is noted h = h ∙ ap (λ ps. ask c (block_site n.e 0 ps)) noted ∙ same_ask c (near_site pc n) is

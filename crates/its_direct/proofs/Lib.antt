@@ -33,5 +33,6 @@ pub mod InPlaceLaws
 pub mod PlacedLaws
 pub mod MadeLaws
 pub mod PartLaws
+pub mod HandLaws
 pub mod WaitingLaws
 pub mod MovingLaws

@@ -1,5 +1,5 @@
 -- A part of a call that disturbs nobody, and what the call asks for after it.
-use Rattle.std.specs.Prelude.{◌≡◌, ◌<◌, ◌≤◌, ◌^◌, ◌+◌, ◌-◌, ◌++◌, ℕ, zero, suc, Bool, true, false, Option, Some, None, IfSome, option_map, List, [], ◌∷◌, length, slice_index_or, slice_set, take, drop, Result, Ok, Err, refl}
+use Rattle.std.specs.Prelude.{◌≡◌, ◌<◌, ◌≤◌, ◌^◌, ◌+◌, ◌-◌, ◌++◌, ℕ, zero, suc, Bool, true, false, Option, Some, None, IfSome, option_map, List, [], ◌∷◌, length, slice_index_or, slice_set, take, drop, Result, Ok, refl}
 use Rattle.std.specs.List.{list_any}
 use Rattle.std.proofs.Common.{sym, ap, ◌∙◌, subst, arith}
 use Rattle.std.proofs.lemmas.Bool.{false≢true}
@@ -9,7 +9,6 @@ use Rattle.its_word.specs.Core.{Core}
 use Rattle.its_word.specs.declared.access.Fault.{Fault}
 use Rattle.its_records.specs.declared.calls.Ask.{Ask}
 use Rattle.its_records.specs.declared.calls.Operand.{Operand}
-use Rattle.its_records.specs.declared.calls.Site.{Site}
 use Rattle.its_records.specs.declared.jobs.Job.{Job}
 use Rattle.its_core.specs.Cores.{core_at}
 use Rattle.its_jobs.specs.Table.{job_at}
@@ -23,12 +22,11 @@ use Rattle.its_plain.specs.CallStep.{Transition, acted, after_moves, decision, i
 use Rattle.its_plain.specs.Change.{effects, in_job}
 use Rattle.its_plain.specs.Decide.{reach}
 use Rattle.its_plain.specs.Decode.{ask}
-use Rattle.its_plain.specs.Footprint.{SiteFits, Stands}
+use Rattle.its_plain.specs.Footprint.{Stands}
 use Rattle.its_plain.specs.Interrupt.{deliverable}
 use Rattle.its_plain.specs.Machine.{Machine, Whole}
 use Rattle.its_plain.specs.Moves.{moves_of_all}
 use Rattle.its_plain.specs.Unit.{Called, unit}
-use Rattle.its_plain.proofs.FitsLaws.{site_fits}
 use Rattle.its_plain.proofs.StepLaws.{transition_called}
 use Rattle.its_machine.proofs.PartLaws.{on_slot_here}
 use Rattle.its_stepped.specs.Commit.{effects_on}
@@ -41,6 +39,8 @@ use Rattle.its_stepped.proofs.OwnLaws.{Sees, spared}
 use Rattle.its_stepped.proofs.OwnLaws as owns
 use Rattle.its_direct.specs.Effects.{Becomes}
 use Rattle.its_direct.specs.Events.{Kept}
+use Rattle.pdp_exec.specs.Near.{near_site}
+use Rattle.pdp_exec.specs.declared.near.Near.{Near}
 use Rattle.its_decide.specs.Moving.{moving}
 use Rattle.its_decide.specs.Seen.{machine_seen, raw_with}
 use Rattle.its_decide.specs.declared.caller.Seen.{Seen}
@@ -49,10 +49,12 @@ use Rattle.its_direct.specs.Parts.{AtCall, Decides, InParts, OnePart, PartIf, no
 use Rattle.its_direct.specs.Plain.{machine_of, no_slots, Tidy}
 use Rattle.its_direct.specs.Ready.{CanCarryOut, held_in}
 use Rattle.its_direct.specs.Steps.{Lent, SteppedBy, is_making, own_of}
+use Rattle.its_direct.specs.Waiting.{AtHand}
 use Rattle.its_direct.specs.declared.plain.Plain.{Plain}
 use Rattle.its_direct.specs.declared.plain.Spot.TheVariants as spots
 use Rattle.its_direct.proofs.CallingLaws.{all_alike, beginning, calling, nobody, page_for}
 use Rattle.its_direct.proofs.CallStepLaws.{decision_seen, kept_after, lent_machine, lent_own}
+use Rattle.its_direct.proofs.HandLaws.{hand_of}
 use Rattle.its_direct.proofs.MadeLaws.{unmade_going}
 use Rattle.its_direct.proofs.ReadyLaws.{addressed, ready}
 use Rattle.its_direct.proofs.SlotLaws.{touched_machine}
@@ -103,19 +105,18 @@ parts_all m o s k n few most so = subst (λ (i : ℕ). InParts i m s o) (le_anti
     le_antisym i j a b = omega arith
 
 -- a job at a call
-pub site_here : (p : Plain) (s : ℕ) (i : Job) (x : Site) → i.pc < 2 ^ 18 → unit (core_at p.core s) i ≡ Called x → SiteFits x
-site_here p s i x placed u = site_fits (core_at p.core s) i x placed u
-
-pub at_call : (p : Plain) (s : ℕ) (o : Option Job) (i : Job) (x : Site) (a : Ask) (r : Result Ask Fault) → o ≡ job_at p.jobs s → o ≡ Some i → i.stopped ≡ false → deliverable i ≡ false
-    → unit (core_at p.core s) i ≡ Called x → r ≡ ask (core_at p.core s) x → r ≡ Ok a → AtCall (machine_of p) s a
-at_call p s o i x a r is had runs quiet u e got = record {
-  own = own_of p s i;
-  site = x;
-  had = own_is p s i (sym is ∙ had);
-  runs = runs;
-  quiet = quiet_is p s i false quiet;
-  stands = record { unit_is = unit_is p s i (Called x) u; ask_is = sym e ∙ got };
-}
+pub at_call : (p : Plain) (s : ℕ) (n : Near) (i : Job) (a : Ask) (r : Result Ask Fault) → AtHand p s n → job_at p.jobs s ≡ Some i → r ≡ ask (core_at p.core s) (near_site i.pc n) → r ≡ Ok a
+    → AtCall (machine_of p) s a
+at_call p s n i a r h had e got =
+    let o = hand_of p s n i h had in
+    record {
+      own = own_of p s i;
+      site = near_site i.pc n;
+      had = own_is p s i had;
+      runs = o.runs;
+      quiet = quiet_is p s i false o.quiet;
+      stands = record { unit_is = unit_is p s i (Called (near_site i.pc n)) o.unit; ask_is = sym e ∙ got };
+    }
 
 pub decides : (p : Plain) (v : Seen) (s : ℕ) (i : Job) (a : Ask) (o : Option Moved) → Lent p v → job_at p.jobs s ≡ Some i
     → IfSome o (λ m. moving m ≡ decision (machine_seen v) s (raw_with v s i) a) → IfSome o (λ m. reach (machine_seen v) s (raw_with v s i) a ≡ []) → IfSome o (λ m. Decides (machine_of p) s a (moving m))

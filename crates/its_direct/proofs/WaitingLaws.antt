@@ -32,8 +32,9 @@ use Rattle.pdp_exec.specs.Near.{near_site}
 use Rattle.pdp_exec.specs.declared.near.Near.{Near}
 use Rattle.its_direct.specs.Plain.{machine_of}
 use Rattle.its_direct.specs.Steps.{own_of}
-use Rattle.its_direct.specs.Waiting.{Lacks, LacksNear}
+use Rattle.its_direct.specs.Waiting.{AtHand, Lacks, LacksNear}
 use Rattle.its_direct.specs.declared.plain.Plain.{Plain}
+use Rattle.its_direct.proofs.HandLaws.{hand_of}
 use Rattle.its_direct.proofs.UserLaws.{own_is, quiet_is, unit_is}
 
 -- what the call asks for
@@ -73,6 +74,7 @@ lacks_none p s i x (Some n) is had runs quiet u h =
     ∙ waits_by p s i x n h
 lacks_none p s i x None is had runs quiet u h = absurd h
 
-pub no_step : (p : Plain) (s : ℕ) (i : Job) (n : Near) → job_at p.jobs s ≡ Some i → i.stopped ≡ false → deliverable i ≡ false
-    → unit (core_at p.core s) i ≡ Called (near_site i.pc n) → LacksNear p s i n.e n.channel → transition (machine_of p) s ≡ None
-no_step p s i n had runs quiet u h = lacks_none p s i (near_site i.pc n) n.channel refl had runs quiet u h
+pub no_step : (p : Plain) (s : ℕ) (i : Job) (n : Near) → AtHand p s n → job_at p.jobs s ≡ Some i → LacksNear p s i n.e n.channel → transition (machine_of p) s ≡ None
+no_step p s i n h had lacks =
+    let o = hand_of p s n i h had in
+    lacks_none p s i (near_site i.pc n) n.channel refl had o.runs o.quiet o.unit lacks

@@ -8,7 +8,8 @@ use Rattle.its_word.specs.declared.access.Fault.{Fault}
 use Rattle.its_records.specs.declared.calls.Arg.{Arg}
 use Rattle.its_records.specs.declared.calls.Arg.TheVariants.{Input, Output, ErrorAt, Control}
 use Rattle.its_records.specs.declared.calls.Ask.{Ask}
-use Rattle.its_plain.specs.Decode.{input_of, output_of, error_at_of, control_of, operand_of, value_of, held_place, row_named, error_by, exceeds, name_of, words_of}
+use Rattle.its_records.specs.declared.calls.Site.{Site}
+use Rattle.its_plain.specs.Decode.{input_of, output_of, error_at_of, control_of, operand_of, value_of, held_place, iot_ask, row_named, error_by, exceeds, name_of, words_of}
 use Rattle.its_plain.specs.Traced.{Traced}
 use Rattle.its_direct.specs.declared.sorting.Parts.{Parts}
 
@@ -81,3 +82,16 @@ ask_from decode block p = record {
   decode = record { items = decode };
   operand = p.operand;
 }
+
+-- what `.IOT` asks for through a channel, with this E and these decode words
+abbrev pub iot_asked : ℕ → ℕ → List ℕ → Ask
+iot_asked e channel decode = iot_ask (record { pc = 0; e = e; channel = Some channel; used = 0; decode = record { items = decode } }) channel
+
+-- a site of a call by the block at E: of its PC nothing is asked
+abbrev pub block_site : ℕ → ℕ → List ℕ → Site
+block_site e used decode = record { pc = 0; e = e; channel = None; used = used; decode = record { items = decode } }
+
+-- what is asked was put into a place, or there is a fault
+abbrev pub put_as : {X : Type 0} → Result X Fault → Ask → Result Ask Fault
+put_as (Ok x) a = Ok a
+put_as (Err f) a = Err f

@@ -1,13 +1,26 @@
--- A job whose `.IOT` from its console waits.
+-- A job whose call is at hand, and one whose `.IOT` from its console waits.
 -- No promise rests on this.
-use Rattle.std.specs.Prelude.{◌≡◌, ◌==◌, ◌||◌, ℕ, true, Option, Some, None, length, unwrap_or}
+use Rattle.std.specs.Prelude.{◌≡◌, ◌==◌, ◌||◌, ℕ, true, false, Option, Some, None, length, unwrap_or}
 use Rattle.its_records.specs.declared.jobs.Channel.TheVariants.{TtyIn}
 use Rattle.its_records.specs.declared.jobs.Job.{Job}
 use Rattle.its_core.specs.Cores.{core_at}
+use Rattle.its_jobs.specs.Table.{job_at}
 use Rattle.its_plain.specs.CallTty.{is_other}
+use Rattle.its_plain.specs.Interrupt.{deliverable}
+use Rattle.its_plain.specs.Unit.{Called, unit}
 use Rattle.its_machine.specs.Called.{bar_of, channel_under}
 use Rattle.its_machine.specs.Parts.{console_at, holder_at}
+use Rattle.pdp_exec.specs.Near.{near_site}
+use Rattle.pdp_exec.specs.declared.near.Near.{Near}
 use Rattle.its_direct.specs.declared.plain.Plain.{Plain}
+
+-- slot s's job is at a call, and no word but that at its PC is read on the way to it
+pub record AtHand (p : Plain) (s : ℕ) (n : Near) : Type 0 where
+  pub job : Job
+  pub had : job_at p.jobs s ≡ Some job
+  pub runs : job.stopped ≡ false
+  pub quiet : deliverable job ≡ false
+  pub unit : unit (core_at p.core s) job ≡ Called (near_site job.pc n)
 
 -- channel n of slot s's job, with these registers, is for input of its console, the word at E can be stored, and the console gives no byte
 pub record Lacks (p : Plain) (s : ℕ) (j : Job) (e n : ℕ) : Type 0 where

@@ -6,7 +6,8 @@ ghost use Rattle.its_word.specs.Limits.{budget};
 ghost use Rattle.its_plain.specs.Decode.{argument as argument_of, argument_at, argument_words, arguments, ask, block_at, error_by, exceeds, has_bit_0, iot_ask, is_legal, kind_of, parsed, row_named, type_of, words_of};
 ghost use Rattle.its_plain.specs.Footprint.{SiteFits};
 ghost use Rattle.its_plain.specs.Traced.{word as word_of};
-ghost use Rattle.its_direct.specs.Asking.{Reads, Sorts, ask_from};
+ghost use Rattle.pdp_exec.specs.Near.{near_site};
+ghost use Rattle.its_direct.specs.Asking.{Reads, Sorts, ask_from, block_site, iot_asked, put_as};
 
 use super::plain::Plain;
 use super::sorting::Parts;
@@ -15,6 +16,7 @@ use its_core::Core;
 use its_frame::{CallName, CallRow, error};
 use its_records::{Arg, Ask, Block, Operand, Placed, Site, Source};
 use its_word::{ADDRESSES, Fault, Location, Slot, Word};
+use pdp_exec::Near;
 
 /// How many argument words of a block are read.
 const ARGUMENTS: u32 = 8;
@@ -38,9 +40,56 @@ impl Plain {
 }
 
 /// What `.IOT` asks for: its channel is its one input, and E its one output address.
-#[tactic(auto, unfolding(its_plain::specs::Decode::iot_ask))]
+#[tactic(auto, using(crate::proofs::AskLaws::iot_put))]
 fn iot_ask(site: &Site, channel: u8) -> Ask
     ensures { result ≡ iot_ask site.now channel }
+{
+    let mut ask = no_ask();
+    note_site(site, &mut ask.decode);
+    put_iot(site.e, channel, &mut ask);
+    ask
+}
+
+/// What asks for nothing, with no place noted.
+#[inline(always)]
+pub(crate) fn no_ask() -> Ask
+    ensures { result.decode.items ≡ [] }
+{
+    Ask {
+        name: Word::ZERO,
+        fail: 0,
+        inputs: ArrayVec::new(),
+        outputs: ArrayVec::new(),
+        error: None,
+        control: None,
+        decode: ArrayVec::new(),
+        operand: ArrayVec::new(),
+    }
+}
+
+/// Notes the places of a site where none is noted.
+fn note_site(site: &Site, decode: &mut Places)
+    requires { decode.old.items ≡ [] }
+    ensures { decode.new.items ≡ site.now.decode.items }
+{
+    for p in site.decode.iter() {
+        decode.push(*p);
+    }
+}
+
+/// Notes a PC where no place is noted.
+#[inline(always)]
+fn note_pc(pc: u32, decode: &mut Places)
+    requires { decode.old.items ≡ [] }
+    ensures { decode.new.items ≡ pc ∷ [] }
+{
+    decode.push(pc);
+}
+
+/// Puts what `.IOT` asks for, with this E and through a channel, where the places of its site are noted.
+#[tactic(auto, unfolding(its_plain::specs::Decode::iot_ask))]
+fn put_iot(e: u32, channel: u8, asked: &mut Ask)
+    ensures { asked.new ≡ iot_asked e channel asked.old.decode.items }
 {
     let mut inputs = ArrayVec::new();
     inputs.push(Operand {
@@ -48,28 +97,37 @@ fn iot_ask(site: &Site, channel: u8) -> Ask
         place: None,
     });
     let mut outputs = ArrayVec::new();
-    outputs.push(site.e);
-    Ask {
-        name: CallName::Iot.word(),
-        fail: 0,
-        inputs,
-        outputs,
-        error: None,
-        control: None,
-        decode: site_places(site),
-        operand: ArrayVec::new(),
-    }
+    outputs.push(e);
+    asked.name = CallName::Iot.word();
+    asked.fail = 0;
+    asked.inputs = inputs;
+    asked.outputs = outputs;
+    asked.error = None;
+    asked.control = None;
+    asked.operand = ArrayVec::new();
 }
 
-/// The places of a site.
-fn site_places(site: &Site) -> Places
-    ensures { result.items ≡ site.now.decode.items }
+/// Puts what a call asks for that is at hand at a PC, or the fault of its decoding, where no place is noted.
+#[inline(always)]
+pub(crate) fn put_near(
+    core: &Core,
+    slot: Slot,
+    pc: u32,
+    near: Near,
+    asked: &mut Ask,
+) -> Result<(), Fault>
+    requires fits { SiteFits (near_site pc near) }
+    requires nothing { asked.old.decode.items ≡ [] }
+    ensures { put_as result asked.new ≡ ask (core_at core.now slot) (near_site pc near) }
 {
-    let mut decode = ArrayVec::new();
-    for p in site.decode.iter() {
-        decode.push(*p);
+    note_pc(pc, &mut asked.decode);
+    match near.channel {
+        Some(channel) => {
+            put_iot(near.e, channel, asked);
+            Ok(())
+        }
+        None => put_block(core, slot, near.e, 0, asked),
     }
-    decode
 }
 
 /// What a call by a block asks for.
@@ -78,10 +136,28 @@ fn block_ask(core: &Core, slot: Slot, site: &Site) -> Result<Ask, Fault>
     requires channel { site.now.channel ≡ None }
     ensures { result ≡ ask (core_at core.now slot) site.now }
 {
-    let mut decode = site_places(site);
-    match legal_block(core, slot, site.e, &mut decode) {
-        Ok(block) => match sort_block(core, slot, &block, site.used, &mut decode) {
-            Ok(parts) => Ok(asked(&block, parts, decode)),
+    let mut ask = no_ask();
+    note_site(site, &mut ask.decode);
+    match put_block(core, slot, site.e, site.used, &mut ask) {
+        Ok(()) => Ok(ask),
+        Err(f) => Err(f),
+    }
+}
+
+/// Puts what a call asks for by the block at E, when so much of the budget of 64 indirect words is used, where the places of its site are
+/// noted; or the fault of its decoding.
+fn put_block(core: &Core, slot: Slot, e: u32, used: u32, asked: &mut Ask) -> Result<(), Fault>
+    requires e { e < 2 ^ 18 }
+    requires used { used ≤ budget }
+    requires room { length asked.old.decode.items ≤ 2 * used + 2 }
+    ensures { put_as result asked.new ≡ ask (core_at core.now slot) (block_site e used asked.old.decode.items) }
+{
+    match legal_block(core, slot, e, &mut asked.decode) {
+        Ok(block) => match sort_block(core, slot, &block, used, &mut asked.decode) {
+            Ok(parts) => {
+                put_parts(&block, parts, asked);
+                Ok(())
+            }
             Err(f) => Err(f),
         },
         Err(f) => Err(f),
@@ -309,29 +385,25 @@ fn placed(core: &Core, slot: Slot, w: Word, e: u32) -> Result<Arg, Fault>
     }
 }
 
-/// What a block with such arguments asks for.
+/// Puts what a block with such arguments asks for where the places that were read are noted.
 #[tactic(auto, unfolding(crate::specs::Asking::ask_from))]
-fn asked(block: &Block, parts: Parts, decode: Places) -> Ask
+fn put_parts(block: &Block, parts: Parts, asked: &mut Ask)
     requires { 2 ≤ length block.now.items }
-    ensures { result ≡ ask_from decode.items block.now.items parts }
+    ensures { asked.new ≡ ask_from asked.old.decode.items block.now.items parts }
 {
     let excess = exceeds(parts.errors, parts.controls, &block[2..]);
-    let fail = error_by(
+    asked.name = block[1];
+    asked.fail = error_by(
         row_named(block[1]),
         parts.inputs.len(),
         parts.outputs.len(),
         excess,
     );
-    Ask {
-        name: block[1],
-        fail,
-        inputs: parts.inputs,
-        outputs: parts.outputs,
-        error: parts.error,
-        control: parts.control,
-        decode,
-        operand: parts.operand,
-    }
+    asked.inputs = parts.inputs;
+    asked.outputs = parts.outputs;
+    asked.error = parts.error;
+    asked.control = parts.control;
+    asked.operand = parts.operand;
 }
 
 /// The row of a call that a block can name: any but `.IOT`, which has none.

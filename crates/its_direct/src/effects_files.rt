@@ -1,5 +1,6 @@
 //! What calls change in channels and files: channels opened, set and closed, words of drafts, and files.
-ghost use Rattle.std.specs.Prelude.{◌≡◌, ◌<◌, true, false, slice_set};
+ghost use Rattle.std.specs.Prelude.{◌≡◌, ◌<◌, true, false, is_some, slice_set};
+ghost use Rattle.its_files.specs.Files.{entry_at};
 ghost use Rattle.its_plain.specs.CallFile.{has_file};
 ghost use Rattle.its_plain.specs.Change.{files_after_close, in_job, with_new_names, without_file};
 ghost use Rattle.its_plain.specs.Machine.{Shut};
@@ -142,6 +143,7 @@ impl Plain {
         within(slot);
         match self.channel(slot, n) {
             Channel::Reading { file, .. } => {
+                self.seek(file, at);
                 self.set_channel(slot, n, Channel::Reading { file, at });
             }
             Channel::Usr { slot: s, write, .. } => {
@@ -149,6 +151,14 @@ impl Plain {
             }
             _ => {}
         }
+    }
+
+    /// Makes it quick to read a file from a word on.
+    fn seek(&mut self, file: u32, at: u32)
+        requires { is_some (entry_at self.old.files file) ≡ true }
+        ensures { self.new ≡ self.old }
+    {
+        self.files.seek(file, at);
     }
 
     /// Appends a word to the draft of a channel, which has room for it.

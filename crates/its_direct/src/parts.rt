@@ -2,19 +2,18 @@
 ghost use Rattle.std.specs.Prelude.{◌≡◌, ◌<◌, ◌≤◌, ◌∷◌, [], IfSome, length};
 ghost use Rattle.its_plain.specs.Arguments.{with_new_values};
 ghost use Rattle.its_decide.specs.Moving.{moving};
-ghost use Rattle.pdp_exec.specs.Near.{near_site};
 ghost use Rattle.its_direct.specs.Events.{Kept};
 ghost use Rattle.its_direct.specs.Parts.{AtCall, Decides, InParts, PartIf, with_input};
 ghost use Rattle.its_direct.specs.Plain.{machine_of};
+ghost use Rattle.its_direct.specs.Waiting.{AtHand};
 
+use super::asking::{no_ask, put_near};
 use super::plain::{Plain, Spot};
-use arrayvec::ArrayVec;
 use its_core::Core;
 use its_decide::{Moved, next_move};
-use its_ints::deliverable;
-use its_records::{Ask, Site};
+use its_records::Ask;
 use its_word::{ADDRESSES, Slot, Word};
-use pdp_exec::{Near, call_at_hand};
+use pdp_exec::Near;
 
 /// The name of SIOT.
 const SIOT: u64 = 0o635157640000;
@@ -35,8 +34,8 @@ impl Plain {
         if n == 0 || !self.names_siot(slot) {
             return 0;
         }
-        match self.call_here(slot) {
-            Some(ask) => self.take_parts(slot, ask, n),
+        match self.call_at_hand(slot) {
+            Some(near) => self.parts_near(slot, near, n),
             None => 0,
         }
     }
@@ -49,27 +48,25 @@ impl Plain {
         }
     }
 
-    /// What the call at the PC of a slot's job asks for, if the job is at one.
-    #[tactic(auto, using(crate::proofs::PartLaws::at_call, crate::proofs::PartLaws::site_here, crate::proofs::SlotLaws::placed_at))]
-    fn call_here(&self, slot: Slot) -> Option<Ask>
-        requires kept { Kept self.now }
-        ensures { IfSome result (λ a. AtCall (machine_of self.now) slot a) }
+    /// The same, for a call that is at hand.
+    #[inline(never)]
+    #[tactic(auto, using(crate::proofs::PartLaws::no_parts))]
+    fn parts_near(&mut self, slot: Slot, near: Near, n: u32) -> u32
+        requires outside { self.old.place ≡ Spot.Plain }
+        requires kept { Kept self.old }
+        requires hand { AtHand self.old slot near }
+        ensures few { result ≤ n }
+        ensures parts { InParts result (machine_of self.old) slot (machine_of self.new) }
+        ensures place { self.new.place ≡ self.old.place }
+        ensures kept { Kept self.new }
     {
         let Some(job) = self.jobs.job(slot) else {
-            return None;
+            unreachable!()
         };
-        if job.stopped {
-            return None;
-        }
-        if deliverable(job) {
-            return None;
-        }
-        match call_at_hand(&self.core, slot, job) {
-            Some(near) => match self.ask(slot, &near_site(job.pc, near)) {
-                Ok(ask) => Some(ask),
-                Err(_) => None,
-            },
-            None => None,
+        let mut ask = no_ask();
+        match put_near(&self.core, slot, job.pc, near, &mut ask) {
+            Ok(()) => self.take_parts(slot, ask, n),
+            Err(_) => 0,
         }
     }
 
@@ -153,21 +150,6 @@ fn names_siot(core: &Core, slot: Slot, pc: u32) -> bool {
     match core.word(slot, (call.right() + 1) % ADDRESSES) {
         Some(name) => name.value() == SIOT,
         None => false,
-    }
-}
-
-/// The site of a call at a PC, with nothing else read on the way.
-fn near_site(pc: u32, near: Near) -> Site
-    ensures { result ≡ near_site pc near }
-{
-    let mut decode = ArrayVec::new();
-    decode.push(pc);
-    Site {
-        pc,
-        e: near.e,
-        channel: near.channel,
-        used: 0,
-        decode,
     }
 }
 

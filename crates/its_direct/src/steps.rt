@@ -19,8 +19,10 @@ ghost use Rattle.its_direct.specs.Effects.{Becomes};
 ghost use Rattle.its_direct.specs.Events.{Kept};
 ghost use Rattle.its_direct.specs.Plain.{machine_of, is_touched, Tidy};
 ghost use Rattle.its_direct.specs.Ready.{Carries, GoesOn, HeldFits, CanCarryOut, core_behind};
+ghost use Rattle.its_direct.specs.Waiting.{AtHand};
 ghost use Rattle.its_direct.specs.Steps.{Acts, CallsAt, Lent, LosesOnly, Makes, Steps, marked_by, is_making, makes_job, own_of};
 
+use super::asking::{no_ask, put_near};
 use super::plain::{Plain, Spot, within};
 use super::users::Begun;
 use arrayvec::ArrayVec;
@@ -30,6 +32,7 @@ use its_decide::{Disturbed, Seen, decide, disturbed_by, disturbs};
 use its_frame::{Change, Decision, Held};
 use its_records::{Ask, Job, Site};
 use its_word::{Fault, SLOTS, Slot, Store, Word};
+use pdp_exec::Near;
 
 /// For each slot whether something holds.
 type Marks = [bool; 96];
@@ -67,9 +70,19 @@ impl Plain {
         ensures row { Makes result (transition (machine_of self.old) slot) self.old self.new }
         ensures tidy { Tidy self.new }
     {
-        if self.lacks_input(slot) {
-            return false;
+        match self.call_at_hand(slot) {
+            Some(near) => self.make_call(slot, near),
+            None => self.make_any(slot),
         }
+    }
+
+    /// Performs the step of a slot's job, if there is one, whatever it is.
+    #[inline(never)]
+    fn make_any(&mut self, slot: Slot) -> bool
+        requires kept { Kept self.old }
+        ensures row { Makes result (transition (machine_of self.old) slot) self.old self.new }
+        ensures tidy { Tidy self.new }
+    {
         match self.begin(slot) {
             Begun::Still => false,
             Begun::Stepped => true,
@@ -77,7 +90,44 @@ impl Plain {
         }
     }
 
+    /// Performs the step of a slot's job whose call is at hand, unless it waits.
+    #[inline(always)]
+    fn make_call(&mut self, slot: Slot, near: Near) -> bool
+        requires hand { AtHand self.old slot near }
+        requires kept { Kept self.old }
+        ensures row { Makes result (transition (machine_of self.old) slot) self.old self.new }
+        ensures tidy { Tidy self.new }
+    {
+        if self.lacks_input(slot, near) {
+            return false;
+        }
+        self.call_near(slot, near)
+    }
+
+    /// The step of the call of a slot's job that is at hand: the fault of its decoding, or what it decides. What it asks for is decoded in its
+    /// place.
+    #[inline(never)]
+    fn call_near(&mut self, slot: Slot, near: Near) -> bool
+        requires hand { AtHand self.old slot near }
+        requires kept { Kept self.old }
+        ensures row { Makes result (transition (machine_of self.old) slot) self.old self.new }
+        ensures tidy { Tidy self.new }
+    {
+        let Some(job) = self.job(slot) else {
+            unreachable!()
+        };
+        let mut ask = no_ask();
+        match put_near(&self.core, slot, job.pc, near, &mut ask) {
+            Ok(()) => self.act(slot, &job, &ask),
+            Err(fault) => {
+                self.fault(slot, job, fault);
+                true
+            }
+        }
+    }
+
     /// The step of the call of a slot's job at a site: the fault of its decoding, or what it decides.
+    #[inline(never)]
     fn call(&mut self, slot: Slot, site: &Site) -> bool
         requires calls { CallsAt (machine_of self.old) slot site.now (transition (machine_of self.old) slot) }
         requires kept { Kept self.old }

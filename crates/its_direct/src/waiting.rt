@@ -1,7 +1,7 @@
-//! A job whose `.IOT` waits for input of its console: it has no step, and this shows without a decoding and a decision.
-ghost use Rattle.std.specs.Prelude.{◌≡◌, ◌==◌, ◌||◌, true, None, length, unwrap_or};
+//! A job whose call is at hand; and one whose `.IOT` waits for input of its console: it has no step, and this shows without a decoding and a
+//! decision.
+ghost use Rattle.std.specs.Prelude.{◌≡◌, ◌==◌, ◌||◌, true, None, IfSome, length, unwrap_or};
 ghost use Rattle.its_core.specs.Cores.{core_at};
-ghost use Rattle.its_jobs.specs.Table.{job_at};
 ghost use Rattle.its_plain.specs.CallStep.{transition};
 ghost use Rattle.its_plain.specs.CallTty.{is_other};
 ghost use Rattle.its_machine.specs.Called.{bar_of, channel_under};
@@ -9,7 +9,7 @@ ghost use Rattle.its_records.specs.declared.jobs.Channel.TheVariants.{TtyIn};
 ghost use Rattle.its_machine.specs.Parts.{console_at, holder_at};
 ghost use Rattle.its_direct.specs.Events.{Kept};
 ghost use Rattle.its_direct.specs.Plain.{machine_of};
-ghost use Rattle.its_direct.specs.Waiting.{Lacks, LacksNear};
+ghost use Rattle.its_direct.specs.Waiting.{AtHand, Lacks, LacksNear};
 
 use super::plain::Plain;
 use its_ints::deliverable;
@@ -18,23 +18,37 @@ use its_word::Slot;
 use pdp_exec::{Near, call_at_hand};
 
 impl Plain {
-    /// Whether a slot's job surely has no step, because its call is `.IOT` from its console, which gives it no byte. False says nothing.
+    /// The call of a slot's job that is at hand, if its step is that call and no word but that at its PC is read on the way to it.
+    #[inline(always)]
     #[tactic(auto, using(crate::proofs::SlotLaws::placed_at))]
-    pub(crate) fn lacks_input(&self, slot: Slot) -> bool
+    pub(crate) fn call_at_hand(&self, slot: Slot) -> Option<Near>
         requires kept { Kept self.now }
-        ensures { result ≡ true → transition (machine_of self.now) slot ≡ None }
+        ensures { IfSome result (λ n. AtHand self.now slot n) }
     {
         let Some(job) = self.jobs.job(slot) else {
-            return false;
+            return None;
         };
         if job.stopped {
-            return false;
+            return None;
         }
         if deliverable(job) {
-            return false;
+            return None;
         }
         match call_at_hand(&self.core, slot, job) {
-            Some(near) => self.lacks_near(slot, job, near),
+            Some(near) => Some(near),
+            None => None,
+        }
+    }
+
+    /// Whether a slot's job surely has no step, because its call, which is at hand, is `.IOT` from its console, which gives it no byte. False
+    /// says nothing.
+    #[inline(always)]
+    pub(crate) fn lacks_input(&self, slot: Slot, near: Near) -> bool
+        requires hand { AtHand self.now slot near }
+        ensures { result ≡ true → transition (machine_of self.now) slot ≡ None }
+    {
+        match self.jobs.job(slot) {
+            Some(job) => self.lacks_near(slot, job, near),
             None => false,
         }
     }

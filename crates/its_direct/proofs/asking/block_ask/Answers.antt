@@ -1,11 +1,16 @@
-use Rattle.its_direct.proofs.AskLaws.{arguments_faulted, asked_is, block_faulted}
+use Rattle.std.proofs.Common.{ap, arith, length}
+use Rattle.its_direct.proofs.AskLaws.{block_put}
 use Rattle.its_direct.proofs.asking.block_ask.Goals as goal
 
-pub returns-in-Ok-sort_block : goal.returns-in-Ok-sort_block
-returns-in-Ok-sort_block c = asked_is _ c.args.site.now c.in-Ok.block _ _ _ _ _ c.requires.channel c.site_places-decode.ensures c.in-Ok.ensures.reads c.in-Ok-sort_block.ensures c.asked.ensures
+pub put_block-requires : goal.put_block-requires
+put_block-requires c = record {
+  e = c.requires.fits.e;
+  used = c.requires.fits.used;
+  room = let n = ap length c.note_site.ensures in let r = c.requires.fits.room in omega arith;
+}
 
-pub returns-in-Err-sort_block : goal.returns-in-Err-sort_block
-returns-in-Err-sort_block c = arguments_faulted _ c.args.site.now c.in-Ok.block _ _ _ _ c.requires.channel c.site_places-decode.ensures c.in-Ok.ensures.reads c.in-Err-sort_block.ensures
+pub returns-in-Ok : goal.returns-in-Ok
+returns-in-Ok c = block_put _ c.args.site.now _ _ _ _ c.requires.channel c.note_site.ensures c.in-Ok.is c.put_block.ensures
 
 pub returns-in-Err : goal.returns-in-Err
-returns-in-Err c = block_faulted _ c.args.site.now _ _ _ c.requires.channel c.site_places-decode.ensures c.in-Err.ensures.reads
+returns-in-Err c = block_put _ c.args.site.now _ _ _ _ c.requires.channel c.note_site.ensures c.in-Err.is c.put_block.ensures

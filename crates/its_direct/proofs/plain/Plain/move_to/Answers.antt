@@ -1,9 +1,19 @@
+use Rattle.std.proofs.Common.{sym}
+use Rattle.its_files.specs.Files.{entry_at}
+use Rattle.its_files.proofs.EntryLaws.{file_stands}
+use Rattle.its_machine.proofs.StandLaws.{reading_file}
 use Rattle.its_direct.proofs.ChannelLaws.{move_file_comes, move_usr_comes, move_other_comes}
 use Rattle.its_direct.proofs.plain.Plain.move_to.Goals as goal
 
+pub seek-requires : goal.seek-requires
+seek-requires c =
+    let p = c.args.self.now in
+    file_stands (entry_at p.files c.in-Reading.file) (reading_file p.files p.jobs c.requires.tidy.across c.args.slot c.args.n c.in-Reading.file c.in-Reading.at (sym c.in-Reading.ensures))
+
 pub returns-in-Reading : goal.returns-in-Reading
 returns-in-Reading c =
-    let k = move_file_comes c.args.self.now c.set_channel.new.self c.args.slot c.args.n c.within.ensures c.requires.channel c.requires.tidy c.in-Reading.file c.in-Reading.at c.args.at c.set_channel.ensures c.in-Reading.ensures in
+    let set = rw c.seek.ensures at c.set_channel.ensures in
+    let k = move_file_comes c.args.self.now c.set_channel.new.self c.args.slot c.args.n c.within.ensures c.requires.channel c.requires.tidy c.in-Reading.file c.in-Reading.at c.args.at set c.in-Reading.ensures in
     record { row = k.row; tidy = k.tidy }
 
 pub returns-in-Usr : goal.returns-in-Usr
