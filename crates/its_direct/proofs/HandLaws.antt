@@ -1,4 +1,4 @@
--- A job whose call is at hand: where its step is, and that it can be decoded.
+-- A job whose call is at hand: its step is that call, which can be decoded.
 use Rattle.std.specs.Prelude.{◌≡◌, ◌≢◌, ℕ, false, Option, Some, None, refl}
 use Rattle.std.proofs.Common.{sym, ◌∙◌, subst}
 use Rattle.its_records.specs.declared.jobs.Job.{Job}

@@ -67,7 +67,7 @@ pub(crate) fn no_ask() -> Ask
     }
 }
 
-/// Notes the places of a site where none is noted.
+/// Notes the places of a site as the first ones.
 fn note_site(site: &Site, decode: &mut Places)
     requires { decode.old.items ≡ [] }
     ensures { decode.new.items ≡ site.now.decode.items }
@@ -77,7 +77,7 @@ fn note_site(site: &Site, decode: &mut Places)
     }
 }
 
-/// Notes a PC where no place is noted.
+/// Notes a PC as the first place.
 #[inline(always)]
 fn note_pc(pc: u32, decode: &mut Places)
     requires { decode.old.items ≡ [] }
@@ -86,7 +86,7 @@ fn note_pc(pc: u32, decode: &mut Places)
     decode.push(pc);
 }
 
-/// Puts what `.IOT` asks for, with this E and through a channel, where the places of its site are noted.
+/// Makes an ask, in which the places of a site are noted, that of `.IOT` with this E and through a channel.
 #[tactic(auto, unfolding(its_plain::specs::Decode::iot_ask))]
 fn put_iot(e: u32, channel: u8, asked: &mut Ask)
     ensures { asked.new ≡ iot_asked e channel asked.old.decode.items }
@@ -107,7 +107,7 @@ fn put_iot(e: u32, channel: u8, asked: &mut Ask)
     asked.operand = ArrayVec::new();
 }
 
-/// Puts what a call asks for that is at hand at a PC, or the fault of its decoding, where no place is noted.
+/// Makes an ask, in which no place is noted, that of the call that is at hand at a PC; or the fault of its decoding.
 #[inline(always)]
 pub(crate) fn put_near(
     core: &Core,
@@ -144,8 +144,8 @@ fn block_ask(core: &Core, slot: Slot, site: &Site) -> Result<Ask, Fault>
     }
 }
 
-/// Puts what a call asks for by the block at E, when so much of the budget of 64 indirect words is used, where the places of its site are
-/// noted; or the fault of its decoding.
+/// Makes an ask, in which the places of a site are noted, that of the call by the block at E, when so much of the budget of 64 indirect
+/// words is used; or the fault of its decoding.
 fn put_block(core: &Core, slot: Slot, e: u32, used: u32, asked: &mut Ask) -> Result<(), Fault>
     requires e { e < 2 ^ 18 }
     requires used { used ≤ budget }
@@ -385,7 +385,7 @@ fn placed(core: &Core, slot: Slot, w: Word, e: u32) -> Result<Arg, Fault>
     }
 }
 
-/// Puts what a block with such arguments asks for where the places that were read are noted.
+/// Makes an ask, in which the places that were read are noted, that of a block with such arguments.
 #[tactic(auto, unfolding(crate::specs::Asking::ask_from))]
 fn put_parts(block: &Block, parts: Parts, asked: &mut Ask)
     requires { 2 ≤ length block.now.items }

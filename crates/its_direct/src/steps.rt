@@ -76,7 +76,7 @@ impl Plain {
         }
     }
 
-    /// Performs the step of a slot's job, if there is one, whatever it is.
+    /// Performs the step of a slot's job, if there is one: a delivery, a unit or a call.
     #[inline(never)]
     fn make_any(&mut self, slot: Slot) -> bool
         requires kept { Kept self.old }

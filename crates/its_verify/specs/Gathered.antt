@@ -17,10 +17,10 @@ letters_in r = r.pace ∷ replicate r.more r.pace
 abbrev pub letters_of : Gathered → List Pace
 letters_of g = letters_in g.run ++ replicate g.dots Work
 
--- the new letters lead to the same as the old ones with a run behind them
+-- the new letters lead to the same as the old ones with a run after them
 abbrev pub Gathers : Gathered → Run → Gathered → Type 0
 Gathers old run new = (v : Walk) (i : ℕ) (ps : List Pace) → paced v i (letters_of old ++ (letters_in run ++ ps)) ≡ paced v i (letters_of new ++ ps)
 
--- what was gathered and the runs that are left lead to the same as a run with all behind it
+-- what was gathered and the runs that are left lead to the same as a run with all that come after it
 abbrev pub Begins : Run → List Run → Gathered → List Run → Type 0
 Begins first behind g rest = (v : Walk) (i : ℕ) → paced v i (paces_in (first ∷ behind)) ≡ paced v i (letters_of g ++ paces_in rest)

@@ -1,4 +1,4 @@
-//! Letters of a slot that are led together: runs of `*`, without the `.` between them. Behind a `*` up to 16 `.` are licensed if one more `*`
+//! Letters of a slot that are led together: runs of `*`, without the `.` between them. After a `*` up to 16 `.` are licensed if one more `*`
 //! is, and that one sets their count to 0.
 ghost use Rattle.std.specs.Prelude.{◌≡◌, ◌≤◌, length, true, false, IfSome};
 
@@ -8,7 +8,7 @@ use its_print::Run;
 use its_records::Pace;
 use its_word::Slot;
 
-/// Letters that are not led yet: a run, and so many `.` behind it.
+/// Letters that are not led yet: a run, and so many `.` after it.
 #[derive(Drop)]
 pub(crate) struct Gathered {
     pub run: Run,
@@ -19,7 +19,7 @@ pub(crate) struct Gathered {
 impl Gathered {
     ghost use Rattle.its_verify.specs.Gathered.{Begins, Gathers};
 
-    /// A run, and so many `.` behind it.
+    /// A run, and so many `.` after it.
     fn new(run: Run, dots: u32) -> Gathered
         requires few { dots ≤ 16 }
         ensures run { result.run ≡ run }
@@ -28,9 +28,9 @@ impl Gathered {
         Gathered { run, dots }
     }
 
-    /// The letters of a run and of those behind it with which it may be led, and the runs that are left.
+    /// The letters of a run and of those after it with which it may be led, and the runs that are left.
     #[tactic(auto, using(crate::proofs::GatheredLaws::begins_first, crate::proofs::GatheredLaws::begins_more))]
-    pub(crate) fn with_behind(first: Run, behind: &[Run]) -> (Gathered, &[Run])
+    pub(crate) fn with_next(first: Run, behind: &[Run]) -> (Gathered, &[Run])
         ensures begins { Begins first behind.now result.0 result.1.now }
         ensures fewer { length result.1.now ≤ length behind.now }
     {
@@ -46,7 +46,7 @@ impl Gathered {
         (gathered, rest)
     }
 
-    /// These letters and a run behind them, if that may be led with them: it is of `.` or of `*`, and these begin with `*`.
+    /// These letters and a run after them, if that may be led with them: it is of `.` or of `*`, and these begin with `*`.
     fn with(&self, run: Run) -> Option<Gathered>
         ensures { IfSome result (Gathers self.now run) }
     {

@@ -114,7 +114,7 @@ impl Judge {
     {
         let mut rest = runs;
         while let Some((first, behind)) = rest.split_first() {
-            let (gathered, left) = Gathered::with_behind(*first, behind);
+            let (gathered, left) = Gathered::with_next(*first, behind);
             if !self.gathered_led(slot, &gathered) {
                 return false;
             }

@@ -1,6 +1,6 @@
 use Rattle.std.proofs.Common.{◌≤◌, length}
 use Rattle.its_verify.specs.Gathered.{Begins}
-use Rattle.its_verify.proofs.gathered.Gathered.with_behind.Given as goal
+use Rattle.its_verify.proofs.gathered.Gathered.with_next.Given as goal
 
 abbrev pub invariant-loop-run : goal.invariant-loop-run
 invariant-loop-run l = record {
