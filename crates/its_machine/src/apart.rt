@@ -3,14 +3,15 @@ ghost use Rattle.std.specs.Prelude.{◌≡◌, ◌||◌, true, false, not};
 ghost use Rattle.std.specs.List.{list_any};
 ghost use Rattle.its_plain.specs.CallBasic.{shared_place};
 ghost use Rattle.its_plain.specs.Footprint.{in_footprint, is_shared};
-ghost use Rattle.its_machine.specs.Apart.{are_unlike, is_met};
+ghost use Rattle.its_machine.specs.Apart.{are_apart, are_places_apart, are_unlike, is_met};
 
 use its_records::Ask;
 
-/// Whether the words of two arguments and a third word are apart: the two have words of their own, and the third one is none that the call
-/// reads. False may also mean that it was not looked for, as of a call with more than three words of arguments.
+/// Whether the words of two arguments and a third word are seen to be apart: the two have words of their own, and the third one is none that
+/// the call reads. It is false too for a call with more than three words of arguments, at which this does not look.
 #[inline(always)]
 pub fn are_apart(ask: &Ask, p: Option<u32>, k: Option<u32>, n: u32) -> bool
+    ensures value { result ≡ are_apart ask.now p k n }
     ensures shared { result ≡ true → (shared_place ask.now p || shared_place ask.now k) ≡ false }
     ensures read { result ≡ true → in_footprint n ask.now ≡ false }
 {
@@ -24,6 +25,7 @@ pub fn are_apart(ask: &Ask, p: Option<u32>, k: Option<u32>, n: u32) -> bool
 #[inline(always)]
 #[tactic(auto, using(crate::proofs::ApartLaws::unshared, crate::proofs::ApartLaws::unread))]
 fn are_places_apart(ask: &Ask, p: u32, k: u32, n: u32) -> bool
+    ensures value { result ≡ are_places_apart ask.now p k n }
     ensures shared { result ≡ true → (is_shared p ask.now || is_shared k ask.now) ≡ false }
     ensures read { result ≡ true → in_footprint n ask.now ≡ false }
 {
