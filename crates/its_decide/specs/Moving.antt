@@ -8,7 +8,7 @@ use Rattle.its_plain.specs.Tests.{fails, faults, finishes, goes}
 use Rattle.its_plain.specs.View.{View}
 use Rattle.its_decide.specs.declared.moving.Halt.{Halt}
 use Rattle.its_decide.specs.declared.moving.Halt.TheVariants as halts
-use Rattle.its_decide.specs.declared.moving.Moved.{Moved}
+use Rattle.its_decide.specs.declared.moving.NextMove.{NextMove}
 use Rattle.its_decide.specs.declared.moving.Shift.{Shift}
 use Rattle.its_decide.specs.declared.moving.Shift.TheVariants as shifts
 use Rattle.its_frame.specs.declared.change.Change.{Change}
@@ -23,7 +23,7 @@ change_of (shifts.Put c b) = changes.Put c b
 change_of (shifts.Send l w) = changes.Send l w
 change_of (shifts.Receive l) = changes.Receive l
 
-abbrev pub moving : Moved → Decision
+abbrev pub moving : NextMove → Decision
 moving m = goes (change_of m.shift ∷ []) m.held (m.next ∷ m.left ∷ [])
 
 abbrev pub halted : View → Ask → Halt → Decision
@@ -32,7 +32,7 @@ halted v a (halts.Bit f) = faults v f
 halted v a halts.Over = finishes v [] []
 halted v a (halts.Later r) = decisions.Waits r
 
-abbrev pub outcome : View → Ask → Result Moved Halt → Decision
+abbrev pub outcome : View → Ask → Result NextMove Halt → Decision
 outcome v a (Ok m) = moving m
 outcome v a (Err h) = halted v a h
 
@@ -40,6 +40,6 @@ abbrev pub halted_by : View → Ask → Option Halt → Option Decision
 halted_by v a (Some h) = Some (halted v a h)
 halted_by v a None = None
 
-abbrev pub found : Result Moved Halt → Option Moved
+abbrev pub found : Result NextMove Halt → Option NextMove
 found (Ok m) = Some m
 found (Err h) = None

@@ -11,7 +11,7 @@ ghost use Rattle.its_decide.specs.Moving.{outcome};
 use super::arguments::is_oneself;
 use super::caller::Caller;
 use super::ends::{ends, store_at};
-use super::moving::{Halt, Moved, Shift, one_moved};
+use super::moving::{Halt, NextMove, Shift, one_moved};
 use arrayvec::ArrayVec;
 use its_bytes::load;
 use its_frame::{Change, Decision, Held, Opened, Wait, error};
@@ -284,7 +284,7 @@ impl Caller<'_> {
 
     /// SIOT from a console: one byte, which is held and stored by the next step; pointer and count become those of the rest.
     #[inline(always)]
-    pub(crate) fn siot_in(&self) -> Result<Moved, Halt>
+    pub(crate) fn siot_in(&self) -> Result<NextMove, Halt>
         ensures { outcome (looks self.now) self.now.ask.now result ≡ siot_by (looks self.now) self.now.ask.now false false (siot_in (looks self.now) self.now.ask.now (next_pointer (input self.now.ask.now 1)) (input self.now.ask.now 2) (view_console (looks self.now))) }
     {
         match self.next_byte(false, false) {
@@ -296,7 +296,7 @@ impl Caller<'_> {
     /// The byte of the next pointer comes from a console.
     #[inline(always)]
     #[tactic(auto, unfolding(its_plain::specs::View::view))]
-    fn takes_byte(&self, next: Word) -> Result<Moved, Halt>
+    fn takes_byte(&self, next: Word) -> Result<NextMove, Halt>
         ensures { outcome (looks self.now) self.now.ask.now result ≡ siot_in (looks self.now) self.now.ask.now next (input self.now.ask.now 2) (view_console (looks self.now)) }
     {
         let place = next.right();
@@ -316,7 +316,7 @@ impl Caller<'_> {
 
     /// SIOT to a console: one byte; pointer and count become those of the rest.
     #[inline(always)]
-    pub(crate) fn siot_out(&self) -> Result<Moved, Halt>
+    pub(crate) fn siot_out(&self) -> Result<NextMove, Halt>
         ensures { outcome (looks self.now) self.now.ask.now result ≡ siot_by (looks self.now) self.now.ask.now false false (siot_out (looks self.now) self.now.ask.now (next_pointer (input self.now.ask.now 1)) (input self.now.ask.now 2) (view_console (looks self.now))) }
     {
         match self.next_byte(false, false) {
@@ -328,7 +328,7 @@ impl Caller<'_> {
     /// The byte of the next pointer goes to a console.
     #[inline(always)]
     #[tactic(auto, unfolding(its_plain::specs::View::view))]
-    fn puts_byte(&self, next: Word) -> Result<Moved, Halt>
+    fn puts_byte(&self, next: Word) -> Result<NextMove, Halt>
         requires { has_size next ≡ true }
         ensures { outcome (looks self.now) self.now.ask.now result ≡ siot_out (looks self.now) self.now.ask.now next (input self.now.ask.now 2) (view_console (looks self.now)) }
     {

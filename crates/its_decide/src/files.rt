@@ -17,7 +17,7 @@ ghost use Rattle.its_decide.specs.Fits.{SeenFits};
 
 use super::caller::Caller;
 use super::ends::ends;
-use super::moving::{Halt, Moved, Shift, one_moved};
+use super::moving::{Halt, NextMove, Shift, one_moved};
 use super::words::END_OF_FILE;
 use arrayvec::ArrayVec;
 use its_bytes::load;
@@ -156,7 +156,7 @@ impl Caller<'_> {
     /// SIOT from a file: the word at its position is held, and stored by the next step.
     #[inline(always)]
     #[tactic(auto, using(crate::proofs::FileLaws::reading), unfolding(its_plain::specs::View::view))]
-    pub(crate) fn siot_reads(&self, file: u32, at: u32) -> Result<Moved, Halt>
+    pub(crate) fn siot_reads(&self, file: u32, at: u32) -> Result<NextMove, Halt>
         requires on { channel_under self.now.job.now (input self.now.ask.now 0) ≡ Reading file at }
         requires fits { SeenFits self.now.seen.now }
         ensures { outcome (looks self.now) self.now.ask.now result ≡ siot_reads (looks self.now) self.now.ask.now (input self.now.ask.now 0) at (slice_get (words_of (looks self.now) (names_at self.now.seen.now.files.now file)) at) }
@@ -171,7 +171,7 @@ impl Caller<'_> {
     /// SIOT to a draft. Error 10 if there is no room.
     #[inline(always)]
     #[tactic(auto, unfolding(its_plain::specs::View::view))]
-    pub(crate) fn siot_writes(&self, draft: u32) -> Result<Moved, Halt>
+    pub(crate) fn siot_writes(&self, draft: u32) -> Result<NextMove, Halt>
         requires on { channel_under self.now.job.now (input self.now.ask.now 0) ≡ Writing draft }
         requires fits { SeenFits self.now.seen.now }
         ensures { outcome (looks self.now) self.now.ask.now result ≡ siot_writes (looks self.now) self.now.ask.now (input self.now.ask.now 0) (file_at self.now.seen.now.files.now draft) }
@@ -185,7 +185,7 @@ impl Caller<'_> {
     /// The same if no test of its arguments stops it.
     #[inline(always)]
     #[tactic(auto, using(its_machine::proofs::StopLaws::loaded_fits, crate::proofs::FileLaws::writing, crate::proofs::FileLaws::seen_full, its_files::proofs::EntryLaws::draft_stands), unfolding(its_plain::specs::View::view))]
-    fn siot_write(&self, next: Word, draft: u32) -> Result<Moved, Halt>
+    fn siot_write(&self, next: Word, draft: u32) -> Result<NextMove, Halt>
         requires on { channel_under self.now.job.now (input self.now.ask.now 0) ≡ Writing draft }
         requires size { has_size next ≡ true }
         requires fits { SeenFits self.now.seen.now }

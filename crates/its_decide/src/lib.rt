@@ -26,5 +26,5 @@ mod words;
 
 pub use caller::Seen;
 pub use choice::decide;
-pub use moving::{Moved, Shift, change_of, next_move};
+pub use moving::{NextMove, Shift, change_of, next_move};
 pub use reach::{Disturbed, disturbed_by, disturbs};

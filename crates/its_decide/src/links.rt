@@ -13,7 +13,7 @@ ghost use Rattle.its_decide.specs.Moving.{outcome};
 
 use super::caller::Caller;
 use super::ends::ends;
-use super::moving::{Halt, Moved, Shift, one_moved};
+use super::moving::{Halt, NextMove, Shift, one_moved};
 use super::words::END_OF_FILE;
 use arrayvec::ArrayVec;
 use its_bytes::load;
@@ -141,7 +141,7 @@ impl Caller<'_> {
     /// SIOT from a link: its first word is held, and its low bits are stored by the next step. At its end the call finishes.
     #[inline(always)]
     #[tactic(auto, unfolding(its_plain::specs::View::view))]
-    pub(crate) fn siot_receives(&self, link: u8) -> Result<Moved, Halt>
+    pub(crate) fn siot_receives(&self, link: u8) -> Result<NextMove, Halt>
         ensures { outcome (looks self.now) self.now.ask.now result ≡ siot_receives (looks self.now) self.now.ask.now link }
     {
         match self.next_byte(false, self.seen.pipes.is_ended(link)) {
@@ -153,7 +153,7 @@ impl Caller<'_> {
     /// The byte of the next pointer comes from a link.
     #[inline(always)]
     #[tactic(auto, unfolding(its_plain::specs::View::view))]
-    fn siot_receive(&self, next: Word, link: u8) -> Result<Moved, Halt>
+    fn siot_receive(&self, next: Word, link: u8) -> Result<NextMove, Halt>
         ensures { outcome (looks self.now) self.now.ask.now result ≡ siot_receive (looks self.now) next (input self.now.ask.now 2) link }
     {
         let place = next.right();
@@ -171,7 +171,7 @@ impl Caller<'_> {
     /// SIOT to a link: the byte becomes a word, which is sent. Error 26 if the reading end is closed.
     #[inline(always)]
     #[tactic(auto, unfolding(its_plain::specs::View::view))]
-    pub(crate) fn siot_sends(&self, link: u8) -> Result<Moved, Halt>
+    pub(crate) fn siot_sends(&self, link: u8) -> Result<NextMove, Halt>
         ensures { outcome (looks self.now) self.now.ask.now result ≡ siot_sends (looks self.now) self.now.ask.now link }
     {
         match self.next_byte(false, false) {
@@ -183,7 +183,7 @@ impl Caller<'_> {
     /// The byte of the next pointer is sent through a link.
     #[inline(always)]
     #[tactic(auto, using(its_machine::proofs::StopLaws::loaded_fits), unfolding(its_plain::specs::View::view))]
-    fn siot_send(&self, next: Word, link: u8) -> Result<Moved, Halt>
+    fn siot_send(&self, next: Word, link: u8) -> Result<NextMove, Halt>
         requires { has_size next ≡ true }
         ensures { outcome (looks self.now) self.now.ask.now result ≡ siot_send (looks self.now) self.now.ask.now next (input self.now.ask.now 2) link }
     {

@@ -36,7 +36,7 @@ pub enum Shift {
 
 /// A byte or word that SIOT moves: what changes, what is held until it is stored, and pointer and count of the rest.
 #[derive(Clone, Copy, Debug, PartialEq, Eq)]
-pub struct Moved {
+pub struct NextMove {
     pub next: Word,
     pub left: Word,
     pub held: Option<Held>,
@@ -69,10 +69,10 @@ pub fn change_of(shift: Shift) -> Change
 
 /// A byte or word is moved by one change, and the count becomes one less.
 #[inline(always)]
-pub(crate) fn one_moved(shift: Shift, held: Option<Held>, next: Word, count: Word) -> Moved
+pub(crate) fn one_moved(shift: Shift, held: Option<Held>, next: Word, count: Word) -> NextMove
     ensures { result ≡ record { next = next; left = count - 1; held = held; shift = shift } }
 {
-    Moved {
+    NextMove {
         next,
         left: Word::new(count.value().saturating_sub(1)),
         held,
@@ -81,7 +81,7 @@ pub(crate) fn one_moved(shift: Shift, held: Option<Held>, next: Word, count: Wor
 }
 
 /// The same as a decision.
-fn moving(m: &Moved) -> Decision
+fn moving(m: &NextMove) -> Decision
     ensures { result ≡ moving m.now }
 {
     let mut changes = ArrayVec::new();
@@ -91,7 +91,7 @@ fn moving(m: &Moved) -> Decision
 
 /// What is moved, if something is.
 #[inline(always)]
-fn found(r: Result<Moved, Halt>) -> Option<Moved>
+fn found(r: Result<NextMove, Halt>) -> Option<NextMove>
     ensures { result ≡ found r }
 {
     match r {
@@ -115,7 +115,7 @@ impl Caller<'_> {
     }
 
     /// The decision of SIOT, by what it moves or why it moves nothing.
-    pub(crate) fn outcome(&self, r: Result<Moved, Halt>) -> Decision
+    pub(crate) fn outcome(&self, r: Result<NextMove, Halt>) -> Decision
         ensures { result ≡ outcome (looks self.now) self.now.ask.now r }
     {
         match r {
@@ -127,7 +127,7 @@ impl Caller<'_> {
     /// What SIOT moves next, if its channel is on a console, a file, a draft or a link.
     #[inline(always)]
     #[tactic(auto, using(its_machine::proofs::NumberLaws::under), unfolding(its_plain::specs::CallDevice::siot_call, its_plain::specs::View::view))]
-    fn next_move(&self) -> Option<Moved>
+    fn next_move(&self) -> Option<NextMove>
         requires fits { SeenFits self.now.seen.now }
         ensures { IfSome result (λ m. moving m ≡ siot_call (looks self.now) self.now.ask.now) }
     {
@@ -157,7 +157,7 @@ fn is_siot(name: Word) -> bool
 /// this, and disturbs nobody. None says nothing.
 #[inline(always)]
 #[tactic(auto, using(crate::proofs::SiotLaws::siot_target), unfolding(its_plain::specs::CallStep::decision, its_plain::specs::Decide::decided, its_plain::specs::Decide::reach))]
-pub fn next_move(seen: &Seen<'_>, slot: Slot, job: &Job, ask: &Ask) -> Option<Moved>
+pub fn next_move(seen: &Seen<'_>, slot: Slot, job: &Job, ask: &Ask) -> Option<NextMove>
     requires job { job_at seen.now.jobs.now slot ≡ Some job.now }
     requires fits { SeenFits seen.now }
     ensures moves { IfSome result (λ m. moving m ≡ decision (machine_seen seen.now) slot (raw_with seen.now slot job.now) ask.now) }

@@ -12,7 +12,7 @@ ghost use Rattle.its_decide.specs.declared.moving.Shift.TheVariants.{Move as Shi
 
 use super::caller::Caller;
 use super::ends::{ends, store_at};
-use super::moving::{Halt, Moved, Shift, one_moved};
+use super::moving::{Halt, NextMove, Shift, one_moved};
 use its_frame::{Change, Decision, Held};
 use its_word::Word;
 
@@ -61,7 +61,7 @@ impl Caller<'_> {
     /// from is one more. MPV or WRO by the word that it will be stored in.
     #[inline(always)]
     #[tactic(auto, unfolding(its_plain::specs::View::view))]
-    pub(crate) fn siot_gets(&self, next: Word, at: u32, word: Word) -> Result<Moved, Halt>
+    pub(crate) fn siot_gets(&self, next: Word, at: u32, word: Word) -> Result<NextMove, Halt>
         requires number { input self.now.ask.now 0 < 16 }
         requires few { at < 2 ^ 18 }
         ensures { outcome (looks self.now) self.now.ask.now result ≡ siot_read (looks self.now) next (input self.now.ask.now 2) (input self.now.ask.now 0) at word }

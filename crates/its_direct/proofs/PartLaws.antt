@@ -44,7 +44,7 @@ use Rattle.pdp_exec.specs.declared.near.Near.{Near}
 use Rattle.its_decide.specs.Moving.{moving}
 use Rattle.its_decide.specs.Seen.{machine_seen, raw_with}
 use Rattle.its_decide.specs.declared.caller.Seen.{Seen}
-use Rattle.its_decide.specs.declared.moving.Moved.{Moved}
+use Rattle.its_decide.specs.declared.moving.NextMove.{NextMove}
 use Rattle.its_direct.specs.Parts.{AtCall, Decides, InParts, OnePart, PartIf, no_input, with_input}
 use Rattle.its_direct.specs.Plain.{machine_of, no_slots, Tidy}
 use Rattle.its_direct.specs.Ready.{CanCarryOut, held_in}
@@ -118,7 +118,7 @@ at_call p s n i a r h had e got =
       stands = record { unit_is = unit_is p s i (Called (near_site i.pc n)) o.unit; ask_is = sym e ∙ got };
     }
 
-pub decides : (p : Plain) (v : Seen) (s : ℕ) (i : Job) (a : Ask) (o : Option Moved) → Lent p v → job_at p.jobs s ≡ Some i
+pub decides : (p : Plain) (v : Seen) (s : ℕ) (i : Job) (a : Ask) (o : Option NextMove) → Lent p v → job_at p.jobs s ≡ Some i
     → IfSome o (λ m. moving m ≡ decision (machine_seen v) s (raw_with v s i) a) → IfSome o (λ m. reach (machine_seen v) s (raw_with v s i) a ≡ []) → IfSome o (λ m. Decides (machine_of p) s a (moving m))
 decides p v s i a None h had e alone = tt
 decides p v s i a (Some m) h had e alone = record {

@@ -14,14 +14,14 @@ ghost use Rattle.its_direct.specs.Ready.{Carries, GoesOn, core_behind};
 
 use super::plain::Plain;
 use super::steps::new_values;
-use its_decide::{Moved, Shift};
+use its_decide::{NextMove, Shift};
 use its_records::Ask;
 use its_word::{ConsoleNumber, Slot, Store, Word};
 
 impl Plain {
     /// Carries out a part of a call of a slot's job that moves a byte or word, when the call has three inputs. The slots that are touched stay.
     #[inline(always)]
-    pub(crate) fn move_one(&mut self, slot: Slot, ask: &Ask, moved: &Moved)
+    pub(crate) fn move_one(&mut self, slot: Slot, ask: &Ask, moved: &NextMove)
         requires inputs { length ask.now.inputs.items ≡ 3 }
         requires carries { Carries (machine_of self.old) slot (change_of moved.now.shift ∷ []) }
         requires part { GoesOn (core_behind (machine_of self.old) slot (change_of moved.now.shift ∷ [])) ask.now moved.now.held (moved.now.next ∷ moved.now.left ∷ []) }

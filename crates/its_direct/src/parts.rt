@@ -10,7 +10,7 @@ ghost use Rattle.its_direct.specs.Waiting.{AtHand};
 use super::asking::{no_ask, put_near};
 use super::plain::{Plain, Spot};
 use its_core::Core;
-use its_decide::{Moved, next_move};
+use its_decide::{NextMove, next_move};
 use its_records::Ask;
 use its_word::{ADDRESSES, Slot, Word};
 use pdp_exec::Near;
@@ -111,7 +111,7 @@ impl Plain {
     /// What a call of a slot's job moves next that asks for this, if it reaches no other job.
     #[inline(always)]
     #[tactic(auto, using(crate::proofs::PartLaws::decides))]
-    fn next_move(&self, slot: Slot, ask: &Ask) -> Option<Moved>
+    fn next_move(&self, slot: Slot, ask: &Ask) -> Option<NextMove>
         requires kept { Kept self.now }
         requires at { AtCall (machine_of self.now) slot ask.now }
         ensures { IfSome result (λ m. Decides (machine_of self.now) slot ask.now (moving m)) }
@@ -124,7 +124,7 @@ impl Plain {
 
     /// Moves a byte or word as a call has decided, if the call has three inputs.
     #[inline(always)]
-    fn move_alone(&mut self, slot: Slot, ask: &mut Ask, moved: &Moved) -> bool
+    fn move_alone(&mut self, slot: Slot, ask: &mut Ask, moved: &NextMove) -> bool
         requires outside { self.old.place ≡ Spot.Plain }
         requires kept { Kept self.old }
         requires at { AtCall (machine_of self.old) slot ask.old }
