@@ -9,14 +9,14 @@ from shared import called, loaded
 
 REAL = loaded("crates")
 
-LISTED = "# words\nits_word: arrayvec\n# a library\nits_web staticlib: its_word its_top\nits_robin:\nits_top: its_robin its_word\na: its_word\nb: its_word\n"
+LISTED = "# words\nits_word: arrayvec\n# a library\nits_web staticlib: its_word its_top\nits_robin: its_word\nits_top: its_robin its_word\na: its_word\nb: its_word\n"
 PAGE = """# Crates
 
 %s
 |---|---|---|
 | its_word | words | arrayvec |
 | its_web | for C | its_top |
-| its_robin | turns | nothing, not even its_word |
+| its_robin | turns | |
 | its_top | the top | its_robin |
 | a, b | two | |
 
@@ -34,7 +34,7 @@ class Tables(unittest.TestCase):
         return wrong, text
 
     def test_uses(self):
-        self.assertEqual(REAL.uses_of(LISTED), {"its_word": ["arrayvec"], "its_web": ["its_word", "its_top"], "its_robin": [],
+        self.assertEqual(REAL.uses_of(LISTED), {"its_word": ["arrayvec"], "its_web": ["its_word", "its_top"], "its_robin": ["its_word"],
                                                 "its_top": ["its_robin", "its_word"], "a": ["its_word"], "b": ["its_word"]})
 
     def test_same(self):

@@ -9,8 +9,6 @@
 mod row;
 mod session;
 mod source;
-#[cfg(test)]
-mod tests;
 mod text;
 
 pub use source::{Made, Unmade, assemble_source};

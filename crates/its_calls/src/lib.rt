@@ -7,8 +7,6 @@
 
 mod call;
 mod owed;
-#[cfg(test)]
-mod tests;
 mod values;
 
 pub use call::{Call, Next, View};

@@ -11,8 +11,6 @@
 #![tactic(auto)]
 
 mod mnemonic;
-#[cfg(test)]
-mod tests;
 mod text;
 mod typing;
 

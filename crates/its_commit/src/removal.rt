@@ -16,8 +16,8 @@ ghost use Rattle.its_commit.specs.Removal.{Closes, Empties, Sweeps, Swept};
 ghost use Rattle.its_world.specs.World.{state_of, in_raw, with_frames, CoreBecomes};
 
 use its_machine::{is_removed, leave_each, pass_on};
-use its_word::{SLOTS, Slot};
-use its_world::{World, forget_removed, within};
+use its_word::{SLOTS, Slot, within};
+use its_world::{World, forget_removed};
 
 /// How many channels a job has.
 const CHANNELS: u8 = 16;

@@ -4,9 +4,6 @@
 //! false exactly if 64 bytes wait, and then nothing changes; `take` and `drain` are None exactly if none waits.
 #![tactic(auto)]
 
-#[cfg(test)]
-mod tests;
-
 ghost use Rattle.std.specs.Prelude.{◌≡◌, ◌<◌, ◌≤◌, ◌↔◌, ℕ, [], ◌∷◌, ◌++◌, length, drop, slice_get, false, IsTrue, IfOk};
 ghost use Rattle.its_word.specs.Console.{quiet_console, most_waiting};
 

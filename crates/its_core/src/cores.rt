@@ -8,7 +8,7 @@ ghost use Rattle.its_core.specs.Cores.{core_at, reserved_at, clear_at, clear_wit
 
 use its_links::Links;
 use its_word::{
-    ADDRESSES, MAPPED_PAGES, NoAccess, NoMemory, ReadyWords, SLOTS, Slot, Word, filled,
+    ADDRESSES, MAPPED_PAGES, NoAccess, NoMemory, ReadyWords, SLOTS, Slot, Word, filled, within,
 };
 use std::alloc::Global;
 use std::marker::Model;
@@ -65,14 +65,6 @@ impl Model for Core {
     ghost view = { λ c. cores_in c.accs.items c.places.items c.held.items c.words.words c.lists };
 
     ghost invariant = { λ c. IsPool c.accs.items c.places.items c.held.items c.words.words c.lists c.mapped × (c.words.most ≡ all_words) };
-}
-
-/// Does nothing: a slot has one of the numbers that there are.
-#[inline(always)]
-fn within(slot: Slot)
-    ensures { slot < slots }
-{
-    let _ = slot.number();
 }
 
 /// The place of an accumulator of a slot.

@@ -1,10 +1,23 @@
-//! The decisions of calls tried, each at its errors and as it waits, goes on and finishes (`call_basic`, `call_tty`), and changes that
-//! are carried out (`its_commit`). There are tests alone.
+//! What a tick decides, tried: the decoding of calls (`its_decode`), their decisions at each error and as they wait, go on and finish
+//! (`call_basic`, `call_tty`), the place of a call (`its_calls`), changes that are carried out (`its_commit`), calls that are unwound
+//! (`its_pclsr`), interrupts (`its_ints`), and whose turn comes next (`its_robin`). There are tests alone.
 #![tactic(auto)]
 
 #[cfg(test)]
 mod basic;
 #[cfg(test)]
+mod caller;
+#[cfg(test)]
 mod consoles;
 #[cfg(test)]
+mod decoding;
+#[cfg(test)]
+mod interrupts;
+#[cfg(test)]
+mod places;
+#[cfg(test)]
 mod removals;
+#[cfg(test)]
+mod rows;
+#[cfg(test)]
+mod turns;

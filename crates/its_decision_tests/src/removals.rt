@@ -1,17 +1,18 @@
-ghost use Rattle.std.specs.Prelude.{◌≡◌, ◌<◌, ℕ, true, None, slice_set, IfOk, IfSome, is_some};
+ghost use Rattle.std.specs.Prelude.{◌≡◌, ◌<◌, ℕ, true, None, slice_set, IfOk};
 ghost use Rattle.its_records.specs.declared.jobs.Channel.TheVariants.{Usr};
-ghost use Rattle.its_jobs.specs.Table.{job_at};
 ghost use Rattle.its_stepped.specs.Sound.{Sound};
 ghost use Rattle.its_world.specs.Tidy.{Tidy};
 ghost use Rattle.its_world.specs.World.{state_of};
 ghost use Rattle.its_commit.specs.Removal.{Elsewhere};
 
+use super::caller::standing;
 use its_commit::apply;
 use its_frame::Change;
 use its_jobs::{Job, Jobs};
+use its_pclsr::unwind_below;
 use its_records::Channel;
-use its_word::{SLOTS, Slot, Word};
-use its_world::{World, within};
+use its_word::{SLOTS, Slot, Word, within};
+use its_world::World;
 use std::alloc::Global;
 use std::process::Abort;
 use std::test::Fail;
@@ -37,17 +38,6 @@ fn jobs(rt: &impl Abort, alloc: Global, superiors: [Option<u8>; 4], slot: u8) ->
         add(rt, &mut jobs, superior, slot);
     }
     Ok(jobs)
-}
-
-/// The slot of a superior, which has a job; None if there is none.
-fn standing(rt: &impl Abort, jobs: &Jobs, superior: Option<u8>) -> Option<Slot>
-    ensures { IfSome result (λ s. is_some (job_at jobs.now s) ≡ true) }
-{
-    let number = superior?;
-    assert!(rt; usize::from(number) < SLOTS);
-    let slot = Slot::new(number);
-    assert!(rt; jobs.job(slot).is_some());
-    Some(slot)
 }
 
 /// A job more, whose first channel is open on a slot.
@@ -200,6 +190,19 @@ fn trees(rt: HostRuntime) -> Result<(), Fail> {
         for (console, want) in holders.into_iter().enumerate() {
             assert_eq!(rt; w.holders.get(console), Some(&want), "{console} of {root}");
         }
+    }
+    Ok(())
+}
+
+/// Jobs that are in no call stay as they are, with those below them.
+#[test]
+#[tactic(auto, using(its_commit::proofs::IdleLaws::idle_sound, its_commit::proofs::IdleLaws::idle_frames, its_commit::proofs::IdleLaws::idle_page, its_commit::proofs::IdleLaws::idle_tidy, its_records::proofs::FreeLaws::limit_first))]
+fn nothing_to_unwind(rt: HostRuntime) -> Result<(), Fail> {
+    let mut w = World::open(rt.alloc())?;
+    w.jobs = jobs(&rt, rt.alloc(), [None, Some(0), Some(1), None], 1)?;
+    unwind_below(&mut w, Slot::FIRST);
+    for slot in 0..4u8 {
+        assert_eq!(rt; first(w.jobs.numbered(slot)), Some(on(1)));
     }
     Ok(())
 }

@@ -9,7 +9,5 @@
 mod arguments;
 mod asking;
 mod block;
-#[cfg(test)]
-mod tests;
 
 pub use asking::{fetch_site, parse_site};

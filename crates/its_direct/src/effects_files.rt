@@ -12,10 +12,10 @@ ghost use Rattle.its_machine.specs.Parts.{chan_of};
 ghost use Rattle.its_direct.specs.Effects.{Becomes, ChannelBecomes};
 ghost use Rattle.its_direct.specs.Plain.{machine_of, Tidy};
 
-use super::plain::{Plain, within};
+use super::plain::Plain;
 use its_frame::Opened;
 use its_records::{Channel, Job};
-use its_word::{Slot, Word};
+use its_word::{Slot, Word, within};
 
 impl Plain {
     /// What a channel of a slot's job is on; closed if the slot is empty.

@@ -9,9 +9,9 @@ ghost use Rattle.its_direct.specs.Plain.{machine_of, Tidy};
 ghost use Rattle.its_records.specs.Refusals.{reason_of};
 ghost use Rattle.its_direct.specs.Lines.{one_slot, Operates, Looks, Rewritten};
 
-use super::plain::{Plain, within};
+use super::plain::Plain;
 use its_records::{Job, Refusal};
-use its_word::{ADDRESSES, FATAL, NoAccess, Slot, Word};
+use its_word::{ADDRESSES, FATAL, NoAccess, Slot, Word, within};
 
 impl Plain {
     /// GO: the job of a slot runs from an address, with no flags. NoJob if the slot is empty.

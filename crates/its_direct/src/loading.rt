@@ -8,10 +8,10 @@ ghost use Rattle.its_direct.specs.Plain.{machine_of, Tidy};
 ghost use Rattle.its_records.specs.Refusals.{reason_of};
 ghost use Rattle.its_direct.specs.Lines.{Loads};
 
-use super::plain::{Plain, Spot, within};
+use super::plain::{Plain, Spot};
 use its_jobs::NoSlot;
 use its_records::Refusal;
-use its_word::{ConsoleNumber, Slot, Word};
+use its_word::{ConsoleNumber, Slot, Word, within};
 
 impl Plain {
     /// LOAD: makes a stopped job with these names and this console in the least empty slot, which it answers and whose LOAD block

@@ -1,4 +1,4 @@
-ghost use Rattle.std.specs.Prelude.{◌≡◌, ◌<◌, ◌≤◌, true, false, None, Some, IfOk, vec_len, slice_set, is_some};
+ghost use Rattle.std.specs.Prelude.{◌≡◌, ◌≤◌, true, false, None, Some, IfOk, vec_len, slice_set, is_some};
 ghost use Rattle.its_word.specs.Limits.{slots, limit_of};
 
 use its_console::Console;
@@ -21,13 +21,6 @@ pub enum Spot {
     Plain,
     Load { slot: Slot },
     File { names: [Word; 3] },
-}
-
-/// Does nothing: what is true of a slot at any time.
-pub(crate) fn within(slot: Slot)
-    ensures { slot < slots }
-{
-    let _ = slot.number();
 }
 
 /// The plain machine: cores, jobs, the consoles and for each of them the slot of the job that holds it, files and drafts, the clock in

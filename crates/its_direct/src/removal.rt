@@ -10,9 +10,9 @@ ghost use Rattle.its_direct.specs.Lines.{SymbolsBecome};
 ghost use Rattle.its_direct.specs.Plain.{machine_of, Tidy};
 ghost use Rattle.its_direct.specs.Removal.{Bares, Closes, ClosesTree, Sweeps, Swept};
 
-use super::plain::{Plain, within};
+use super::plain::Plain;
 use its_machine::{is_removed, leave_each, pass_on};
-use its_word::{SLOTS, Slot};
+use its_word::{SLOTS, Slot, within};
 
 /// How many channels a job has.
 const CHANNELS: u8 = 16;

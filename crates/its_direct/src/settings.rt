@@ -12,11 +12,11 @@ ghost use Rattle.its_direct.specs.Plain.{machine_of, Tidy};
 ghost use Rattle.its_records.specs.Refusals.{reason_of};
 ghost use Rattle.its_direct.specs.Lines.{Operates, Stands, Keeps, SymbolsBecome, VersionBecomes};
 
-use super::plain::{Plain, within};
+use super::plain::Plain;
 use its_jobs::limit_of;
 use its_machine::MOST_SYMBOLS;
 use its_records::Refusal;
-use its_word::{Slot, Word};
+use its_word::{Slot, Word, within};
 
 impl Plain {
     /// VERSION: if no slot has a job, the machine becomes one of this version, which can have 64 jobs, or 96 in version

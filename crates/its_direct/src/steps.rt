@@ -23,7 +23,7 @@ ghost use Rattle.its_direct.specs.Waiting.{AtHand};
 ghost use Rattle.its_direct.specs.Steps.{Acts, CallsAt, Lent, LosesOnly, Makes, Steps, marked_by, is_making, makes_job, own_of};
 
 use super::asking::{no_ask, put_near};
-use super::plain::{Plain, Spot, within};
+use super::plain::{Plain, Spot};
 use super::users::Begun;
 use arrayvec::ArrayVec;
 use its_bytes::deposit;
@@ -31,7 +31,7 @@ use its_core::Core;
 use its_decide::{Disturbed, Seen, decide, disturbed_by, disturbs};
 use its_frame::{Change, Decision, Held};
 use its_records::{Ask, Job, Site};
-use its_word::{Fault, SLOTS, Slot, Store, Word};
+use its_word::{Fault, SLOTS, Slot, Store, Word, within};
 use pdp_exec::Near;
 
 /// For each slot whether something holds.

@@ -10,10 +10,10 @@ ghost use Rattle.its_direct.specs.Plain.{machine_of, CoreBecomes, Tidy};
 ghost use Rattle.its_records.specs.Refusals.{reason_of};
 ghost use Rattle.its_direct.specs.Lines.{Operates, pages_absent, pages_made};
 
-use super::plain::{Plain, within};
+use super::plain::Plain;
 use its_core::Core;
 use its_records::Refusal;
-use its_word::{MAPPED_PAGES, NoAccess, Slot, Word};
+use its_word::{MAPPED_PAGES, NoAccess, Slot, Word, within};
 
 impl Plain {
     /// The words of an a/ line of the job of a slot, from an address on: absent pages are made, writable and of zeros. NoJob if the

@@ -6,7 +6,5 @@
 
 mod delivery;
 mod table;
-#[cfg(test)]
-mod tests;
 
 pub use delivery::{deliver, deliverable, dismiss, popped};

@@ -10,8 +10,6 @@ mod memory;
 mod real;
 mod safe;
 mod stream;
-#[cfg(test)]
-mod tests;
 
 pub use its_word::NoMemory;
 pub use memory::{MemSink, MemSource};

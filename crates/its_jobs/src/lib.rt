@@ -9,8 +9,6 @@
 #![tactic(auto)]
 
 mod table;
-#[cfg(test)]
-mod tests;
 
 pub use its_records::{Channel, Job};
 pub use its_word::NoMemory;

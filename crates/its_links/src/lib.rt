@@ -6,8 +6,6 @@
 
 mod links;
 mod rings;
-#[cfg(test)]
-mod tests;
 
 pub use its_word::NoMemory;
 pub use links::Links;

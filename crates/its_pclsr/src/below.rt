@@ -8,9 +8,6 @@ ghost use Rattle.its_world.specs.Tidy.{Tidy};
 ghost use Rattle.its_world.specs.World.{state_of, plain_of};
 ghost use Rattle.its_pclsr.specs.Pages.{pages_unwound};
 
-#[cfg(test)]
-mod tests;
-
 use super::unwinding::unwind;
 use its_word::Slot;
 use its_world::World;

@@ -19,8 +19,6 @@
 
 mod ends;
 mod pipes;
-#[cfg(test)]
-mod tests;
 
 pub use its_records::{End, Link};
 pub use its_word::NoMemory;

@@ -146,7 +146,7 @@ impl Pipes {
     }
 
     /// Whether a number has a link.
-    pub(crate) fn has_link(&self, l: u8) -> bool
+    pub fn has_link(&self, l: u8) -> bool
         ensures { result ≡ is_some (piped self.now l) }
     {
         self.link(l).is_some()

@@ -10,8 +10,6 @@
 mod buffer;
 mod items;
 mod lines;
-#[cfg(test)]
-mod tests;
 mod texts;
 
 pub use items::{Found, Items};

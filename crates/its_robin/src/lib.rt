@@ -4,10 +4,8 @@
 //! nearest one on that way, and it is None exactly if no slot runs (`nearest`).
 #![tactic(auto)]
 
-#[cfg(test)]
-mod tests;
-
 ghost use Rattle.std.specs.Prelude.{◌≡◌, ◌≤◌, ◌<◌, ◌-◌, ℕ, false, length, slice_index_or};
+ghost use Rattle.its_word.specs.Limits.{slots};
 ghost use Rattle.its_robin.specs.Robin.{Turn, first_running, robin};
 
 /// The slot whose turn it is: the first that runs of those after slot `last`, around the circle of all of them, with
@@ -15,7 +13,7 @@ ghost use Rattle.its_robin.specs.Robin.{Turn, first_running, robin};
 /// says whether its job runs.
 #[tactic(auto, using(crate::proofs::RobinLaws::turn_behind, crate::proofs::RobinLaws::turn_around, crate::proofs::RobinLaws::next_behind, crate::proofs::RobinLaws::around_is))]
 pub fn next(runs: &[bool], last: u8) -> Option<u8>
-    requires few { length runs.now ≤ 96 }
+    requires few { length runs.now ≤ slots }
     requires last { last < length runs.now }
     ensures turn { result ≡ robin (length runs.now) (λ k. slice_index_or runs.now k false) last }
     ensures nearest { Turn (length runs.now) (λ k. slice_index_or runs.now k false) last result }
@@ -30,7 +28,7 @@ pub fn next(runs: &[bool], last: u8) -> Option<u8>
 /// The first slot that runs of those from one on and before another.
 #[tactic(auto, using(crate::proofs::RobinLaws::first_next, crate::proofs::RobinLaws::first_found, crate::proofs::RobinLaws::first_end))]
 fn first_running(runs: &[bool], from: usize, to: usize) -> Option<u8>
-    requires few { length runs.now ≤ 96 }
+    requires few { length runs.now ≤ slots }
     requires order { from ≤ to }
     requires within { to ≤ length runs.now }
     ensures { result ≡ first_running (λ k. slice_index_or runs.now k false) (to - from) from }

@@ -1,7 +1,16 @@
-//! What a monitor keeps, tried: the cores of jobs (`its_core`), and files and drafts (`its_files`). There are tests alone.
+//! What a monitor keeps, tried: the cores of jobs (`its_core`), the table of jobs (`its_jobs`), files and drafts (`its_files`), consoles
+//! (`its_console`), links (`its_pipes`), and lists of nodes (`its_links`). There are tests alone.
 #![tactic(auto)]
 
+#[cfg(test)]
+mod consoles;
 #[cfg(test)]
 mod cores;
 #[cfg(test)]
 mod files;
+#[cfg(test)]
+mod jobs;
+#[cfg(test)]
+mod links;
+#[cfg(test)]
+mod lists;

@@ -25,8 +25,6 @@ mod ready;
 mod result2;
 mod runs;
 mod slot;
-#[cfg(test)]
-mod tests;
 mod text;
 mod word;
 
@@ -50,6 +48,6 @@ pub use plan::{ChainStep, Context, Plan, Reached, Store};
 pub use ready::ReadyWords;
 pub use result2::Result2;
 pub use runs::words;
-pub use slot::Slot;
+pub use slot::{Slot, within};
 pub use text::{BadName, BadOctal, read_octal, read_sixbit};
 pub use word::Word;

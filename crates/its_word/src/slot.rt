@@ -63,3 +63,11 @@ impl Slot {
         usize::from(self.number)
     }
 }
+
+/// Does nothing: a slot has one of the numbers that there are, which a caller learns here.
+#[inline(always)]
+pub fn within(slot: Slot)
+    ensures { slot < slots }
+{
+    let _ = slot.number();
+}

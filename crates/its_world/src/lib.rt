@@ -23,6 +23,5 @@ mod symbols;
 mod world;
 
 pub use its_word::NoMemory;
-pub use storage::within;
 pub use symbols::forget_removed;
 pub use world::World;

@@ -1,7 +1,6 @@
 //! Channels of jobs with what they are on: the readers of files, and drafts.
 
 ghost use Rattle.std.specs.Prelude.{◌≡◌, ◌<◌, ℕ, true, false, None, Some, is_some};
-ghost use Rattle.its_word.specs.Limits.{slots};
 ghost use Rattle.its_jobs.specs.Table.{job_at};
 ghost use Rattle.its_frame.specs.declared.change.Change.TheVariants.{Open, Shut as Shuts, Move, Append, Close, Delete, Rename};
 ghost use Rattle.its_frame.specs.declared.change.Opened.TheVariants.{Reading as Reads, Writing as Writes};
@@ -15,14 +14,7 @@ ghost use Rattle.its_world.specs.Storage.{HasJob, chan_in, IsElsewhere, IsDraft,
 
 use super::world::World;
 use its_records::Channel;
-use its_word::{Slot, Word};
-
-/// Does nothing: a slot has one of the numbers that there are.
-pub fn within(slot: Slot)
-    ensures { slot < slots }
-{
-    let _ = slot.number();
-}
+use its_word::{Slot, Word, within};
 
 impl World {
     /// What a channel of a slot's job is on; closed if the slot is empty.

@@ -1,6 +1,7 @@
 //! A call is entered and left, again and again in one place. Numbers are octal.
-use super::*;
+
 use arrayvec::ArrayVec;
+use its_calls::{Call, View};
 use its_records::Site;
 use std::process::Abort;
 use std::test::Fail;

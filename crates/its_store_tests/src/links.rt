@@ -1,10 +1,10 @@
-ghost use Rattle.std.specs.Prelude.{◌≡◌, true, IfSome, is_some};
-ghost use Rattle.its_jobs.specs.Table.{job_at};
+//! Links, their ends and their words.
 
-use super::{End, Link, Pipes};
+use super::jobs::standing;
 use its_jobs::{Jobs, NoSlot};
-use its_records::LINKS;
-use its_word::{SLOTS, Slot, Word};
+use its_pipes::Pipes;
+use its_records::{End, LINKS, Link};
+use its_word::{Slot, Word};
 use std::process::Abort;
 use std::test::Fail;
 
@@ -127,17 +127,6 @@ fn numbers(rt: HostRuntime) -> Result<(), Fail> {
     assert_eq!(rt; pipes.free_link(), Some(4));
     assert_eq!(rt; pipes.link_named(word(4), word(7)), None);
     Ok(())
-}
-
-/// The slot of a superior, which has a job; None if there is none.
-fn standing(rt: &impl Abort, jobs: &Jobs, superior: Option<u8>) -> Option<Slot>
-    ensures { IfSome result (λ s. is_some (job_at jobs.now s) ≡ true) }
-{
-    let number = superior?;
-    assert!(rt; usize::from(number) < SLOTS);
-    let slot = Slot::new(number);
-    assert!(rt; jobs.job(slot).is_some());
-    Some(slot)
 }
 
 /// Makes a job, below another if one is given.

@@ -2,9 +2,9 @@
 ghost use Rattle.std.specs.Prelude.{◌<◌, ◌^◌, IfSome};
 ghost use Rattle.its_plain.specs.Footprint.{SiteFits};
 
-use super::*;
 use arrayvec::ArrayVec;
 use its_core::Core;
+use its_decode::{fetch_site, parse_site};
 use its_records::{Ask, Block, Operand, Site};
 use its_word::{Fault, Slot, Word, read_octal};
 use std::process::Abort;

@@ -1,6 +1,7 @@
+//! Objects in memory, safe ones, and those of the process.
 ghost use Rattle.std.specs.Prelude.{◌≤◌, length, IfOk};
 
-use super::{
+use its_io::{
     Failed, MemSink, MemSource, RealSink, RealSource, SafeSink, SafeSource, Sink, Source, write_all,
 };
 use std::test::Fail;

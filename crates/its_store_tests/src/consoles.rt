@@ -1,4 +1,6 @@
-use super::Console;
+//! The two rings of a console.
+
+use its_console::Console;
 use std::process::Abort;
 use std::test::Fail;
 

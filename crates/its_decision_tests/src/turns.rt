@@ -1,4 +1,6 @@
-use super::next;
+//! Whose turn comes next.
+
+use its_robin::next;
 use std::process::Abort;
 use std::test::Fail;
 

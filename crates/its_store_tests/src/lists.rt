@@ -1,12 +1,14 @@
+//! Lists of nodes.
 ghost use Rattle.std.specs.Prelude.{◌≡◌, ◌+◌, ℕ, length, IfOk};
 ghost use Rattle.its_links.specs.Lists.{times, hit};
 
-use super::*;
+use its_links::Links;
+use its_word::NoMemory;
 use std::alloc::Global;
 use std::test::Fail;
 
 /// Three lists of nodes below 8: 5 1 7 in the first, 2 in the second, none in the third.
-#[tactic(auto, using(crate::proofs::CountLaws::lists))]
+#[tactic(auto, using(its_links::proofs::CountLaws::lists))]
 fn some_lists(alloc: Global) -> Result<Links, NoMemory>
     ensures nodes { IfOk result (λ links. links.nodes ≡ 8) }
     ensures heads { IfOk result (λ links. length links.lists ≡ 3) }
@@ -21,7 +23,7 @@ fn some_lists(alloc: Global) -> Result<Links, NoMemory>
 }
 
 #[test]
-#[tactic(auto, using(crate::proofs::CountLaws::lists))]
+#[tactic(auto, using(its_links::proofs::CountLaws::lists))]
 fn nodes_in_order(rt: HostRuntime) -> Result<(), Fail> {
     let mut links = some_lists(rt.alloc())?;
     assert_eq!(rt; links.front(0), Some(5));
@@ -42,7 +44,7 @@ fn nodes_in_order(rt: HostRuntime) -> Result<(), Fail> {
 }
 
 #[test]
-#[tactic(auto, using(crate::proofs::CountLaws::lists))]
+#[tactic(auto, using(its_links::proofs::CountLaws::lists))]
 fn nodes_leave(rt: HostRuntime) -> Result<(), Fail> {
     // the middle, the first, the only, and with one more the last
     let mut links = some_lists(rt.alloc())?;

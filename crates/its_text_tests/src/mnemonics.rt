@@ -1,5 +1,7 @@
-use super::*;
+//! The name of each opcode, and words typed out.
+
 use arrayvec::ArrayVec;
+use its_chart::{opcode_named, type_out};
 use its_word::{Word, read_octal};
 use std::alloc::Global;
 use std::process::Abort;

@@ -1,4 +1,6 @@
-use super::*;
+//! Names, numbers and words as text.
+
+use its_word::{BadName, BadOctal, Word, read_octal, read_sixbit};
 
 /// Names and their SIXBIT words, as the tables of the monitor give them.
 static NAMES: [(&str, u64); 16] = [

@@ -1,8 +1,9 @@
+//! The table of jobs: trees, superiors and limits.
 ghost use Rattle.std.specs.Prelude.{◌≡◌, true, IfSome, is_some};
 ghost use Rattle.its_jobs.specs.Table.{job_at};
 
-use super::{Job, Jobs, NoSlot, limit_of};
-use its_records::Channel;
+use its_jobs::{Jobs, NoSlot, limit_of};
+use its_records::{Channel, Job};
 use its_word::{SLOTS, Slot, Word};
 use std::process::Abort;
 use std::test::Fail;
@@ -16,7 +17,7 @@ fn at(rt: &impl Abort, number: u8) -> Slot
 }
 
 /// The slot of a superior, which has a job; None if there is none.
-fn standing(rt: &impl Abort, jobs: &Jobs, superior: Option<u8>) -> Option<Slot>
+pub(super) fn standing(rt: &impl Abort, jobs: &Jobs, superior: Option<u8>) -> Option<Slot>
     ensures { IfSome result (λ s. is_some (job_at jobs.now s) ≡ true) }
 {
     let number = superior?;

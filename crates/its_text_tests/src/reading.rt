@@ -1,5 +1,7 @@
-use super::*;
+//! The lines of a source.
+
 use its_io::{Failed, MemSource, SafeSource, Source};
+use its_reader::{Next, Texts};
 use std::test::Fail;
 
 /// The lines of a source that gives seven bytes a call: one of three bytes, one of six, an empty one, and a last one without LF.

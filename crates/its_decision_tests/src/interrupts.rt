@@ -1,8 +1,8 @@
-ghost use Rattle.std.specs.Prelude.{◌≡◌, None, OnOk};
-ghost use Rattle.its_core.specs.Cores.{reserved_at};
+//! Interrupts that are delivered through the table of slot 0, and the returns from their handlers.
 
-use super::{deliver, deliverable, dismiss};
+use super::caller::make_page;
 use its_core::Core;
+use its_ints::{deliver, deliverable, dismiss};
 use its_records::{Channel, Exit, Job};
 use its_word::{BYTE_HALF, Fault, OVERFLOW, Slot, Word};
 use std::alloc::Global;
@@ -26,22 +26,6 @@ fn job(pend: u64, mask: u64, defer: u64) -> Job {
         console: None,
         channels: [Channel::Closed; 16],
     }
-}
-
-/// Makes a page of a slot.
-#[tactic(auto, unfolding(its_core::specs::Cores::core_at))]
-fn make_page(rt: &impl Abort, core: &mut Core, slot: Slot, page: u8) -> Result<(), Fail>
-    requires { reserved_at core.old slot ≡ None }
-    ensures { OnOk result (reserved_at core.new slot ≡ None) }
-{
-    assert!(rt; core.page(slot, page).is_none());
-    core.reserve(slot);
-    core.clear_quarter(slot, 0);
-    core.clear_quarter(slot, 1);
-    core.clear_quarter(slot, 2);
-    core.clear_quarter(slot, 3);
-    core.map(slot, slot, page)?;
-    Ok(())
 }
 
 /// Stores words into slot 0.
