@@ -1,14 +1,32 @@
--- The call SIOT by its name, and the job into which it reaches.
-use Rattle.std.specs.Prelude.{if◌then◌else◌, ◌≡◌, ◌==◌, ℕ, Bool, true, Option, Some, None}
+-- The call SIOT by its name, the job into which it reaches, and what it moves.
+use Rattle.std.specs.Prelude.{if◌then◌else◌, ◌≡◌, ◌==◌, ◌&&◌, ℕ, Bool, true, false, List, Option, Some, None, Result, Ok, Err, is_some, option_map, refl}
 use Rattle.std.proofs.Common.{ap, sym, ◌∙◌}
 use Rattle.std.proofs.lemmas.Bool.{eq-eqb, eqb-true}
 use Rattle.its_records.specs.declared.calls.Ask.{Ask}
+use Rattle.its_records.specs.declared.jobs.Channel.TheVariants.{Usr}
 use Rattle.its_frame.specs.declared.name.CallName.{CallName}
 use Rattle.its_frame.specs.declared.name.CallName.TheVariants.{Siot}
+use Rattle.its_frame.specs.declared.decision.Decision.{Decision}
 use Rattle.its_frame.specs.Calls.{call_named, sixbit}
+use Rattle.its_frame.proofs.NameLaws.{name_is}
 use Rattle.its_plain.specs.Arguments.{input}
-use Rattle.its_plain.specs.Decide.{argument_of, reached_by, target, target_by}
-use Rattle.its_plain.specs.Machine.{Whole}
+use Rattle.its_plain.specs.CallDevice.{siot_call}
+use Rattle.its_plain.specs.CallStep.{decision}
+use Rattle.its_plain.specs.Decide.{argument_of, decided, decided_by, listed, reach, reached_by, target, target_by}
+use Rattle.its_plain.specs.Machine.{Machine, Whole}
+use Rattle.its_plain.specs.Tests.{fails}
+use Rattle.its_plain.specs.View.{View, view}
+use Rattle.its_plain.proofs.TargetLaws.{reach_named, target_on}
+use Rattle.its_machine.specs.Called.{channel_under}
+use Rattle.its_machine.proofs.NumberLaws.{usr_on}
+use Rattle.its_decide.specs.Called.{raw}
+use Rattle.its_decide.specs.declared.caller.Caller.{Caller}
+use Rattle.its_decide.specs.Moving.{change_of, found, halted, is_siot, moved_alone, moved_by, moving, next_moved, outcome, shift_of}
+use Rattle.its_decide.specs.declared.moving.Halt.{Halt}
+use Rattle.its_decide.specs.declared.moving.Halt.TheVariants as halts
+use Rattle.its_decide.specs.declared.moving.NextMove.{NextMove}
+use Rattle.its_decide.specs.declared.moving.Shift.{Shift}
+use Rattle.its_decide.specs.declared.moving.Shift.TheVariants as shifts
 
 pub siot_named : (n : ℕ) → (n == 0o635157640000) ≡ true → call_named n ≡ Some Siot
 unfolding call_named sixbit
@@ -19,3 +37,79 @@ unfolding target
 siot_target q a o z e is =
     is
     ∙ sym (ap (λ (b : Bool). if b then target_by q a (argument_of (call_named a.name)) else None) (eq-eqb a.fail 0 z) ∙ ap (λ (n : Option CallName). target_by q a (argument_of n)) e)
+
+-- no other name is that of SIOT
+siot_by : (n : ℕ) (o : Option CallName) (b : Bool) → call_named n ≡ o → (n == 0o635157640000) ≡ b → b ≡ is_siot o
+unfolding sixbit
+siot_by n o true e t = sym (ap is_siot (sym e ∙ siot_named n t))
+siot_by n (Some Siot) false e t = sym t ∙ eq-eqb n 0o635157640000 (name_is n Siot e)
+siot_by n _ false e t = refl
+
+pub siot_is : (n : ℕ) → (n == 0o635157640000) ≡ is_siot (call_named n)
+siot_is n = siot_by n (call_named n) (n == 0o635157640000) refl refl
+
+-- what SIOT moves is what its decision moves
+shift_back : (s : Shift) → shift_of (change_of s) ≡ Some s
+shift_back (shifts.Move n at) = refl
+shift_back _ = refl
+
+pub moved_moving : (m : NextMove) → Some m ≡ moved_by (moving m)
+moved_moving m = sym (ap (option_map (λ (s : Shift). record { next = m.next; left = m.left; held = m.held; shift = s })) (shift_back m.shift))
+
+unmoved : (v : View) (a : Ask) (h : Halt) → None ≡ moved_by (halted v a h)
+unmoved v a (halts.Error n) = refl
+unmoved v a _ = refl
+
+pub found_moves : (v : View) (a : Ask) (r : Result NextMove Halt) → found r ≡ moved_by (outcome v a r)
+found_moves v a (Ok m) = moved_moving m
+found_moves v a (Err h) = unmoved v a h
+
+-- a channel on an inferior is one through which SIOT reaches
+pub siot_usr : (c : Caller) (s at : ℕ) (write : Bool) (d : Decision) → c.ask.now.fail ≡ 0 → call_named c.ask.now.name ≡ Some Siot
+    → channel_under c.job.now (input c.ask.now 0) ≡ Usr s write at → c.target ≡ None → None ≡ moved_by d
+siot_usr c s at write d z e on none =
+    let there = target_on (raw c) c.ask.now Siot 0 s at write z e refl (usr_on c.seen.now.files.now c.job.now (input c.ask.now 0) s at write on) in
+    let both : None ≡ Some s = sym none ∙ c.reaches ∙ there in
+    cc
+
+-- the rule of what moves next, case by case
+siot_decides : (m : Machine) (j : ℕ) (q : Whole) (a : Ask) → a.fail ≡ 0 → call_named a.name ≡ Some Siot → decision m j q a ≡ siot_call (view m j q (target q a)) a
+unfolding decision decided
+siot_decides m j q a z e =
+    let v = view m j q (target q a) in
+    ap (λ (b : Bool). if b then decided_by v a (call_named a.name) else fails v a a.fail) (eq-eqb a.fail 0 z) ∙ ap (decided_by v a) e
+
+pub moved_failed : (m : Machine) (j : ℕ) (q : Whole) (a : Ask) → (a.fail == 0) ≡ false → None ≡ next_moved m j q a
+unfolding next_moved
+moved_failed m j q a f = sym (ap (λ (b : Bool). if b && is_siot (call_named a.name) then moved_alone (reach m j q a) (decision m j q a) else None) f)
+
+pub moved_other : (m : Machine) (j : ℕ) (q : Whole) (a : Ask) → a.fail ≡ 0 → is_siot (call_named a.name) ≡ false → None ≡ next_moved m j q a
+unfolding next_moved
+moved_other m j q a z f =
+    sym
+    (ap (λ (b : Bool). if b && is_siot (call_named a.name) then moved_alone (reach m j q a) (decision m j q a) else None) (eq-eqb a.fail 0 z)
+    ∙ ap (λ (b : Bool). if b then moved_alone (reach m j q a) (decision m j q a) else None) f)
+
+moved_siot : (m : Machine) (j : ℕ) (q : Whole) (a : Ask) → a.fail ≡ 0 → call_named a.name ≡ Some Siot → moved_alone (listed (target q a)) (siot_call (view m j q (target q a)) a) ≡ next_moved m j q a
+unfolding next_moved
+moved_siot m j q a z e =
+    sym
+    (ap (λ (b : Bool). if b && is_siot (call_named a.name) then moved_alone (reach m j q a) (decision m j q a) else None) (eq-eqb a.fail 0 z)
+    ∙ ap (λ (n : Option CallName). if is_siot n then moved_alone (reach m j q a) (decision m j q a) else None) e
+    ∙ ap (λ (ks : List ℕ). moved_alone ks (decision m j q a)) (reach_named m j q a Siot z e)
+    ∙ ap (moved_alone (listed (target q a))) (siot_decides m j q a z e))
+
+reaching_by : (o : Option ℕ) (d : Decision) → is_some o ≡ true → None ≡ moved_alone (listed o) d
+reaching_by (Some s) d t = refl
+reaching_by None d t = cc
+
+pub moved_reaching : (m : Machine) (j : ℕ) (q : Whole) (a : Ask) (o : Option ℕ) → a.fail ≡ 0 → call_named a.name ≡ Some Siot → o ≡ reached_by q (input a 0) → is_some o ≡ true → None ≡ next_moved m j q a
+moved_reaching m j q a o z e is t =
+    let d = siot_call (view m j q (target q a)) a in
+    reaching_by o d t ∙ ap (λ (k : Option ℕ). moved_alone (listed k) d) (siot_target q a o z e is) ∙ moved_siot m j q a z e
+
+pub moved_next : (m : Machine) (j : ℕ) (q : Whole) (a : Ask) (o : Option ℕ) (r : Option NextMove) → a.fail ≡ 0 → call_named a.name ≡ Some Siot → o ≡ reached_by q (input a 0) → o ≡ None
+    → r ≡ moved_by (siot_call (view m j q (target q a)) a) → r ≡ next_moved m j q a
+moved_next m j q a o r z e is none h =
+    let d = siot_call (view m j q (target q a)) a in
+    h ∙ ap (λ (k : Option ℕ). moved_alone (listed k) d) (sym none ∙ siot_target q a o z e is) ∙ moved_siot m j q a z e

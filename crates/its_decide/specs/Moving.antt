@@ -1,9 +1,15 @@
--- What SIOT moves next, or why it moves nothing, as decisions.
+-- What SIOT moves next, or why it moves nothing, as decisions; and which decision moves what.
 -- No promise rests on this.
-use Rattle.std.specs.Prelude.{ℕ, Option, Some, None, Result, Ok, Err, [], ◌∷◌}
+use Rattle.std.specs.Prelude.{if◌then◌else◌, ◌==◌, ◌&&◌, ℕ, Bool, true, false, List, Option, Some, None, Result, Ok, Err, [], ◌∷◌, option_map}
 use Rattle.its_records.specs.declared.calls.Ask.{Ask}
 use Rattle.its_frame.specs.declared.decision.Decision.{Decision}
 use Rattle.its_frame.specs.declared.decision.Decision.TheVariants as decisions
+use Rattle.its_frame.specs.declared.decision.Held.{Held}
+use Rattle.its_frame.specs.declared.name.CallName.{CallName}
+use Rattle.its_frame.specs.declared.name.CallName.TheVariants.{Siot}
+use Rattle.its_plain.specs.CallStep.{decision}
+use Rattle.its_plain.specs.Decide.{call_named, reach}
+use Rattle.its_plain.specs.Machine.{Machine, Whole}
 use Rattle.its_plain.specs.Tests.{fails, faults, finishes, goes}
 use Rattle.its_plain.specs.View.{View}
 use Rattle.its_decide.specs.declared.moving.Halt.{Halt}
@@ -43,3 +49,35 @@ halted_by v a None = None
 abbrev pub found : Result NextMove Halt → Option NextMove
 found (Ok m) = Some m
 found (Err h) = None
+
+-- the part that a change is; none if SIOT has no such change
+abbrev pub shift_of : Change → Option Shift
+shift_of (changes.Move n at) = Some (shifts.Move n at)
+shift_of (changes.Append n w) = Some (shifts.Append n w)
+shift_of (changes.Take c) = Some (shifts.Take c)
+shift_of (changes.Put c b) = Some (shifts.Put c b)
+shift_of (changes.Send l w) = Some (shifts.Send l w)
+shift_of (changes.Receive l) = Some (shifts.Receive l)
+shift_of _ = None
+
+-- what a decision moves: a call that goes on moves something if it makes one such change and gives two arguments new
+-- values. No other decision moves anything
+abbrev pub moved_of : List Change → Option Held → List ℕ → Option NextMove
+moved_of (c ∷ []) h (next ∷ left ∷ []) = option_map (λ s. record { next = next; left = left; held = h; shift = s }) (shift_of c)
+moved_of _ h _ = None
+
+abbrev pub moved_by : Decision → Option NextMove
+moved_by (decisions.Goes cs h vs) = moved_of cs.items h vs.items
+moved_by _ = None
+
+-- what a call moves next: what its decision moves, if it is SIOT, its decoding gave no error, and it reaches no other job
+abbrev pub is_siot : Option CallName → Bool
+is_siot (Some Siot) = true
+is_siot _ = false
+
+abbrev pub moved_alone : List ℕ → Decision → Option NextMove
+moved_alone [] d = moved_by d
+moved_alone (k ∷ ks) d = None
+
+unfoldable pub next_moved : Machine → ℕ → Whole → Ask → Option NextMove
+next_moved m j q a = if (a.fail == 0) && is_siot (call_named a.name) then moved_alone (reach m j q a) (decision m j q a) else None

@@ -7,7 +7,7 @@ ghost use Rattle.its_plain.specs.CallStep.{decision};
 ghost use Rattle.its_plain.specs.Decide.{call_named, reach};
 ghost use Rattle.its_decide.specs.Called.{looks};
 ghost use Rattle.its_decide.specs.Fits.{SeenFits};
-ghost use Rattle.its_decide.specs.Moving.{change_of, found, halted, moving, outcome};
+ghost use Rattle.its_decide.specs.Moving.{change_of, found, halted, is_siot, moved_by, moving, next_moved, outcome};
 ghost use Rattle.its_decide.specs.Seen.{machine_seen, raw_with};
 
 use super::arguments::input;
@@ -89,17 +89,6 @@ fn moving(m: &NextMove) -> Decision
     goes_with(changes, m.held, m.next, m.left)
 }
 
-/// What is moved, if something is.
-#[inline(always)]
-fn found(r: Result<NextMove, Halt>) -> Option<NextMove>
-    ensures { result ≡ found r }
-{
-    match r {
-        Ok(m) => Some(m),
-        Err(_) => None,
-    }
-}
-
 impl Caller<'_> {
     /// The decision of a SIOT that moves nothing.
     #[tactic(auto, unfolding(its_plain::specs::View::view))]
@@ -124,20 +113,37 @@ impl Caller<'_> {
         }
     }
 
-    /// What SIOT moves next, if its channel is on a console, a file, a draft or a link.
+    /// What SIOT moves, if it moves something. This is all that its decision moves.
+    #[inline(always)]
+    #[tactic(auto, using(crate::proofs::SiotLaws::found_moves))]
+    fn found(&self, r: Result<NextMove, Halt>) -> Option<NextMove>
+        ensures found { result ≡ found r }
+        ensures moved { result ≡ moved_by (outcome (looks self.now) self.now.ask.now r) }
+    {
+        match r {
+            Ok(m) => Some(m),
+            Err(_) => None,
+        }
+    }
+
+    /// What SIOT moves next, if it reaches no other job: exactly what its decision moves.
     #[inline(always)]
     #[tactic(auto, using(its_machine::proofs::NumberLaws::under), unfolding(its_plain::specs::CallDevice::siot_call, its_plain::specs::View::view))]
     fn next_move(&self) -> Option<NextMove>
+        requires fail { self.now.ask.now.fail ≡ 0 }
+        requires name { call_named self.now.ask.now.name ≡ Some Siot }
+        requires alone { self.now.target ≡ None }
         requires fits { SeenFits self.now.seen.now }
-        ensures { IfSome result (λ m. moving m ≡ siot_call (looks self.now) self.now.ask.now) }
+        ensures moves { IfSome result (λ m. moving m ≡ siot_call (looks self.now) self.now.ask.now) }
+        ensures moved { result ≡ moved_by (siot_call (looks self.now) self.now.ask.now) }
     {
         match self.channel(self.input(0)) {
-            Channel::TtyIn => found(self.siot_in()),
-            Channel::TtyOut => found(self.siot_out()),
-            Channel::Reading { file, at } => found(self.siot_reads(file, at)),
-            Channel::Writing { draft } => found(self.siot_writes(draft)),
-            Channel::Link { link, write: true } => found(self.siot_sends(link)),
-            Channel::Link { link, write: false } => found(self.siot_receives(link)),
+            Channel::TtyIn => self.found(self.siot_in()),
+            Channel::TtyOut => self.found(self.siot_out()),
+            Channel::Reading { file, at } => self.found(self.siot_reads(file, at)),
+            Channel::Writing { draft } => self.found(self.siot_writes(draft)),
+            Channel::Link { link, write: true } => self.found(self.siot_sends(link)),
+            Channel::Link { link, write: false } => self.found(self.siot_receives(link)),
             Channel::Closed => None,
             Channel::Usr { .. } => None,
         }
@@ -146,22 +152,25 @@ impl Caller<'_> {
 
 /// Whether a word is the name of SIOT.
 #[inline(always)]
-#[tactic(auto, using(crate::proofs::SiotLaws::siot_named))]
+#[tactic(auto, using(crate::proofs::SiotLaws::siot_named, crate::proofs::SiotLaws::siot_is))]
 fn is_siot(name: Word) -> bool
-    ensures { result ≡ true → call_named name ≡ Some Siot }
+    ensures siot { result ≡ true → call_named name ≡ Some Siot }
+    ensures is { result ≡ is_siot (call_named name) }
 {
     name.value() == SIOT
 }
 
-/// What the call of a slot's job, which has these registers, moves next, if it is SIOT and reaches no other job. Then its decision is
-/// this, and disturbs nobody. None says nothing.
+/// What the call of a slot's job, which has these registers, moves next, if it is SIOT, its decoding gave no error, and it reaches no
+/// other job. Then its decision is this, and disturbs nobody. None says that one of the three is not so, or that the decision moves
+/// nothing.
 #[inline(always)]
-#[tactic(auto, using(crate::proofs::SiotLaws::siot_target), unfolding(its_plain::specs::CallStep::decision, its_plain::specs::Decide::decided, its_plain::specs::Decide::reach))]
+#[tactic(auto, using(crate::proofs::SiotLaws::siot_target, crate::proofs::SiotLaws::moved_failed, crate::proofs::SiotLaws::moved_other, crate::proofs::SiotLaws::moved_reaching, crate::proofs::SiotLaws::moved_next), unfolding(its_plain::specs::CallStep::decision, its_plain::specs::Decide::decided, its_plain::specs::Decide::reach))]
 pub fn next_move(seen: &Seen<'_>, slot: Slot, job: &Job, ask: &Ask) -> Option<NextMove>
     requires job { job_at seen.now.jobs.now slot ≡ Some job.now }
     requires fits { SeenFits seen.now }
     ensures moves { IfSome result (λ m. moving m ≡ decision (machine_seen seen.now) slot (raw_with seen.now slot job.now) ask.now) }
     ensures alone { IfSome result (λ m. reach (machine_seen seen.now) slot (raw_with seen.now slot job.now) ask.now ≡ []) }
+    ensures moved { result ≡ next_moved (machine_seen seen.now) slot (raw_with seen.now slot job.now) ask.now }
 {
     if ask.fail != 0 {
         return None;
