@@ -1,5 +1,5 @@
--- A part of SIOT is the decision of its call, which reaches no other job.
-use Rattle.std.specs.Prelude.{if◌then◌else◌, ◌==◌, ◌≡◌, ℕ, Bool, true, false, Option, Some, None, IfSome, [], refl}
+-- A part of SIOT is the decision of its call, which reaches no other job; and each such decision is a part.
+use Rattle.std.specs.Prelude.{if◌then◌else◌, ◌==◌, ◌≡◌, ◌&&◌, ℕ, Bool, true, false, List, Option, Some, None, Result, Ok, Err, IfSome, [], option_map, refl}
 use Rattle.std.proofs.Common.{sym, ◌∙◌, ap}
 use Rattle.std.proofs.lemmas.Bool.{eq-eqb, eqb-true}
 use Rattle.its_records.specs.declared.calls.Ask.{Ask}
@@ -7,13 +7,16 @@ use Rattle.its_records.specs.declared.jobs.Channel.{Channel}
 use Rattle.its_records.specs.declared.jobs.Channel.TheVariants.{Usr}
 use Rattle.its_records.specs.declared.jobs.Job.{Job}
 use Rattle.its_files.specs.Files.{Store}
+use Rattle.its_files.specs.declared.entry.Mark.{Mark}
+use Rattle.its_frame.proofs.NameLaws.{name_is}
 use Rattle.its_frame.specs.Calls.{call_named, sixbit}
+use Rattle.its_frame.specs.declared.decision.Decision.{Decision}
 use Rattle.its_frame.specs.declared.name.CallName.{CallName}
 use Rattle.its_frame.specs.declared.name.CallName.TheVariants.{Siot}
 use Rattle.its_jobs.specs.Table.{job_at}
 use Rattle.its_machine.specs.Called.{channel_under}
 use Rattle.its_machine.specs.Parts.{chan_of}
-use Rattle.its_machine.proofs.NumberLaws.{under}
+use Rattle.its_machine.proofs.NumberLaws.{under, usr_on}
 use Rattle.its_plain.specs.Arguments.{input}
 use Rattle.its_plain.specs.CallBasic.{channel_at, is_oneself}
 use Rattle.its_plain.specs.CallDevice.{siot_call}
@@ -21,20 +24,34 @@ use Rattle.its_plain.specs.CallStep.{decision}
 use Rattle.its_plain.specs.Decide.{argument_of, decided, decided_by, inferior_on, listed, reach, target, target_by}
 use Rattle.its_plain.specs.Machine.{Machine, Whole}
 use Rattle.its_plain.specs.Tests.{fails}
-use Rattle.its_plain.specs.View.{View}
-use Rattle.its_plain.proofs.TargetLaws.{reach_named}
+use Rattle.its_plain.specs.View.{View, view}
+use Rattle.its_plain.proofs.TargetLaws.{reach_named, target_on}
 use Rattle.its_world.specs.World.{raw_at, state_of}
 use Rattle.its_world.specs.declared.world.World.{World}
-use Rattle.call_basic.specs.Parts.{going}
+use Rattle.call_basic.specs.Parts.{change_of, going, part_in, part_of, stop_of}
 use Rattle.call_basic.specs.Seen.{raw_with, seen_by}
+use Rattle.call_basic.specs.declared.transfer.Moved.{Moved}
+use Rattle.call_basic.specs.declared.transfer.Moved.TheVariants as moved
 use Rattle.call_basic.specs.declared.transfer.Part.{Part}
+use Rattle.call_basic.specs.declared.transfer.Stop.{Stop}
+use Rattle.call_basic.specs.declared.transfer.Stop.TheVariants as stops
 use Rattle.call_basic.proofs.RawLaws.{raw_here}
-use Rattle.call_core.specs.Parts.{is_usr}
+use Rattle.call_core.specs.Parts.{asks_siot, going_alone, is_siot, is_usr, moved_of, next_part, part_by}
 use Rattle.call_core.proofs.RawLaws.{decision_here}
 
 pub siot_named : (n : ℕ) → (n == 0o635157640000) ≡ true → call_named n ≡ Some Siot
 unfolding call_named sixbit
 siot_named n e = ap call_named (eqb-true n 0o635157640000 e)
+
+-- no other name is that of SIOT
+siot_by : (n : ℕ) (o : Option CallName) (b : Bool) → call_named n ≡ o → (n == 0o635157640000) ≡ b → b ≡ is_siot o
+unfolding sixbit
+siot_by n o true e t = sym (ap is_siot (sym e ∙ siot_named n t))
+siot_by n (Some Siot) false e t = sym t ∙ eq-eqb n 0o635157640000 (name_is n Siot e)
+siot_by n _ false e t = refl
+
+pub siot_is : (n : ℕ) → (n == 0o635157640000) ≡ is_siot (call_named n)
+siot_is n = siot_by n (call_named n) (n == 0o635157640000) refl refl
 
 siot_decided : (v : View) (a : Ask) → a.fail ≡ 0 → call_named a.name ≡ Some Siot → decided v a ≡ siot_call v a
 unfolding decided
@@ -81,3 +98,61 @@ part_alone w s j a r h z e g =
     (λ p t. raw_here (λ q. reach (state_of w).raw s q a ≡ []) w s j h
     (alone (state_of w).raw s (raw_with w s j) a z e
     (ap inferior_on (sym (under w.files j (input a 0))) ∙ inferior_by w.files (channel_under j (input a 0)) t))) g
+
+-- the part that is done is that of the decision
+moved_back : (x : Moved) → moved_of (change_of x) ≡ Some x
+moved_back (moved.Move n at) = refl
+moved_back _ = refl
+
+part_going : (p : Part) → Some p ≡ part_by (going p)
+part_going p = sym (ap (option_map (λ (x : Moved). record { moved = x; held = p.held; next = p.next; left = p.left })) (moved_back p.moved))
+
+unparted : (j : Job) (a : Ask) (s : Stop) → None ≡ part_by (stop_of j a s)
+unparted j a (stops.Fails n) = refl
+unparted j a _ = refl
+
+pub part_found : (j : Job) (a : Ask) (r : Result Part Stop) → part_in r ≡ part_by (part_of j a r)
+part_found j a (Ok p) = part_going p
+part_found j a (Err s) = unparted j a s
+
+-- the rule of the part that is done next, case by case
+pub part_other : (o : Option Whole) (k : Option Mark) (m : Machine) (j : ℕ) (a : Ask) → asks_siot a ≡ false → IfSome o (λ q. None ≡ next_part k m j q a)
+unfolding next_part
+part_other None k m j a f = tt
+part_other (Some q) (Some x) m j a f = refl
+part_other (Some q) None m j a f = sym (ap (λ (b : Bool). if b then going_alone (reach m j q a) (decision m j q a) else None) f)
+
+pub part_marked : (o : Option Whole) (k : Option Mark) (n : ℕ) (m : Machine) (j : ℕ) (a : Ask) → option_map (λ (x : Mark). x.owner) k ≡ Some n → IfSome o (λ q. None ≡ next_part k m j q a)
+unfolding next_part
+part_marked None k n m j a h = tt
+part_marked (Some q) (Some x) n m j a h = refl
+part_marked (Some q) None n m j a h = cc
+
+part_siot : (m : Machine) (j : ℕ) (q : Whole) (a : Ask) → a.fail ≡ 0 → call_named a.name ≡ Some Siot → going_alone (listed (target q a)) (siot_call (view m j q (target q a)) a) ≡ next_part None m j q a
+unfolding next_part decision
+part_siot m j q a z e =
+    sym
+    (ap (λ (b : Bool). if b && is_siot (call_named a.name) then going_alone (reach m j q a) (decision m j q a) else None) (eq-eqb a.fail 0 z)
+    ∙ ap (λ (n : Option CallName). if is_siot n then going_alone (reach m j q a) (decision m j q a) else None) e
+    ∙ ap (λ (ks : List ℕ). going_alone ks (decision m j q a)) (reach_named m j q a Siot z e)
+    ∙ ap (going_alone (listed (target q a))) (siot_decided (view m j q (target q a)) a z e))
+
+part_on : (w : World) (s : ℕ) (j : Job) (a : Ask) (c : Channel) (d : Decision) → a.fail ≡ 0 → call_named a.name ≡ Some Siot → channel_under j (input a 0) ≡ c
+    → (if is_usr c then None else part_by d) ≡ going_alone (listed (target (raw_with w s j) a)) d
+part_on w s j a (Usr k b at) d z e is =
+    sym (ap (λ (o : Option ℕ). going_alone (listed o) d) (target_on (raw_with w s j) a Siot 0 k at b z e refl (usr_on w.files j (input a 0) k at b is)))
+part_on w s j a c d z e is =
+    sym
+    (ap (λ (o : Option ℕ). going_alone (listed o) d)
+    (untargeted (raw_with w s j) a z e (ap inferior_on (sym (under w.files j (input a 0)) ∙ ap (chan_of w.files) is) ∙ inferior_by w.files c refl)))
+
+pub part_next : (w : World) (s : ℕ) (j : Job) (a : Ask) (r : Option Part) → job_at w.jobs s ≡ Some j → a.fail ≡ 0 → call_named a.name ≡ Some Siot → w.files.mark ≡ None
+    → r ≡ (if is_usr (channel_under j (input a 0)) then None else part_by (siot_call (seen_by w s j a) a))
+    → IfSome (raw_at w.files w.core w.jobs w.alarms.items s) (λ q. r ≡ next_part w.files.mark (state_of w).raw s q a)
+part_next w s j a r h z e unmarked is =
+    let q = raw_with w s j in
+    raw_here (λ x. r ≡ next_part w.files.mark (state_of w).raw s x a) w s j h
+    (is
+    ∙ part_on w s j a (channel_under j (input a 0)) (siot_call (seen_by w s j a) a) z e refl
+    ∙ part_siot (state_of w).raw s q a z e
+    ∙ ap (λ (k : Option Mark). next_part k (state_of w).raw s q a) (sym unmarked))

@@ -10,6 +10,7 @@ ghost use Rattle.its_world.specs.Tidy.{Tidy};
 ghost use Rattle.its_world.specs.World.{state_of, raw_in};
 ghost use Rattle.call_basic.specs.Parts.{going};
 ghost use Rattle.call_basic.specs.Seen.{is_waiting, raw_with, seen_by};
+ghost use Rattle.call_core.specs.Parts.{asks_siot, is_siot, next_part};
 
 use super::devices::{close, iot, open, siot, siot_part};
 use super::pages::corblk;
@@ -40,7 +41,9 @@ pub fn decide(w: &World, slot: Slot, ask: &Ask) -> Decision
 }
 
 /// The part of the call of a slot's job that is done next, if the call is SIOT and moves a byte by one change. Then it reaches no
-/// other job, and no close is half made. None says nothing.
+/// other job, and no close is half made. None says that the call is not SIOT or its decoding gave an error, that a close is half made,
+/// that the call reaches another job, or that its decision is no such part.
+#[tactic(auto, using(crate::proofs::PartLaws::part_other))]
 pub fn part(w: &World, slot: Slot, ask: &Ask) -> Option<Part>
     requires job { is_some (job_at w.now.jobs slot) ≡ true }
     requires tidy { Tidy w.now }
@@ -48,6 +51,7 @@ pub fn part(w: &World, slot: Slot, ask: &Ask) -> Option<Part>
     ensures alone { IfSome result (λ p. IfSome (raw_in w.now slot) (λ q. reach (state_of w.now).raw slot q ask.now ≡ [])) }
     ensures unmarked { IfSome result (λ p. w.now.files.mark ≡ None) }
     ensures name { IfSome result (λ p. call_named_by ask.now.name ≡ Some Siot) }
+    ensures next { IfSome (raw_in w.now slot) (λ q. result ≡ next_part w.now.files.mark (state_of w.now).raw slot q ask.now) }
 {
     if !is_siot(ask) {
         return None;
@@ -69,6 +73,7 @@ fn unmarked_part(w: &World, slot: Slot, ask: &Ask) -> Option<Part>
     ensures alone { IfSome result (λ p. IfSome (raw_in w.now slot) (λ q. reach (state_of w.now).raw slot q ask.now ≡ [])) }
     ensures unmarked { IfSome result (λ p. w.now.files.mark ≡ None) }
     ensures name { IfSome result (λ p. call_named_by ask.now.name ≡ Some Siot) }
+    ensures next { IfSome (raw_in w.now slot) (λ q. result ≡ next_part w.now.files.mark (state_of w.now).raw slot q ask.now) }
 {
     match w.jobs.job(slot) {
         Some(job) => siot_part(w, slot, job, ask),
@@ -80,6 +85,7 @@ fn unmarked_part(w: &World, slot: Slot, ask: &Ask) -> Option<Part>
 pub fn is_siot(ask: &Ask) -> bool
     ensures fail { result ≡ true → ask.now.fail ≡ 0 }
     ensures name { result ≡ true → call_named_by ask.now.name ≡ Some Siot }
+    ensures siot { result ≡ asks_siot ask.now }
 {
     ask.fail == 0 && is_named_siot(ask.name)
 }
@@ -137,9 +143,10 @@ fn decided(w: &World, slot: Slot, job: &Job, ask: &Ask) -> Decision
 }
 
 /// Whether a word is the name of SIOT.
-#[tactic(auto, using(crate::proofs::PartLaws::siot_named))]
+#[tactic(auto, using(crate::proofs::PartLaws::siot_named, crate::proofs::PartLaws::siot_is))]
 fn is_named_siot(name: Word) -> bool
-    ensures { result ≡ true → call_named_by name ≡ Some Siot }
+    ensures name { result ≡ true → call_named_by name ≡ Some Siot }
+    ensures siot { result ≡ is_siot (call_named_by name) }
 {
     name.value() == SIOT
 }

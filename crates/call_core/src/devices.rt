@@ -1,5 +1,5 @@
 //! The calls that devices share: OPEN by its device; CLOSE, `.IOT` and SIOT by what the channel is on.
-ghost use Rattle.std.specs.Prelude.{◌≡◌, ◌<◌, ◌∷◌, [], true, false, None, Some, IfSome};
+ghost use Rattle.std.specs.Prelude.{if◌then◌else◌, ◌≡◌, ◌<◌, ◌∷◌, [], true, false, None, Some, IfSome};
 ghost use Rattle.its_frame.specs.declared.change.Change.TheVariants.{Shut};
 ghost use Rattle.its_frame.specs.declared.decision.Decision.TheVariants.{Ends};
 ghost use Rattle.its_frame.specs.declared.name.CallName.TheVariants.{Iot, Siot};
@@ -13,12 +13,12 @@ ghost use Rattle.its_stepped.specs.Tick.{helps};
 ghost use Rattle.its_world.specs.Tidy.{Tidy};
 ghost use Rattle.its_world.specs.World.{state_of};
 ghost use Rattle.its_machine.specs.Called.{channel_under};
-ghost use Rattle.call_basic.specs.Parts.{going};
+ghost use Rattle.call_basic.specs.Parts.{going, part_in, part_of};
 ghost use Rattle.call_basic.specs.Seen.{raw_with, seen_by};
-ghost use Rattle.call_core.specs.Parts.{is_usr};
+ghost use Rattle.call_core.specs.Parts.{is_usr, part_by};
 
 use arrayvec::ArrayVec;
-use call_basic::{Part, channel, decision_of, fails, finishes_with, input, ioc, part_in};
+use call_basic::{Part, Stop, channel, decision_of, fails, finishes_with, input, ioc, part_in};
 use call_file::{close_draft, iot_reads, iot_writes, is_disk, open_disk, siot_reads, siot_writes};
 use call_link::{close_end, iot_link, is_link, open_link, siot_link};
 use call_tty::{iot_in, iot_out, open_tty, siot_in, siot_out};
@@ -130,7 +130,8 @@ pub(crate) fn siot(w: &World, slot: Slot, job: &Job, ask: &Ask) -> Decision
     }
 }
 
-/// The part of SIOT that is done next, if its channel is on a console, a file, a draft or a link and a byte can be moved.
+/// The part of SIOT that is done next, if its channel is on a console, a file, a draft or a link and a byte can be moved: exactly the
+/// part that its decision does, but for a channel on an inferior.
 #[tactic(auto, using(call_file::proofs::HeldLaws::reading, call_file::proofs::HeldLaws::writing), unfolding(its_plain::specs::CallDevice::siot_call, its_plain::specs::View::view, its_world::specs::World::state_of))]
 pub(crate) fn siot_part(w: &World, slot: Slot, job: &Job, ask: &Ask) -> Option<Part>
     requires job { job_at w.now.jobs slot ≡ Some job.now }
@@ -138,14 +139,25 @@ pub(crate) fn siot_part(w: &World, slot: Slot, job: &Job, ask: &Ask) -> Option<P
     requires unmarked { w.now.files.mark ≡ None }
     ensures goes { IfSome result (λ p. going p ≡ siot_call (seen_by w.now slot job.now ask.now) ask.now) }
     ensures alone { IfSome result (λ p. is_usr (channel_under job.now (input ask.now 0)) ≡ false) }
+    ensures part { result ≡ (if is_usr (channel_under job.now (input ask.now 0)) then None else part_by (siot_call (seen_by w.now slot job.now ask.now) ask.now)) }
 {
     match channel(job, input(ask, 0)) {
-        Channel::TtyIn => part_in(siot_in(w, slot, job, ask)),
-        Channel::TtyOut => part_in(siot_out(w, slot, job, ask)),
-        Channel::Reading { file, at } => part_in(siot_reads(w, slot, job, ask, file, at)),
-        Channel::Writing { draft } => part_in(siot_writes(w, slot, job, ask, draft)),
-        Channel::Link { link, write } => part_in(siot_link(w, slot, job, ask, link, write)),
+        Channel::TtyIn => found(job, ask, siot_in(w, slot, job, ask)),
+        Channel::TtyOut => found(job, ask, siot_out(w, slot, job, ask)),
+        Channel::Reading { file, at } => found(job, ask, siot_reads(w, slot, job, ask, file, at)),
+        Channel::Writing { draft } => found(job, ask, siot_writes(w, slot, job, ask, draft)),
+        Channel::Link { link, write } => found(job, ask, siot_link(w, slot, job, ask, link, write)),
         Channel::Closed => None,
         Channel::Usr { .. } => None,
     }
+}
+
+/// The part of SIOT that is done, if a byte is moved. This is all that its decision does.
+#[inline(always)]
+#[tactic(auto, using(crate::proofs::PartLaws::part_found))]
+fn found(job: &Job, ask: &Ask, part: Result<Part, Stop>) -> Option<Part>
+    ensures found { result ≡ part_in part }
+    ensures part { result ≡ part_by (part_of job.now ask.now part) }
+{
+    part_in(part)
 }
