@@ -3,7 +3,8 @@
 //! order of the definitions, and then its end.
 //!
 //! Proved: `decide` is exactly the definition's decision of any call, if the parts of the machine fit each other
-//! (`Fits`), and `disturbed_by` says whom its commit disturbs: at most one job, or those of whom `disturbs` asks slot by slot.
+//! (`Fits`), and `disturbed_by` says whom its commit disturbs: at most one job, or those of whom `disturbs` asks slot by slot. `next_move`
+//! is exactly what the decision of SIOT moves, if the call reaches no other job (`Moving`).
 #![tactic(auto)]
 
 mod arguments;

@@ -161,7 +161,7 @@ fn is_siot(name: Word) -> bool
 }
 
 /// What the call of a slot's job, which has these registers, moves next, if it is SIOT, its decoding gave no error, and it reaches no
-/// other job. Then its decision is this, and disturbs nobody. None says that one of the three is not so, or that the decision moves
+/// other job. Then its decision is this, and disturbs nobody. None says that one of the three does not hold, or that the decision moves
 /// nothing.
 #[inline(always)]
 #[tactic(auto, using(crate::proofs::SiotLaws::siot_target, crate::proofs::SiotLaws::moved_failed, crate::proofs::SiotLaws::moved_other, crate::proofs::SiotLaws::moved_reaching, crate::proofs::SiotLaws::moved_next), unfolding(its_plain::specs::CallStep::decision, its_plain::specs::Decide::decided, its_plain::specs::Decide::reach))]
