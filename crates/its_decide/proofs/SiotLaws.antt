@@ -3,7 +3,9 @@ use Rattle.std.specs.Prelude.{if◌then◌else◌, ◌≡◌, ◌==◌, ◌&&◌
 use Rattle.std.proofs.Common.{ap, sym, ◌∙◌}
 use Rattle.std.proofs.lemmas.Bool.{eq-eqb, eqb-true}
 use Rattle.its_records.specs.declared.calls.Ask.{Ask}
+use Rattle.its_records.specs.declared.jobs.Channel.{Channel}
 use Rattle.its_records.specs.declared.jobs.Channel.TheVariants.{Usr}
+use Rattle.its_records.specs.declared.jobs.Job.{Job}
 use Rattle.its_frame.specs.declared.name.CallName.{CallName}
 use Rattle.its_frame.specs.declared.name.CallName.TheVariants.{Siot}
 use Rattle.its_frame.specs.declared.decision.Decision.{Decision}
@@ -19,9 +21,9 @@ use Rattle.its_plain.specs.View.{View, view}
 use Rattle.its_plain.proofs.TargetLaws.{reach_named, target_on}
 use Rattle.its_machine.specs.Called.{channel_under}
 use Rattle.its_machine.proofs.NumberLaws.{usr_on}
-use Rattle.its_decide.specs.Called.{raw}
-use Rattle.its_decide.specs.declared.caller.Caller.{Caller}
-use Rattle.its_decide.specs.Moving.{change_of, found, halted, is_siot, moved_alone, moved_by, moving, next_moved, outcome, shift_of}
+use Rattle.its_decide.specs.Seen.{machine_seen, raw_with}
+use Rattle.its_decide.specs.declared.caller.Seen.{Seen}
+use Rattle.its_decide.specs.Moving.{change_of, found, halted, is_siot, moved_alone, moved_by, moved_on, moving, next_moved, outcome, shift_of}
 use Rattle.its_decide.specs.declared.moving.Halt.{Halt}
 use Rattle.its_decide.specs.declared.moving.Halt.TheVariants as halts
 use Rattle.its_decide.specs.declared.moving.NextMove.{NextMove}
@@ -64,14 +66,6 @@ pub found_moves : (v : View) (a : Ask) (r : Result NextMove Halt) → found r �
 found_moves v a (Ok m) = moved_moving m
 found_moves v a (Err h) = unmoved v a h
 
--- a channel on an inferior is one through which SIOT reaches
-pub siot_usr : (c : Caller) (s at : ℕ) (write : Bool) (d : Decision) → c.ask.now.fail ≡ 0 → call_named c.ask.now.name ≡ Some Siot
-    → channel_under c.job.now (input c.ask.now 0) ≡ Usr s write at → c.target ≡ None → None ≡ moved_by d
-siot_usr c s at write d z e on none =
-    let there = target_on (raw c) c.ask.now Siot 0 s at write z e refl (usr_on c.seen.now.files.now c.job.now (input c.ask.now 0) s at write on) in
-    let both : None ≡ Some s = sym none ∙ c.reaches ∙ there in
-    cc
-
 -- the rule of what moves next, case by case
 siot_decides : (m : Machine) (j : ℕ) (q : Whole) (a : Ask) → a.fail ≡ 0 → call_named a.name ≡ Some Siot → decision m j q a ≡ siot_call (view m j q (target q a)) a
 unfolding decision decided
@@ -108,8 +102,16 @@ moved_reaching m j q a o z e is t =
     let d = siot_call (view m j q (target q a)) a in
     reaching_by o d t ∙ ap (λ (k : Option ℕ). moved_alone (listed k) d) (siot_target q a o z e is) ∙ moved_siot m j q a z e
 
-pub moved_next : (m : Machine) (j : ℕ) (q : Whole) (a : Ask) (o : Option ℕ) (r : Option NextMove) → a.fail ≡ 0 → call_named a.name ≡ Some Siot → o ≡ reached_by q (input a 0) → o ≡ None
-    → r ≡ moved_by (siot_call (view m j q (target q a)) a) → r ≡ next_moved m j q a
-moved_next m j q a o r z e is none h =
-    let d = siot_call (view m j q (target q a)) a in
-    h ∙ ap (λ (k : Option ℕ). moved_alone (listed k) d) (sym none ∙ siot_target q a o z e is) ∙ moved_siot m j q a z e
+-- a channel on an inferior is one through which SIOT reaches
+moved_through : (x : Seen) (k : ℕ) (j : Job) (a : Ask) (o : Option ℕ) (c : Channel) (d : Decision) → a.fail ≡ 0 → call_named a.name ≡ Some Siot → o ≡ reached_by (raw_with x k j) (input a 0) → o ≡ None
+    → channel_under j (input a 0) ≡ c → moved_on c d ≡ moved_alone (listed (target (raw_with x k j) a)) d
+moved_through x k j a o (Usr s write at) d z e is none on =
+    sym (ap (λ (t : Option ℕ). moved_alone (listed t) d) (target_on (raw_with x k j) a Siot 0 s at write z e refl (usr_on x.files.now j (input a 0) s at write on)))
+moved_through x k j a o c d z e is none on = ap (λ (t : Option ℕ). moved_alone (listed t) d) (sym none ∙ siot_target (raw_with x k j) a o z e is)
+
+pub moved_next : (x : Seen) (k : ℕ) (j : Job) (a : Ask) (o : Option ℕ) (r : Option NextMove) → a.fail ≡ 0 → call_named a.name ≡ Some Siot → o ≡ reached_by (raw_with x k j) (input a 0) → o ≡ None
+    → r ≡ moved_on (channel_under j (input a 0)) (siot_call (view (machine_seen x) k (raw_with x k j) (target (raw_with x k j) a)) a) → r ≡ next_moved (machine_seen x) k (raw_with x k j) a
+moved_next x k j a o r z e is none h =
+    let q = raw_with x k j in
+    let d = siot_call (view (machine_seen x) k q (target q a)) a in
+    h ∙ moved_through x k j a o (channel_under j (input a 0)) d z e is none refl ∙ moved_siot (machine_seen x) k q a z e

@@ -2,6 +2,8 @@
 -- No promise rests on this.
 use Rattle.std.specs.Prelude.{if◌then◌else◌, ◌==◌, ◌&&◌, ℕ, Bool, true, false, List, Option, Some, None, Result, Ok, Err, [], ◌∷◌, option_map}
 use Rattle.its_records.specs.declared.calls.Ask.{Ask}
+use Rattle.its_records.specs.declared.jobs.Channel.{Channel}
+use Rattle.its_records.specs.declared.jobs.Channel.TheVariants.{Usr}
 use Rattle.its_frame.specs.declared.decision.Decision.{Decision}
 use Rattle.its_frame.specs.declared.decision.Decision.TheVariants as decisions
 use Rattle.its_frame.specs.declared.decision.Held.{Held}
@@ -69,6 +71,11 @@ moved_of _ h _ = None
 abbrev pub moved_by : Decision → Option NextMove
 moved_by (decisions.Goes cs h vs) = moved_of cs.items h vs.items
 moved_by _ = None
+
+-- what SIOT moves through a channel: what its decision moves, but nothing if the channel is on an inferior
+abbrev pub moved_on : Channel → Decision → Option NextMove
+moved_on (Usr s write at) d = None
+moved_on _ d = moved_by d
 
 -- what a call moves next: what its decision moves, if it is SIOT, its decoding gave no error, and it reaches no other job
 abbrev pub is_siot : Option CallName → Bool

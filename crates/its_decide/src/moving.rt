@@ -2,12 +2,14 @@
 ghost use Rattle.std.specs.Prelude.{◌≡◌, ◌-◌, [], true, None, Some, IfSome};
 ghost use Rattle.its_frame.specs.declared.name.CallName.TheVariants.{Siot};
 ghost use Rattle.its_jobs.specs.Table.{job_at};
+ghost use Rattle.its_machine.specs.Called.{channel_under};
+ghost use Rattle.its_plain.specs.Arguments.{input};
 ghost use Rattle.its_plain.specs.CallDevice.{siot_call};
 ghost use Rattle.its_plain.specs.CallStep.{decision};
 ghost use Rattle.its_plain.specs.Decide.{call_named, reach};
 ghost use Rattle.its_decide.specs.Called.{looks};
 ghost use Rattle.its_decide.specs.Fits.{SeenFits};
-ghost use Rattle.its_decide.specs.Moving.{change_of, found, halted, is_siot, moved_by, moving, next_moved, outcome};
+ghost use Rattle.its_decide.specs.Moving.{change_of, found, halted, is_siot, moved_by, moved_on, moving, next_moved, outcome};
 ghost use Rattle.its_decide.specs.Seen.{machine_seen, raw_with};
 
 use super::arguments::input;
@@ -126,16 +128,13 @@ impl Caller<'_> {
         }
     }
 
-    /// What SIOT moves next, if it reaches no other job: exactly what its decision moves.
+    /// What SIOT moves next, if its channel is on a console, a file, a draft or a link: exactly what its decision moves.
     #[inline(always)]
     #[tactic(auto, using(its_machine::proofs::NumberLaws::under), unfolding(its_plain::specs::CallDevice::siot_call, its_plain::specs::View::view))]
     fn next_move(&self) -> Option<NextMove>
-        requires fail { self.now.ask.now.fail ≡ 0 }
-        requires name { call_named self.now.ask.now.name ≡ Some Siot }
-        requires alone { self.now.target ≡ None }
         requires fits { SeenFits self.now.seen.now }
         ensures moves { IfSome result (λ m. moving m ≡ siot_call (looks self.now) self.now.ask.now) }
-        ensures moved { result ≡ moved_by (siot_call (looks self.now) self.now.ask.now) }
+        ensures moved { result ≡ moved_on (channel_under self.now.job.now (input self.now.ask.now 0)) (siot_call (looks self.now) self.now.ask.now) }
     {
         match self.channel(self.input(0)) {
             Channel::TtyIn => self.found(self.siot_in()),
