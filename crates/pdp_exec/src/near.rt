@@ -3,7 +3,7 @@ ghost use Rattle.std.specs.Prelude.{◌≡◌, ◌<◌, ◌^◌, IfSome};
 ghost use Rattle.its_core.specs.Cores.{core_at};
 ghost use Rattle.its_word.specs.Address.{index_of};
 ghost use Rattle.its_plain.specs.Unit.{Called, unit as unit_of};
-ghost use Rattle.pdp_exec.specs.Near.{near_site};
+ghost use Rattle.pdp_exec.specs.Near.{near_call, near_site};
 
 use super::chain::{ac_field, instruction, is_indirect};
 use super::reads::read;
@@ -25,12 +25,14 @@ fn index(w: Word) -> u32
     (w.value() >> 18 & 0o17) as u32
 }
 
-/// The call at a job's PC, if its unit is one and no word but that at the PC is read on the way. A call without it can still be one.
+/// The call at a job's PC, if its word can be read, is `.IOT` or `.CALL`, and has neither I nor X; then its unit is that call, and no other word is
+/// read on the way. A unit that comes to a call by I, X or an XCT is none here.
 #[inline(always)]
-#[tactic(auto, using(crate::proofs::NearLaws::near_iot, crate::proofs::NearLaws::near_call))]
+#[tactic(auto, using(crate::proofs::NearLaws::near_iot, crate::proofs::NearLaws::near_call), unfolding(crate::specs::Near::near_call))]
 pub fn call_at_hand(core: &Core, slot: Slot, job: &Job) -> Option<Near>
     requires pc { job.now.pc < 2 ^ 18 }
-    ensures { IfSome result (λ n. unit_of (core_at core.now slot) job.now ≡ Called (near_site job.now.pc n)) }
+    ensures near { result ≡ near_call (core_at core.now slot) job.now.pc }
+    ensures call { IfSome result (λ n. unit_of (core_at core.now slot) job.now ≡ Called (near_site job.now.pc n)) }
 {
     let w = read(core, slot, job.pc).ok()?;
     if is_indirect(w) {
