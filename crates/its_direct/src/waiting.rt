@@ -1,15 +1,15 @@
 //! A job whose call is at hand; and one whose `.IOT` waits for input of its console: it has no step, and this shows without a decoding and a
 //! decision.
-ghost use Rattle.std.specs.Prelude.{◌≡◌, ◌==◌, ◌||◌, true, None, IfSome, length, unwrap_or};
+ghost use Rattle.std.specs.Prelude.{◌≡◌, true, None, IfSome, is_none, length};
 ghost use Rattle.its_core.specs.Cores.{core_at};
 ghost use Rattle.its_plain.specs.CallStep.{transition};
 ghost use Rattle.its_plain.specs.CallTty.{is_other};
 ghost use Rattle.its_machine.specs.Called.{bar_of, channel_under};
-ghost use Rattle.its_records.specs.declared.jobs.Channel.TheVariants.{TtyIn};
+ghost use Rattle.its_jobs.specs.Table.{job_at};
 ghost use Rattle.its_machine.specs.Parts.{console_at, holder_at};
 ghost use Rattle.its_direct.specs.Events.{Kept};
 ghost use Rattle.its_direct.specs.Plain.{machine_of};
-ghost use Rattle.its_direct.specs.Waiting.{AtHand, Lacks, LacksNear};
+ghost use Rattle.its_direct.specs.Waiting.{AtHand, hand_at, is_input, is_silent, lacks, lacks_input, lacks_near};
 
 use super::plain::Plain;
 use its_ints::deliverable;
@@ -18,12 +18,14 @@ use its_word::Slot;
 use pdp_exec::{Near, call_at_hand};
 
 impl Plain {
-    /// The call of a slot's job that is at hand, if its step is that call and no word but that at its PC is read on the way to it.
+    /// The call of a slot's job that is at hand: the job runs, no interrupt of it is deliverable, and the word at its PC is `.IOT` or `.CALL` with
+    /// neither I nor X. Its step is then that call, and no other word is read on the way to it.
     #[inline(always)]
     #[tactic(auto, using(crate::proofs::SlotLaws::placed_at))]
     pub(crate) fn call_at_hand(&self, slot: Slot) -> Option<Near>
         requires kept { Kept self.now }
-        ensures { IfSome result (λ n. AtHand self.now slot n) }
+        ensures at { result ≡ hand_at self.now slot }
+        ensures hand { IfSome result (λ n. AtHand self.now slot n) }
     {
         let Some(job) = self.jobs.job(slot) else {
             return None;
@@ -40,12 +42,13 @@ impl Plain {
         }
     }
 
-    /// Whether a slot's job surely has no step, because its call, which is at hand, is `.IOT` from its console, which gives it no byte. False
-    /// says nothing.
+    /// Whether the call of a slot's job, which is at hand, waits for input: it is `.IOT` from the job's console into a word that can be stored, and
+    /// the console gives the job no byte. Then the job has no step.
     #[inline(always)]
     pub(crate) fn lacks_input(&self, slot: Slot, near: Near) -> bool
         requires hand { AtHand self.now slot near }
-        ensures { result ≡ true → transition (machine_of self.now) slot ≡ None }
+        ensures lacks { result ≡ lacks_input self.now slot near (job_at self.now.jobs slot) }
+        ensures still { result ≡ true → transition (machine_of self.now) slot ≡ None }
     {
         match self.jobs.job(slot) {
             Some(job) => self.lacks_near(slot, job, near),
@@ -55,7 +58,7 @@ impl Plain {
 
     /// Whether the call of a slot's job with these registers is such a `.IOT`, when it is this one.
     fn lacks_near(&self, slot: Slot, job: &Job, near: Near) -> bool
-        ensures { result ≡ true → LacksNear self.now slot job.now near.e near.channel }
+        ensures { result ≡ lacks_near self.now slot job.now near.e near.channel }
     {
         match near.channel {
             Some(channel) => self.lacks_at(slot, job, near.e, channel),
@@ -65,7 +68,7 @@ impl Plain {
 
     /// Whether `.IOT` of a slot's job with these registers, through a channel, waits for input that it stores at E.
     fn lacks_at(&self, slot: Slot, job: &Job, e: u32, channel: u8) -> bool
-        ensures { result ≡ true → Lacks self.now slot job.now e channel }
+        ensures { result ≡ lacks self.now slot job.now e channel }
     {
         if !is_typed(job, channel) {
             return false;
@@ -77,8 +80,9 @@ impl Plain {
     }
 
     /// Whether a word of a slot's job can be stored.
+    #[tactic(auto, using(crate::proofs::WaitingLaws::stores, crate::proofs::WaitingLaws::stores_not))]
     fn can_store(&self, slot: Slot, at: u32) -> bool
-        ensures { result ≡ true → bar_of (core_at self.now.core slot) at ≡ None }
+        ensures { result ≡ is_none (bar_of (core_at self.now.core slot) at) }
     {
         match self.core.word(slot, at) {
             Some(_) => self.core.is_storable(slot, at),
@@ -88,7 +92,7 @@ impl Plain {
 
     /// Whether a console gives a slot's job no byte.
     fn gives_none(&self, slot: Slot, c: u8) -> bool
-        ensures { result ≡ ((length (console_at self.now.consoles.items c).input == 0) || is_other slot (holder_at self.now.holders c)) }
+        ensures { result ≡ is_silent self.now slot c }
     {
         self.typed(c) == 0 || self.is_other(slot, c)
     }
@@ -127,7 +131,7 @@ impl Plain {
 
 /// Whether a channel of a job is for input of its console.
 fn is_typed(job: &Job, channel: u8) -> bool
-    ensures { result ≡ true → channel_under job.now channel ≡ TtyIn }
+    ensures { result ≡ is_input (channel_under job.now channel) }
 {
     match job.channels.get(usize::from(channel)) {
         Some(channel) => matches!(channel, Channel::TtyIn),

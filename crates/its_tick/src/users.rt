@@ -14,7 +14,7 @@ ghost use Rattle.its_world.specs.World.{state_of, CoreBecomes, JobBecomes, call_
 ghost use Rattle.its_tick.specs.Kept.{Kept};
 ghost use Rattle.its_pclsr.specs.Pages.{pages_unwound};
 ghost use Rattle.pdp_exec.specs.Answer.{IsCalled};
-ghost use Rattle.pdp_exec.specs.Near.{near_site};
+ghost use Rattle.pdp_exec.specs.Near.{near_call, near_site};
 ghost use Rattle.its_tick.specs.Ticks.{ticked, with_channels, UnitIn, UnitsMade};
 
 use super::reach::calm;
@@ -148,11 +148,12 @@ fn make_any(w: &mut World, slot: Slot) -> Pace
     }
 }
 
-/// The call at the PC of a slot's job, if its word is all that is read on the way.
+/// The call at the PC of a slot's job, if the word there is `.IOT` or `.CALL` with neither I nor X; then no other word is read on the way.
 fn near_call(w: &World, slot: Slot) -> Option<Near>
     requires job { is_some (job_at w.now.jobs slot) ≡ true }
     requires pc { IfSome (job_at w.now.jobs slot) (λ j. j.pc < 2 ^ 18) }
-    ensures { IfSome result (λ n. IfSome (job_at w.now.jobs slot) (λ j. unit_of (core_at w.now.core slot) j ≡ Called (near_site j.pc n))) }
+    ensures near { IfSome (job_at w.now.jobs slot) (λ j. result ≡ near_call (core_at w.now.core slot) j.pc) }
+    ensures call { IfSome result (λ n. IfSome (job_at w.now.jobs slot) (λ j. unit_of (core_at w.now.core slot) j ≡ Called (near_site j.pc n))) }
 {
     match w.jobs.job(slot) {
         Some(job) => call_at_hand(&w.core, slot, job),
