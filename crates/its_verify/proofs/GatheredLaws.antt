@@ -1,8 +1,10 @@
 -- Letters that are led together lead to the same.
-use Rattle.std.proofs.Common.{if◌then◌else◌, ◌≡◌, ◌≢◌, ◌<◌, ◌≤◌, ◌+◌, ◌-◌, ◌==◌, ◌&&◌, ◌||◌, ℕ, zero, suc, Bool, true, false, ltb, Option, Some, None, List, [], ◌∷◌, ◌++◌, length, replicate, refl, sym, ap, ◌∙◌, inl, inr, arith, append_assoc}
-use Rattle.std.proofs.lemmas.Bool.{cases_Bool, eq-eqb, false≢true, lt-ltb, not-false}
+use Rattle.std.proofs.Common.{if◌then◌else◌, ◌≡◌, ◌≢◌, ◌<◌, ◌≤◌, ◌+◌, ◌-◌, ◌^◌, ◌==◌, ◌&&◌, ◌||◌, ℕ, zero, suc, Bool, true, false, ltb, Option, Some, None, List, [], ◌∷◌, ◌++◌, length, replicate, refl, sym, ap, subst, ◌∙◌, inl, inr, arith, append_assoc}
+use Rattle.std.proofs.lemmas.Bool.{cases_Bool, eq-eqb, false≢true, le-leb, le-ltb, leb-true, lt-leb, lt-ltb, not-false}
 use Rattle.std.specs.List.{IsFirstAndRest}
-use Rattle.std.specs.Prelude.{option_and_then}
+use Rattle.std.specs.Option.{option_map_or}
+use Rattle.std.proofs.lemmas.Option.{none-some}
+use Rattle.std.specs.Prelude.{nat_le, nat_lt, option_and_then}
 use Rattle.its_records.specs.declared.calls.Pace.{Pace}
 use Rattle.its_records.specs.declared.calls.Pace.TheVariants.{Step, Work}
 use Rattle.its_print.specs.declared.runs.Run.{Run}
@@ -14,7 +16,7 @@ use Rattle.its_plain.specs.Operator.{Block}
 use Rattle.its_plain.specs.Transcript.{Walk, after_letter}
 use Rattle.its_plain.specs.Turns.{is_running}
 use Rattle.its_plain.proofs.StepLaws.{step_by}
-use Rattle.its_verify.specs.Gathered.{Begins, Gathers, letters_in, letters_of}
+use Rattle.its_verify.specs.Gathered.{Begins, alone, dotted, gathered_by, joined, joined_by, letters_in, letters_of, starred}
 use Rattle.its_verify.specs.JudgeState.{LeadsOn, RunLed, RunsLed, walk_of}
 use Rattle.its_verify.specs.Letters.{if_so, paced}
 use Rattle.its_verify.specs.declared.gathered.Gathered.{Gathered}
@@ -93,8 +95,8 @@ dots_between (suc m) a v i ps few =
     (step v.machine i) (λ n. dots_between m a (after_letter v i Step n) i ps few)
 
 -- runs of a letter
-joined : (p : Pace) (m k n : ℕ) (ps : List Pace) → n ≡ m + k + 1 → replicate m p ++ (p ∷ (replicate k p ++ ps)) ≡ replicate n p ++ ps
-joined p m k n ps is =
+one_run : (p : Pace) (m k n : ℕ) (ps : List Pace) → n ≡ m + k + 1 → replicate m p ++ (p ∷ (replicate k p ++ ps)) ≡ replicate n p ++ ps
+one_run p m k n ps is =
     let left : suc k ≡ n - m = omega (arith, is) in
     ap (λ (j : ℕ). replicate m p ++ (replicate j p ++ ps)) left ∙ sym (taken_apart n m p ps (omega (arith, is)))
 
@@ -103,17 +105,90 @@ all_stars : (m a k n : ℕ) (v : Walk) (i : ℕ) (ps : List Pace) → a ≤ most
 all_stars m a k n v i ps few is =
     ap (λ (xs : List Pace). paced v i (Step ∷ xs)) (append_assoc (replicate m Step) (replicate a Work) (Step ∷ (replicate k Step ++ ps)))
     ∙ dots_between m a v i (replicate k Step ++ ps) few
-    ∙ ap (λ (xs : List Pace). paced v i (Step ∷ xs)) (joined Step m k n ps is ∙ sym (append_assoc (replicate n Step) [] ps))
+    ∙ ap (λ (xs : List Pace). paced v i (Step ∷ xs)) (one_run Step m k n ps is ∙ sym (append_assoc (replicate n Step) [] ps))
 
-pub stars_gathered : (old new : Gathered) (run : Run) (n : ℕ) → old.run.pace ≡ Step → run.pace ≡ Step → n ≡ old.run.more + run.more + 1 → new.run ≡ record { pace = Step; more = n } → new.dots ≡ 0 → Gathers old run new
-stars_gathered old new run n first stars is joint none v i ps = rw (first, stars, joint, none) (all_stars old.run.more old.dots run.more n v i ps old.few is)
+all_dots_joined : (r : Run) (a k : ℕ) (v : Walk) (i : ℕ) (ps : List Pace)
+    → paced v i ((letters_in r ++ replicate a Work) ++ ((Work ∷ replicate k Work) ++ ps)) ≡ paced v i ((letters_in r ++ replicate (a + k + 1) Work) ++ ps)
+all_dots_joined r a k v i ps = ap (paced v i) (
+    append_assoc (letters_in r) (replicate a Work) (Work ∷ (replicate k Work ++ ps))
+    ∙ ap (λ (xs : List Pace). letters_in r ++ xs) (one_run Work a k (a + k + 1) ps refl)
+    ∙ sym (append_assoc (letters_in r) (replicate (a + k + 1) Work) ps))
 
-pub dots_gathered : (old new : Gathered) (run : Run) (n : ℕ) → run.pace ≡ Work → n ≡ old.dots + run.more + 1 → new.run ≡ old.run → new.dots ≡ n → Gathers old run new
-dots_gathered old new run n dots is same joint v i ps =
-    rw (dots, same, joint) (ap (paced v i) (
-    append_assoc (letters_in old.run) (replicate old.dots Work) (Work ∷ (replicate run.more Work ++ ps))
-    ∙ ap (λ (xs : List Pace). letters_in old.run ++ xs) (joined Work old.dots run.more n ps is)
-    ∙ sym (append_assoc (letters_in old.run) (replicate n Work) ps)))
+-- what is led together leads to the same
+so_is : {X : Type 0} (b : Bool) (x y : X) → if_so b x ≡ Some y → (b ≡ true) × (x ≡ y)
+so_is true x y is = (refl, cc)
+so_is false x y is = absurd (none-some y is)
+
+record Leads (g : Gathered) (r : Run) (h : Gathered) : Type 0 where
+  few : h.dots ≤ most_dots
+  same : (v : Walk) (i : ℕ) (ps : List Pace) → paced v i (letters_of g ++ (letters_in r ++ ps)) ≡ paced v i (letters_of h ++ ps)
+
+leads_by : (p q : Pace) (g h : Gathered) (r : Run) → g.run.pace ≡ p → r.pace ≡ q → g.dots ≤ most_dots → joined_by p q g r.more ≡ Some h → Leads g r h
+leads_by Step Step g h r first next few is =
+    let n = g.run.more + r.more + 1 in
+    let so = so_is (nat_lt n (2 ^ 32)) (alone (record { pace = Step; more = n })) h is in
+    record {
+      few = subst (λ (k : Gathered). k.dots ≤ most_dots) so.1 (omega arith);
+      same = λ v i ps. rw (first, next) (all_stars g.run.more g.dots r.more n v i ps few refl) ∙ ap (λ (k : Gathered). paced v i (letters_of k ++ ps)) so.1;
+    }
+leads_by Step Work g h r first next few is =
+    let n = g.dots + r.more + 1 in
+    let so = so_is (nat_le n most_dots) (record { run = g.run; dots = n }) h is in
+    record {
+      few = subst (λ (k : Gathered). k.dots ≤ most_dots) so.1 (leb-true n most_dots so.0);
+      same = λ v i ps. rw next (all_dots_joined g.run g.dots r.more v i ps) ∙ ap (λ (k : Gathered). paced v i (letters_of k ++ ps)) so.1;
+    }
+leads_by p q g h r first next few is = absurd (none-some h is)
+
+leads_with : (rs : List Run) (g : Gathered) (r : Run) (o : Option Gathered) (v : Walk) (i : ℕ) → g.dots ≤ most_dots → joined g r ≡ o
+    → ((h : Gathered) → h.dots ≤ most_dots → paced v i (letters_of h ++ paces_in rs) ≡ paced v i (letters_of (gathered_by h rs).0 ++ paces_in (gathered_by h rs).1))
+    → paced v i (letters_of g ++ paces_in (r ∷ rs)) ≡ paced v i (letters_of (option_map_or (λ h. gathered_by h rs) o (g, r ∷ rs)).0 ++ paces_in (option_map_or (λ h. gathered_by h rs) o (g, r ∷ rs)).1)
+leads_with rs g r None v i few is others = refl
+leads_with rs g r (Some h) v i few is others =
+    let leads = leads_by g.run.pace r.pace g h r refl refl few is in leads.same v i (paces_in rs) ∙ others h leads.few
+
+gathered_leads : (rs : List Run) (g : Gathered) (v : Walk) (i : ℕ) → g.dots ≤ most_dots
+    → paced v i (letters_of g ++ paces_in rs) ≡ paced v i (letters_of (gathered_by g rs).0 ++ paces_in (gathered_by g rs).1)
+gathered_leads [] g v i few = refl
+gathered_leads (r ∷ rs) g v i few = leads_with rs g r (joined g r) v i few refl (λ h less. gathered_leads rs h v i less)
+
+pub begins : (first : Run) (behind rest : List Run) (g : Gathered) → (g, rest) ≡ gathered_by (alone first) behind → Begins first behind g rest
+begins first behind rest g is v i =
+    ap (λ (ps : List Pace). paced v i (first.pace ∷ ps)) (sym (append_assoc (replicate first.more first.pace) [] (paces_in behind)))
+    ∙ gathered_leads behind (alone first) v i (omega arith)
+    ∙ ap (λ (k : Gathered × List Run). paced v i (letters_of k.0 ++ paces_in k.1)) (sym is)
+
+-- what is led together is all that may be
+pub stars_fit : (n : ℕ) → n < 2 ^ 32 → Some (alone (record { pace = Step; more = n })) ≡ starred n
+stars_fit n few = sym (ap (λ (b : Bool). if_so b (alone (record { pace = Step; more = n }))) (lt-ltb n (2 ^ 32) few))
+
+pub stars_past : (n : ℕ) → 2 ^ 32 ≤ n → None ≡ starred n
+stars_past n many = sym (ap (λ (b : Bool). if_so b (alone (record { pace = Step; more = n }))) (le-ltb n (2 ^ 32) many))
+
+pub dots_fit : (r : Run) (n : ℕ) → n ≤ 16 → Some (record { run = r; dots = n }) ≡ dotted r n
+dots_fit r n few = sym (ap (λ (b : Bool). if_so b (record { run = r; dots = n })) (le-leb n most_dots few))
+
+pub dots_past : (r : Run) (n : ℕ) → 16 < n → None ≡ dotted r n
+dots_past r n many = sym (ap (λ (b : Bool). if_so b (record { run = r; dots = n })) (lt-leb n most_dots many))
+
+-- one more run, or one that is not led together with what was gathered
+next_gathered : (whole : Gathered × List Run) (rest after : List Run) (run : Run) (g : Gathered) (o : Option Gathered) → gathered_by g rest ≡ whole → IsFirstAndRest rest run after → o ≡ joined g run
+    → option_map_or (λ h. gathered_by h after) o (g, run ∷ after) ≡ whole
+next_gathered whole rest after run g o so parts is =
+    ap (λ (k : Option Gathered). option_map_or (λ h. gathered_by h after) k (g, run ∷ after)) is ∙ sym (ap (gathered_by g) parts.0) ∙ so
+
+pub gathers_more : (whole : Gathered × List Run) (rest after : List Run) (run : Run) (g h : Gathered) → gathered_by g rest ≡ whole → IsFirstAndRest rest run after
+    → Some h ≡ joined g run → gathered_by h after ≡ whole
+gathers_more whole rest after run g h so parts is = next_gathered whole rest after run g (Some h) so parts is
+
+pub gathers_stop : (whole : Gathered × List Run) (rest after : List Run) (run : Run) (g : Gathered) → gathered_by g rest ≡ whole → IsFirstAndRest rest run after
+    → None ≡ joined g run → (g, rest) ≡ whole
+gathers_stop whole rest after run g so parts is =
+    ap (λ (rs : List Run). (g, rs)) parts.0 ∙ next_gathered whole rest after run g None so parts is
+
+pub gathers_end : (whole : Gathered × List Run) (rest : List Run) (g : Gathered) → gathered_by g rest ≡ whole → length rest ≡ 0 → (g, rest) ≡ whole
+gathers_end whole [] g so none = so
+gathers_end whole (r ∷ rs) g so none = absurd (omega (arith, none))
 
 -- what was gathered is led
 run_first : (old mid : Judge) (i : ℕ) (g : Gathered) → RunLed true old mid i (letters_in g.run)
@@ -140,15 +215,6 @@ dots_then old mid new i g true true is first some rest =
 dots_then old mid new i g true false is first some rest =
     λ b n ps. run_first old mid i g first b n ps ∙ ap (λ (xs : List Pace). paced (walk_of mid b n) i (xs ++ ps)) (all_dots g.dots some) ∙ rest b n ps
 dots_then old mid new i g false last is first some rest = absurd (false≢true is)
-
--- the runs with which others begin
-pub begins_first : (first : Run) (rs : List Run) (g : Gathered) → g.run ≡ first → g.dots ≡ 0 → Begins first rs g rs
-begins_first first rs g is none v i =
-    rw (is, none) (ap (λ (ps : List Pace). paced v i (first.pace ∷ ps)) (sym (append_assoc (replicate first.more first.pace) [] (paces_in rs))))
-
-pub begins_more : (first run : Run) (behind rest after : List Run) (g h : Gathered) → Begins first behind g rest → IsFirstAndRest rest run after → Gathers g run h → Begins first behind h after
-begins_more first run behind rest after g h so parts gathers v i =
-    so v i ∙ ap (λ (rs : List Run). paced v i (letters_of g ++ paces_in rs)) parts.0 ∙ gathers v i (paces_in after)
 
 -- the runs of a line
 pub runs_start : (old : Judge) (i : ℕ) (rs : List Run) → LeadsOn old old i (paces_in rs) (paces_in rs)

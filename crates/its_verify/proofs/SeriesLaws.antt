@@ -1,5 +1,5 @@
 -- So many steps of one job alone are so many `*`.
-use Rattle.std.proofs.Common.{◌≡◌, ◌≢◌, ◌<◌, ◌==◌, ◌||◌, ◌&&◌, not, ℕ, zero, suc, Bool, true, false, if◌then◌else◌, is_some, Option, Some, None, List, [], ◌∷◌, ◌++◌, length, replicate, refl, sym, ap, subst, ◌∙◌, inl, inr, slice_set}
+use Rattle.std.proofs.Common.{◌≡◌, ◌≢◌, ◌<◌, ◌==◌, ◌||◌, ◌&&◌, not, ℕ, zero, suc, Bool, true, false, if◌then◌else◌, is_some, Option, Some, None, List, [], ◌∷◌, ◌++◌, length, replicate, refl, sym, ap, subst, ◌∙◌, inl, inr, arith, slice_set}
 use Rattle.std.specs.Prelude.{option_and_then}
 use Rattle.std.proofs.lemmas.Bool.{cases_eq, eq-eqb, false≢true, ne_eqb}
 use Rattle.std.proofs.lemmas.List.{get_or-set_same, get_or-set_other}
@@ -12,7 +12,7 @@ use Rattle.its_plain.specs.Operator.{Block}
 use Rattle.its_plain.specs.Transcript.{Walk, after_letter}
 use Rattle.its_direct.specs.Plain.{machine_of}
 use Rattle.its_direct.specs.Parts.{InParts}
-use Rattle.its_direct.specs.Series.{Series}
+use Rattle.its_direct.specs.Series.{Series, unit_due}
 use Rattle.its_verify.specs.Letters.{paced}
 use Rattle.its_verify.specs.JudgeState.{RunLed, dots_of, walk_of}
 use Rattle.its_verify.specs.declared.judge.Judge.{Judge}
@@ -112,6 +112,12 @@ some_led old new i (suc k) some s dots room b n ps =
 
 pub units_some : (old new : Judge) (i k : ℕ) → k ≢ 0 → Series k (machine_of old.plain) i (machine_of new.plain) → new.dots ≡ slice_set old.dots i 0 → i < length old.dots → RunLed true old new i (replicate k Step)
 units_some old new i k some s dots room = some_led old new i k some (series_alone k (machine_of old.plain) (machine_of new.plain) i s) dots room
+
+-- if a unit was due, some were made
+pub units_first : (old mid new : Judge) (i n j k : ℕ) → j ≡ 0 → (j ≡ 0 → mid.plain ≡ old.plain) → (j < n → unit_due (machine_of mid.plain) i ≡ false)
+    → unit_due (machine_of old.plain) i ≡ true → k < n → unit_due (machine_of new.plain) i ≡ false
+units_first old mid new i n j k none same most due less =
+    absurd (false≢true (sym (most (omega (arith, none, less))) ∙ ap (λ p. unit_due (machine_of p) i) (same none) ∙ due))
 
 -- parts of a call
 pub parts_some : (old new : Judge) (i k : ℕ) → k ≢ 0 → InParts k (machine_of old.plain) i (machine_of new.plain) → new.dots ≡ slice_set old.dots i 0 → i < length old.dots → RunLed true old new i (replicate k Step)

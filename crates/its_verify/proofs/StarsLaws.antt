@@ -1,6 +1,6 @@
 -- The `*` of a run, taken some at a time.
-use Rattle.std.proofs.Common.{◌≡◌, ◌≢◌, ◌<◌, ◌≤◌, ◌+◌, ◌-◌, ℕ, suc, Bool, true, false, Some, length, List, ◌∷◌, ◌++◌, replicate, refl, sym, ap, subst, ◌∙◌, arith}
-use Rattle.std.proofs.lemmas.Bool.{false≢true}
+use Rattle.std.proofs.Common.{◌≡◌, ◌≢◌, ◌<◌, ◌≤◌, ◌+◌, ◌-◌, ◌&&◌, ℕ, suc, Bool, true, false, Some, None, length, List, ◌∷◌, ◌++◌, replicate, refl, sym, ap, subst, ◌∙◌, arith}
+use Rattle.std.proofs.lemmas.Bool.{false≢true, le-leb, lt-leb}
 use Rattle.std.specs.Prelude.{bytes_eq}
 use Rattle.its_records.specs.declared.calls.Pace.{Pace}
 use Rattle.its_records.specs.declared.calls.Pace.TheVariants.{Step}
@@ -8,6 +8,7 @@ use Rattle.its_print.specs.declared.runs.Run.{Run}
 use Rattle.its_print.specs.Printing.{Ticks, text_of_line}
 use Rattle.its_print.specs.Runs.{paces_in}
 use Rattle.its_verify.specs.Letters.{paced, ticks_in}
+use Rattle.its_verify.specs.Reading.{is_alike, last_letter, most_alike, says_alike}
 use Rattle.its_verify.specs.JudgeState.{LedIf, RunLed, RunOn, walk_of}
 use Rattle.its_verify.specs.declared.judge.Judge.{Judge}
 use Rattle.its_verify.proofs.LicenceLaws.{ticks_said}
@@ -61,3 +62,17 @@ of_stars old new i m p licensed is led = subst (λ (q : Pace). RunLed licensed o
 -- letters that are all alike
 pub alike_read : (i k : ℕ) (line : List ℕ) (rs : List Run) → length (paces_in rs) ≡ k → bytes_eq line (text_of_line (Ticks i (paces_in rs))) ≡ true → ticks_in i k line ≡ Some (paces_in rs)
 alike_read i k line rs many said = ticks_said i k line (paces_in rs) many said
+
+pub alike_said : (i k : ℕ) (line : List ℕ) (ps : List Pace) (p : Pace) (b : Bool) → length line ≤ most_alike → last_letter line ≡ Some p → ps ≡ replicate k p
+    → b ≡ bytes_eq line (text_of_line (Ticks i ps)) → b ≡ is_alike i k line
+alike_said i k line ps p b few last all said =
+    said
+    ∙ ap (λ (qs : List Pace). bytes_eq line (text_of_line (Ticks i qs))) all
+    ∙ sym (ap (λ (t : Bool). t && says_alike i k line (last_letter line)) (le-leb (length line) most_alike few) ∙ ap (says_alike i k line) last)
+
+pub alike_long : (i k : ℕ) (line : List ℕ) → most_alike < length line → false ≡ is_alike i k line
+alike_long i k line long = sym (ap (λ (t : Bool). t && says_alike i k line (last_letter line)) (lt-leb (length line) most_alike long))
+
+pub alike_none : (i k : ℕ) (line : List ℕ) → length line ≤ most_alike → last_letter line ≡ None → false ≡ is_alike i k line
+alike_none i k line few none =
+    sym (ap (λ (t : Bool). t && says_alike i k line (last_letter line)) (le-leb (length line) most_alike few) ∙ ap (says_alike i k line) none)

@@ -49,6 +49,12 @@ Again Wait j i = Led j j i Wait
 Again Off j i = Led j j i Off
 Again p j i = Unit {0}
 
+-- of so many letters that are like the one before them, those that are taken at once: all, if they change nothing
+abbrev pub at_once : Pace → ℕ → ℕ
+at_once Wait n = n
+at_once Off n = n
+at_once p n = 0
+
 -- whether it did; it is not licensed if it did not
 abbrev pub LedIf : Bool → Judge → Judge → ℕ → Pace → Type 0
 LedIf true old new i p = Led old new i p

@@ -1,6 +1,6 @@
 //! Letters of a slot that are led together: runs of `*`, without the `.` between them. After a `*` up to 16 `.` are licensed if one more `*`
 //! is, and that one sets their count to 0.
-ghost use Rattle.std.specs.Prelude.{◌≡◌, ◌≤◌, length, true, false, IfSome};
+ghost use Rattle.std.specs.Prelude.{◌≡◌, ◌≤◌, ◌+◌, length, true, false};
 
 use super::judge::{Judge, MOST_DOTS};
 use its_direct::Spot;
@@ -13,28 +13,22 @@ use its_word::Slot;
 pub(crate) struct Gathered {
     pub run: Run,
     pub dots: u32,
-    ghost few: { dots ≤ 16 },
 }
 
 impl Gathered {
-    ghost use Rattle.its_verify.specs.Gathered.{Begins, Gathers};
+    ghost use Rattle.its_verify.specs.Gathered.{Begins, alone, dotted, gathered_by, joined, starred};
 
-    /// A run, and so many `.` after it.
-    fn new(run: Run, dots: u32) -> Gathered
-        requires few { dots ≤ 16 }
-        ensures run { result.run ≡ run }
-        ensures dots { result.dots ≡ dots }
-    {
-        Gathered { run, dots }
-    }
-
-    /// The letters of a run and of those after it with which it may be led, and the runs that are left.
-    #[tactic(auto, using(crate::proofs::GatheredLaws::begins_first, crate::proofs::GatheredLaws::begins_more))]
+    /// The letters of a run and of as many after it as may be led with it, and the runs that are left.
+    #[tactic(auto, using(crate::proofs::GatheredLaws::begins, crate::proofs::GatheredLaws::gathers_more, crate::proofs::GatheredLaws::gathers_stop, crate::proofs::GatheredLaws::gathers_end))]
     pub(crate) fn with_next(first: Run, behind: &[Run]) -> (Gathered, &[Run])
+        ensures most { (result.0, result.1.now) ≡ gathered_by (alone first) behind.now }
         ensures begins { Begins first behind.now result.0 result.1.now }
         ensures fewer { length result.1.now ≤ length behind.now }
     {
-        let mut gathered = Gathered::new(first, 0);
+        let mut gathered = Gathered {
+            run: first,
+            dots: 0,
+        };
         let mut rest = behind;
         while let Some((run, after)) = rest.split_first() {
             let Some(more) = gathered.with(*run) else {
@@ -48,7 +42,7 @@ impl Gathered {
 
     /// These letters and a run after them, if that may be led with them: it is of `.` or of `*`, and these begin with `*`.
     fn with(&self, run: Run) -> Option<Gathered>
-        ensures { IfSome result (Gathers self.now run) }
+        ensures { result ≡ joined self.now run }
     {
         match (self.run.pace, run.pace) {
             (Pace::Step, Pace::Step) => self.with_stars(run),
@@ -58,33 +52,33 @@ impl Gathered {
     }
 
     /// The same of a run of `*`: the `.` before it are left out.
-    #[tactic(auto, using(crate::proofs::GatheredLaws::stars_gathered))]
+    #[tactic(auto, using(crate::proofs::GatheredLaws::stars_fit, crate::proofs::GatheredLaws::stars_past))]
     fn with_stars(&self, run: Run) -> Option<Gathered>
-        requires first { self.now.run.pace ≡ Pace.Step }
-        requires stars { run.pace ≡ Pace.Step }
-        ensures { IfSome result (Gathers self.now run) }
+        ensures { result ≡ starred (self.now.run.more + run.more + 1) }
     {
         let more = self.run.more.checked_add(run.more)?.checked_add(1)?;
-        Some(Gathered::new(
-            Run {
+        Some(Gathered {
+            run: Run {
                 pace: Pace::Step,
                 more,
             },
-            0,
-        ))
+            dots: 0,
+        })
     }
 
     /// The same of a run of `.`: there may be as many as are licensed in a row.
-    #[tactic(auto, using(crate::proofs::GatheredLaws::dots_gathered))]
+    #[tactic(auto, using(crate::proofs::GatheredLaws::dots_fit, crate::proofs::GatheredLaws::dots_past))]
     fn with_dots(&self, run: Run) -> Option<Gathered>
-        requires dots { run.pace ≡ Pace.Work }
-        ensures { IfSome result (Gathers self.now run) }
+        ensures { result ≡ dotted self.now.run (self.now.dots + run.more + 1) }
     {
         let dots = self.dots.checked_add(run.more)?.checked_add(1)?;
         if dots > u32::from(MOST_DOTS) {
             return None;
         }
-        Some(Gathered::new(self.run, dots))
+        Some(Gathered {
+            run: self.run,
+            dots,
+        })
     }
 }
 

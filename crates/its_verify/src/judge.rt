@@ -1,15 +1,16 @@
 //! The judge: the plain machine of a session, and how many `.` came for each slot.
-ghost use Rattle.std.specs.Prelude.{◌≡◌, ◌≤◌, ◌∷◌, ◌-◌, replicate, true, false, not, Ok, IfOk, IfSome, OnOk, OnErr};
+ghost use Rattle.std.specs.Prelude.{◌≡◌, ◌<◌, ◌≤◌, ◌∷◌, ◌-◌, replicate, true, false, not, Ok, IfOk, IfSome, OnOk, OnErr};
 ghost use Rattle.its_word.specs.Limits.{slots};
 ghost use Rattle.its_session.specs.Events.{place_after};
 ghost use Rattle.its_session.specs.Fits.{EventFits};
 ghost use Rattle.its_plain.specs.Machine.{no_machine};
 ghost use Rattle.its_direct.specs.Plain.{machine_of};
+ghost use Rattle.its_direct.specs.Series.{unit_due};
 ghost use Rattle.its_direct.specs.Events.{IsTold, MayStand, Told, spot_place};
 ghost use Rattle.its_print.specs.Runs.{paces_in};
 ghost use Rattle.its_plain.specs.Turns.{is_running, runs, turn_after};
 ghost use Rattle.its_robin.specs.Robin.{first_running};
-ghost use Rattle.its_verify.specs.JudgeState.{Again, AllLed, dots_of, forgotten, Forgets, LedIf, RunLed, RunsLed, Sure};
+ghost use Rattle.its_verify.specs.JudgeState.{Again, AllLed, at_once, dots_of, forgotten, Forgets, LedIf, RunLed, RunsLed, Sure};
 
 use super::gathered::Gathered;
 use super::room::Room;
@@ -153,6 +154,7 @@ impl Judge {
         requires again { Again run.pace self.old slot }
         requires outside { self.old.plain.place ≡ Spot.Plain }
         requires sure { Sure self.old }
+        ensures all { result ≡ at_once run.pace run.more }
         ensures few { result ≤ run.more }
         ensures led { RunLed true self.old self.new slot (replicate result run.pace) }
         ensures going { self.new.ended ≡ false }
@@ -167,13 +169,14 @@ impl Judge {
         }
     }
 
-    /// Takes as many `*` as are units of a slot's job in a row, or if there is none as are parts of its call, n at most; how many.
-    #[tactic(auto, using(crate::proofs::LettersLaws::run_then))]
+    /// Takes as many `*` as are units of a slot's job in a row, or if there is none some that are parts of its call, n at most; how many.
+    #[tactic(auto, using(crate::proofs::LettersLaws::run_then, crate::proofs::SeriesLaws::units_first))]
     pub(crate) fn steps(&mut self, slot: Slot, n: u32) -> u32
         requires going { self.old.ended ≡ false }
         requires outside { self.old.plain.place ≡ Spot.Plain }
         requires sure { Sure self.old }
         ensures few { result ≤ n }
+        ensures units { unit_due (machine_of self.old.plain) slot ≡ true → result < n → unit_due (machine_of self.new.plain) slot ≡ false }
         ensures led { RunLed true self.old self.new slot (replicate result Pace.Step) }
         ensures going { self.new.ended ≡ false }
         ensures sure { Sure self.new }
@@ -186,7 +189,7 @@ impl Judge {
         made
     }
 
-    /// Takes as many `*` as are parts of the call of a slot's job that disturb nobody, n at most; how many.
+    /// Takes some `*` that are parts of the call of a slot's job and disturb nobody, n at most; how many.
     #[tactic(auto, using(crate::proofs::SeriesLaws::parts_none, crate::proofs::SeriesLaws::parts_some, crate::proofs::JudgeStateLaws::sure_is, crate::proofs::JudgeStateLaws::sure_still))]
     fn parts(&mut self, slot: Slot, n: u32) -> u32
         requires going { self.old.ended ≡ false }
@@ -213,6 +216,8 @@ impl Judge {
         requires outside { self.old.plain.place ≡ Spot.Plain }
         requires sure { Sure self.old }
         ensures few { result ≤ n }
+        ensures most { result < n → unit_due (machine_of self.new.plain) slot ≡ false }
+        ensures none { result ≡ 0 → self.new.plain ≡ self.old.plain }
         ensures led { RunLed true self.old self.new slot (replicate result Pace.Step) }
         ensures going { self.new.ended ≡ false }
         ensures sure { Sure self.new }

@@ -5,6 +5,7 @@ ghost use Rattle.its_print.specs.Printing.{Ticks, text_of_line};
 ghost use Rattle.its_print.specs.Replies.{FewParts, line_of};
 ghost use Rattle.its_print.specs.Runs.{paces_in};
 ghost use Rattle.its_verify.specs.Letters.{counted, letter_at, paces_from, ticks_in};
+ghost use Rattle.its_verify.specs.Reading.{is_alike, last_letter};
 
 use super::room::{Bytes, Room, Runs};
 use arrayvec::ArrayVec;
@@ -32,12 +33,12 @@ pub fn read_ticks(line: &[u8], slot: Slot, count: u32, room: &mut Room) -> bool
     is_line_of(line, slot, &room.runs, &mut room.line)
 }
 
-/// Whether a line is surely the `T` line of a slot with `count` letters, which are all alike; their run is put into the room for it. False may
-/// also mean that the line is such a one.
-#[tactic(auto, using(crate::proofs::StarsLaws::alike_read))]
+/// Whether a line of at most 12 bytes is the `T` line of a slot with `count` letters that are all alike; their run is put into the room for it.
+#[tactic(auto, using(crate::proofs::StarsLaws::alike_read, crate::proofs::StarsLaws::alike_said, crate::proofs::StarsLaws::alike_long, crate::proofs::StarsLaws::alike_none))]
 fn are_alike(line: &[u8], slot: Slot, count: u32, room: &mut Room) -> bool
     requires { count ≤ 512 }
-    ensures { result ≡ true → ticks_in slot count line.now ≡ Some (paces_in room.new.runs.items) }
+    ensures alike { result ≡ is_alike slot count line.now }
+    ensures read { result ≡ true → ticks_in slot count line.now ≡ Some (paces_in room.new.runs.items) }
 {
     if line.len() > MOST_ALIKE {
         return false;
@@ -51,7 +52,9 @@ fn are_alike(line: &[u8], slot: Slot, count: u32, room: &mut Room) -> bool
 }
 
 /// The letter before the last byte of a line, if it is one.
-fn last_letter(line: &[u8]) -> Option<Pace> {
+fn last_letter(line: &[u8]) -> Option<Pace>
+    ensures { result ≡ last_letter line.now }
+{
     if line.len() < 2 {
         return None;
     }
