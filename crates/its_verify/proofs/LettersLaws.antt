@@ -1,5 +1,5 @@
 -- The letters of a line, one after another.
-use Rattle.std.proofs.Common.{◌≡◌, ◌<◌, ◌≤◌, ◌+◌, ◌-◌, ℕ, zero, suc, Bool, true, false, Some, None, List, ◌∷◌, ◌++◌, replicate, refl, sym, ap, subst, ◌∙◌, arith}
+use Rattle.std.proofs.Common.{◌≡◌, ◌<◌, ◌≤◌, ◌+◌, ◌-◌, ℕ, zero, suc, Bool, true, false, not, Some, None, List, ◌∷◌, ◌++◌, replicate, refl, sym, ap, subst, ◌∙◌, arith}
 use Rattle.std.proofs.lemmas.Bool.{false≢true}
 use Rattle.std.specs.Prelude.{option_and_then}
 use Rattle.its_records.specs.declared.calls.Pace.{Pace}
@@ -80,8 +80,8 @@ off_again j i k p is so = all_again j i k p (subst (λ (q : Pace). Led j j i q) 
 
 -- the letters of a line
 pub all_led : (licensed : Bool) (old new : Judge) (i k : ℕ) (text : List ℕ) (ps : List Pace) → ticks_in i k text ≡ Some ps → RunsLed licensed old new i ps
-    → (licensed ≡ true → Sure new) → (licensed ≡ true → new.ended ≡ false) → AllLed licensed old new text i k
-all_led true old new i k text ps read led sure going = (sure refl, going refl, λ b n. ap (option_and_then (paced (walk_of old b n) i)) read ∙ led b n)
+    → (licensed ≡ true → Sure new) → new.ended ≡ not licensed → AllLed licensed old new text i k
+all_led true old new i k text ps read led sure going = (sure refl, going, λ b n. ap (option_and_then (paced (walk_of old b n) i)) read ∙ led b n)
 all_led false old new i k text ps read led sure going = λ b n. ap (option_and_then (paced (walk_of old b n) i)) read ∙ led b n
 
 pub not_read : (old : Judge) (i k : ℕ) (text : List ℕ) → ticks_in i k text ≡ None → AllLed false old old text i k

@@ -15,16 +15,16 @@ use Rattle.its_verify.specs.declared.gathered.Gathered.{Gathered}
 abbrev pub alone : Run → Gathered
 alone r = record { run = r; dots = 0 }
 
--- a `*` and so many more are one run, if their number fits in 32 bits
+-- a `*` and so many more are one run, if the number of those after the first fits in 32 bits
 abbrev pub starred : ℕ → Option Gathered
 starred more = if_so (nat_lt more (2 ^ 32)) (alone (record { pace = Step; more = more }))
 
--- a run and so many `.` after it, if as many may come in a row
+-- a run and so many `.` after it, if so many may come in a row
 abbrev pub dotted : Run → ℕ → Option Gathered
 dotted r dots = if_so (nat_le dots most_dots) (record { run = r; dots = dots })
 
--- what is led together, by the letters that were gathered and of a run after it. The `.` between two `*` are left out: they are licensed if
--- the `*` after them is, which sets their count to 0
+-- what was gathered with one more run, if that may be led with it, by the letters of both: `*` and `*`, or `*` and `.`. The `.` between
+-- two `*` are left out: they are licensed if the `*` after them is, which sets their count to 0
 abbrev pub joined_by : Pace → Pace → Gathered → ℕ → Option Gathered
 joined_by Step Step g more = starred (g.run.more + more + 1)
 joined_by Step Work g more = dotted g.run (g.dots + more + 1)
@@ -33,7 +33,7 @@ joined_by p q g more = None
 abbrev pub joined : Gathered → Run → Option Gathered
 joined g r = joined_by g.run.pace r.pace g r.more
 
--- what was gathered and as many runs after it as are led with it, and the runs that are left
+-- what was gathered with as many more runs as may be led with it, one after another, and the runs that are left
 abbrev pub gathered_by : Gathered → List Run → Gathered × List Run
 gathered_by g [] = (g, [])
 gathered_by g (r ∷ rs) = option_map_or (λ h. gathered_by h rs) (joined g r) (g, r ∷ rs)
@@ -46,6 +46,6 @@ letters_in r = r.pace ∷ replicate r.more r.pace
 abbrev pub letters_of : Gathered → List Pace
 letters_of g = letters_in g.run ++ replicate g.dots Work
 
--- what was gathered and the runs after it lead to the same as a run with all that come after it
+-- what was gathered and the runs that are left lead to the same as a run with all that come after it
 abbrev pub Begins : Run → List Run → Gathered → List Run → Type 0
 Begins first behind g rest = (v : Walk) (i : ℕ) → paced v i (paces_in (first ∷ behind)) ≡ paced v i (letters_of g ++ paces_in rest)

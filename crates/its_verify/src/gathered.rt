@@ -1,6 +1,6 @@
 //! Letters of a slot that are led together: runs of `*`, without the `.` between them. After a `*` up to 16 `.` are licensed if one more `*`
 //! is, and that one sets their count to 0.
-ghost use Rattle.std.specs.Prelude.{◌≡◌, ◌≤◌, ◌+◌, length, true, false};
+ghost use Rattle.std.specs.Prelude.{◌≡◌, ◌≤◌, ◌+◌, length, true, false, not};
 
 use super::judge::{Judge, MOST_DOTS};
 use its_direct::Spot;
@@ -93,7 +93,7 @@ impl Judge {
         requires outside { self.old.plain.place ≡ Spot.Plain }
         requires sure { Sure self.old }
         ensures led { RunLed result self.old self.new slot (letters_of gathered.now) }
-        ensures ended { result ≡ true → self.new.ended ≡ false }
+        ensures ended { self.new.ended ≡ not result }
         ensures sure { result ≡ true → Sure self.new }
         ensures place { self.new.plain.place ≡ self.old.plain.place }
     {

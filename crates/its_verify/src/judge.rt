@@ -109,7 +109,7 @@ impl Judge {
         requires outside { self.old.plain.place ≡ Spot.Plain }
         requires sure { Sure self.old }
         ensures led { RunsLed result self.old self.new slot (paces_in runs.now) }
-        ensures ended { result ≡ true → self.new.ended ≡ false }
+        ensures ended { self.new.ended ≡ not result }
         ensures sure { result ≡ true → Sure self.new }
         ensures place { self.new.plain.place ≡ self.old.plain.place }
     {
@@ -131,7 +131,7 @@ impl Judge {
         requires outside { self.old.plain.place ≡ Spot.Plain }
         requires sure { Sure self.old }
         ensures led { RunLed result self.old self.new slot (run.pace ∷ replicate run.more run.pace) }
-        ensures ended { result ≡ true → self.new.ended ≡ false }
+        ensures ended { self.new.ended ≡ not result }
         ensures sure { result ≡ true → Sure self.new }
         ensures place { self.new.plain.place ≡ self.old.plain.place }
     {

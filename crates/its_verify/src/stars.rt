@@ -1,5 +1,5 @@
 //! The letters `*` of a run: as many as can be are taken at once, and each other one as a step of its own.
-ghost use Rattle.std.specs.Prelude.{◌≡◌, ◌≢◌, ◌≤◌, ◌∷◌, ◌+◌, replicate, true, false};
+ghost use Rattle.std.specs.Prelude.{◌≡◌, ◌≢◌, ◌≤◌, ◌∷◌, ◌+◌, replicate, true, false, not};
 ghost use Rattle.its_direct.specs.Plain.{machine_of};
 ghost use Rattle.its_verify.specs.JudgeState.{RunLed, Sure};
 
@@ -17,7 +17,7 @@ impl Judge {
         requires outside { self.old.plain.place ≡ Spot.Plain }
         requires sure { Sure self.old }
         ensures led { RunLed result self.old self.new slot (run.pace ∷ replicate run.more run.pace) }
-        ensures ended { result ≡ true → self.new.ended ≡ false }
+        ensures ended { self.new.ended ≡ not result }
         ensures sure { result ≡ true → Sure self.new }
         ensures place { self.new.plain.place ≡ self.old.plain.place }
     {
@@ -34,7 +34,7 @@ impl Judge {
         requires outside { self.old.plain.place ≡ Spot.Plain }
         requires sure { Sure self.old }
         ensures led { RunLed result self.old self.new slot (Pace.Step ∷ replicate more Pace.Step) }
-        ensures ended { result ≡ true → self.new.ended ≡ false }
+        ensures ended { self.new.ended ≡ not result }
         ensures sure { result ≡ true → Sure self.new }
         ensures place { self.new.plain.place ≡ self.old.plain.place }
     {
@@ -61,7 +61,8 @@ impl Judge {
         ensures few { result ≤ more + 1 }
         ensures none { result ≡ 0 → RunLed false self.old self.new slot (Pace.Step ∷ replicate more Pace.Step) }
         ensures some { result ≢ 0 → RunLed true self.old self.new slot (replicate result Pace.Step) }
-        ensures ended { result ≢ 0 → self.new.ended ≡ false }
+        ensures going { result ≢ 0 → self.new.ended ≡ false }
+        ensures ended { result ≡ 0 → self.new.ended ≡ true }
         ensures sure { result ≢ 0 → Sure self.new }
         ensures place { self.new.plain.place ≡ self.old.plain.place }
     {
