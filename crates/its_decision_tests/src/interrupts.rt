@@ -73,6 +73,67 @@ fn core_with(rt: &impl Abort, alloc: Global, words: &[(u32, u64)]) -> Result<Cor
     Ok(core)
 }
 
+/// A delivery: words that the core also has; the bits of word 1 that are pending, masked and deferred, and the flags; then the bits
+/// that are pending and deferred, and the PC; and some words.
+struct Delivery {
+    words: &'static [(u32, u64)],
+    job: (u64, u64, u64, u32),
+    left: (u64, u64, u32),
+    after: &'static [(u32, u64)],
+}
+
+/// Deliveries that enter the handler.
+static ENTERED: [Delivery; 4] = [
+    // The image of a handler: the taken bits, the deferrals, the PC word, the stack pointer word.
+    Delivery {
+        words: &[],
+        job: (0o1000, 0o1004, 0, 0),
+        left: (0, 0o1004, 0o300),
+        after: &[
+            (0o501, 0o1000),
+            (0o502, 0),
+            (0o503, 0),
+            (0o504, 0),
+            (0o505, 0o10000_000202),
+            (0o17, 0o777705_000505),
+        ],
+    },
+    // A page fault in the second half of ILDB; the bit that no entry takes stays pending.
+    Delivery {
+        words: &[],
+        job: (0o2004, 0o3004, 0o200, BYTE_HALF),
+        left: (0o2000, 0o1204, 0o300),
+        after: &[(0o501, 0o4), (0o503, 0o200), (0o505, 0o30000_000202)],
+    },
+    // The pushed words overlap the table, whose words were read before.
+    Delivery {
+        words: &[(0o17, 0o777700_000100)],
+        job: (0o1000, 0o1004, 0, 0),
+        left: (0, 0o1004, 0o300),
+        after: &[(0o101, 0o1000), (0o103, 0), (0o105, 0o10000_000202)],
+    },
+    // The stack pointer word is one of the pushed places, and is stored last.
+    Delivery {
+        words: &[(0o100, 0o502), (0o502, 0o777700_000500)],
+        job: (0o1000, 0o1004, 0, 0),
+        left: (0, 0o1004, 0o300),
+        after: &[
+            (0o501, 0o1000),
+            (0o502, 0o777705_000505),
+            (0o505, 0o10000_000202),
+        ],
+    },
+];
+
+/// Words with which no handler is entered: a length of 5, no entry, a stack that runs into an absent page, and into one that is read only.
+static NOT_ENTERED: [(u32, u64); 5] = [
+    (0o42, 0o777773_000100),
+    (0o101, 0o4),
+    (0o17, 0o777700_001775),
+    (0o17, 0o777700_003775),
+    (0o100, 0o4000),
+];
+
 /// Delivers an interrupt over a core that also has these words: the pending bits, the deferrals and the PC that are
 /// left, and some words afterwards.
 fn delivers(
@@ -95,63 +156,15 @@ fn delivers(
 /// Words are pushed and the handler is entered, or TBL is set and nothing else is changed.
 #[test]
 fn through_the_table(rt: HostRuntime) -> Result<(), Fail> {
-    // The image of a handler: the taken bits, the deferrals, the PC word, the stack pointer word.
-    delivers(
-        &rt,
-        rt.alloc(),
-        &[],
-        job(0o1000, 0o1004, 0),
-        (0, 0o1004, 0o300),
-        &[
-            (0o501, 0o1000),
-            (0o502, 0),
-            (0o503, 0),
-            (0o504, 0),
-            (0o505, 0o10000_000202),
-            (0o17, 0o777705_000505),
-        ],
-    )?;
-    // A page fault in the second half of ILDB; the bit that no entry takes stays pending.
-    let mut half = job(0o2004, 0o3004, 0o200);
-    half.flags = BYTE_HALF;
-    delivers(
-        &rt,
-        rt.alloc(),
-        &[],
-        half,
-        (0o2000, 0o1204, 0o300),
-        &[(0o501, 0o4), (0o503, 0o200), (0o505, 0o30000_000202)],
-    )?;
-    // The pushed words overlap the table, whose words were read before.
-    delivers(
-        &rt,
-        rt.alloc(),
-        &[(0o17, 0o777700_000100)],
-        job(0o1000, 0o1004, 0),
-        (0, 0o1004, 0o300),
-        &[(0o101, 0o1000), (0o103, 0), (0o105, 0o10000_000202)],
-    )?;
-    // The stack pointer word is one of the pushed places, and is stored last.
-    delivers(
-        &rt,
-        rt.alloc(),
-        &[(0o100, 0o502), (0o502, 0o777700_000500)],
-        job(0o1000, 0o1004, 0),
-        (0, 0o1004, 0o300),
-        &[
-            (0o501, 0o1000),
-            (0o502, 0o777705_000505),
-            (0o505, 0o10000_000202),
-        ],
-    )?;
-    // A length of 5, no entry, a stack that runs into an absent page, and into one that is read only.
-    for word in [
-        (0o42, 0o777773_000100),
-        (0o101, 0o4),
-        (0o17, 0o777700_001775),
-        (0o17, 0o777700_003775),
-        (0o100, 0o4000),
-    ] {
+    for row in &ENTERED {
+        let (pend, mask, defer, flags) = row.job;
+        let job = Job {
+            flags,
+            ..job(pend, mask, defer)
+        };
+        delivers(&rt, rt.alloc(), row.words, job, row.left, row.after)?;
+    }
+    for word in NOT_ENTERED {
         delivers(
             &rt,
             rt.alloc(),
@@ -199,42 +212,45 @@ fn dismissed(rt: &impl Abort, core: &mut Core, job: &mut Job, pointer: u64) -> R
     Ok(())
 }
 
+/// Delivers an interrupt, after which the job has this PC and these flags.
+fn enters(rt: &impl Abort, core: &mut Core, job: &mut Job, pc: u32, flags: u32) {
+    assert!(rt; deliverable(job));
+    assert!(rt; !deliver(core, Slot::new(0), job));
+    assert_eq!(rt; (job.pc, job.flags), (pc, flags));
+}
+
+/// Words with which the table has a second entry, whose handler is at 400, and a stack pointer word at the end of page 2.
+static TWO_ENTRIES: [(u32, u64); 4] = [
+    (0o42, 0o777765_000100),
+    (0o107, 0o10),
+    (0o112, 0o400),
+    (0o5000, 0o777705_000505),
+];
+
+/// What two deliveries have pushed.
+static PUSHED: [(u32, u64); 6] = [
+    (0o505, 0o410000_000202),
+    (0o506, 0),
+    (0o507, 0o10),
+    (0o510, 0o1004),
+    (0o512, 0o10000_000300),
+    (0o17, 0o777712_000512),
+];
+
 /// Two deliveries in a row, the second by another entry and in word 2, and the return from both.
 #[test]
 fn returns(rt: HostRuntime) -> Result<(), Fail> {
-    let mut core = core_with(
-        &rt,
-        rt.alloc(),
-        &[
-            (0o42, 0o777765_000100),
-            (0o107, 0o10),
-            (0o112, 0o400),
-            (0o5000, 0o777705_000505),
-        ],
-    )?;
-    let mut job = job(0o1000, 0o1000, 0);
-    job.pend2 = Word::new(0o10);
-    job.mask2 = Word::new(0o10);
-    job.flags = OVERFLOW;
-    assert!(rt; deliverable(&job));
-    assert!(rt; !deliver(&mut core, Slot::new(0), &mut job));
-    assert_eq!(rt; (job.pc, job.flags), (0o300, 0));
-    assert!(rt; deliverable(&job));
-    assert!(rt; !deliver(&mut core, Slot::new(0), &mut job));
-    assert_eq!(rt; (job.pc, job.flags), (0o400, 0));
+    let mut core = core_with(&rt, rt.alloc(), &TWO_ENTRIES)?;
+    let mut job = Job {
+        pend2: Word::new(0o10),
+        mask2: Word::new(0o10),
+        flags: OVERFLOW,
+        ..job(0o1000, 0o1000, 0)
+    };
+    enters(&rt, &mut core, &mut job, 0o300, 0);
+    enters(&rt, &mut core, &mut job, 0o400, 0);
     assert!(rt; !deliverable(&job));
-    has(
-        &rt,
-        &core,
-        &[
-            (0o505, 0o410000_000202),
-            (0o506, 0),
-            (0o507, 0o10),
-            (0o510, 0o1004),
-            (0o512, 0o10000_000300),
-            (0o17, 0o777712_000512),
-        ],
-    );
+    has(&rt, &core, &PUSHED);
     dismissed(&rt, &mut core, &mut job, 0o777705_000505)?;
     assert_eq!(rt; (job.pc, job.flags, job.defer1.value()), (0o300, 0, 0o1004));
     dismissed(&rt, &mut core, &mut job, 0o777700_000500)?;
@@ -242,9 +258,23 @@ fn returns(rt: HostRuntime) -> Result<(), Fail> {
         (job.pc, job.flags, job.defer1.value()),
         (0o202, OVERFLOW, 0)
     );
+    Ok(())
+}
 
-    assert_eq!(rt; dismiss(&core, &job, Slot::new(0), 0o2000), Err(Fault::Mpv));
-    assert_eq!(rt; dismiss(&core, &job, Slot::new(0), 0o4000), Err(Fault::Mpv));
-    assert_eq!(rt; dismiss(&core, &job, Slot::new(0), 0o5000), Err(Fault::Wro));
+/// A stack pointer word that is absent, or whose stack is, or that cannot be stored.
+#[test]
+fn no_returns(rt: HostRuntime) -> Result<(), Fail> {
+    let core = core_with(&rt, rt.alloc(), &TWO_ENTRIES)?;
+    for (a, fault) in [
+        (0o2000, Fault::Mpv),
+        (0o4000, Fault::Mpv),
+        (0o5000, Fault::Wro),
+    ] {
+        assert_eq!(rt;
+            dismiss(&core, &job(0, 0, 0), Slot::new(0), a),
+            Err(fault),
+            "at {a:o}"
+        );
+    }
     Ok(())
 }

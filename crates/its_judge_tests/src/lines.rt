@@ -69,84 +69,111 @@ fn run_line(rt: &impl Abort, p: &mut Plain, slot: Slot, line: Line) -> Result<Ca
     Ok(Came::Done)
 }
 
-/// A program in accumulators is run step by step, and each line is refused or done. MOVEI 1,5 is at 2, and `.IOT 3,100` at 3, which
-/// then becomes an illegal word.
+/// Loads a job of console 3, which gets this slot.
+fn load(rt: &impl Abort, p: &mut Plain, slot: Slot)
+    requires tidy { Tidy p.old }
+    ensures { Tidy p.new }
+{
+    let loaded = p.load(
+        Word::new(0o42),
+        Word::new(0o43),
+        Some(ConsoleNumber::new(3)),
+    );
+    assert_eq!(&rt; loaded, Ok(slot));
+}
+
+/// Lines of slot 0, each with its result. A program in accumulators is run step by step: MOVEI 1,5 is at 2, and `.IOT 3,100` at 3,
+/// which then becomes an illegal word.
+static LINES: [(Line, Result<Came, Refusal>); 17] = [
+    (Line::Deposit(2, 0o201040_000005), Ok(Came::Done)),
+    (Line::Deposit(3, 0o040140_000100), Ok(Came::Done)),
+    (Line::Deposit(0o2000, 0), Err(Refusal::NoPage)),
+    (Line::Exam(0, 0o20), Ok(Came::Done)),
+    (Line::Exam(0o17, 2), Err(Refusal::NoPage)),
+    (Line::Words(0o1777, 1), Ok(Came::Done)),
+    (Line::ReadOnly(1), Ok(Came::Done)),
+    (Line::Words(0o1777, 1), Err(Refusal::ReadOnly)),
+    (Line::Step, Ok(Came::Still)),
+    (Line::Go(2), Ok(Came::Done)),
+    (Line::Step, Ok(Came::Done)),
+    (Line::Step, Ok(Came::Calls(0o100))),
+    (Line::Stop, Ok(Came::Done)),
+    (Line::Step, Ok(Came::Still)),
+    (Line::Cont, Ok(Came::Done)),
+    (Line::Deposit(3, 0), Ok(Came::Done)),
+    (Line::Step, Ok(Came::Done)),
+];
+
+/// Each line is refused or done, or is a step.
 #[test]
 fn lines_and_steps(rt: HostRuntime) -> Result<(), Fail> {
     let mut p = Plain::open(rt.alloc())?;
-    assert_eq!(&rt;
-        run_line(&rt, &mut p, Slot::FIRST, Line::State),
-        Err(Refusal::NoJob)
-    );
+    let none = run_line(&rt, &mut p, Slot::FIRST, Line::State);
+    assert_eq!(&rt; none, Err(Refusal::NoJob));
+    load(&rt, &mut p, Slot::FIRST);
+    for (line, came) in &LINES {
+        let got = run_line(&rt, &mut p, Slot::FIRST, *line);
+        assert_eq!(&rt; got, *came, "{line:?}");
+    }
+    if let Ok(words) = p.words(Slot::FIRST, 0o1777, 2) {
+        assert_eq!(&rt; words.as_slice().first(), Some(&Word::new(1)));
+    }
+    Ok(())
+}
+
+/// The version changes as long as no job was made.
+#[test]
+fn versions(rt: HostRuntime) -> Result<(), Fail> {
+    let mut p = Plain::open(rt.alloc())?;
     p.version(2);
     assert_eq!(&rt; p.version, 2);
     p.version(1);
     assert_eq!(&rt; p.version, 1);
+    load(&rt, &mut p, Slot::FIRST);
+    p.version(2);
+    assert_eq!(&rt; p.version, 1);
+    Ok(())
+}
+
+/// The first job of a console holds it.
+#[test]
+fn loads(rt: HostRuntime) -> Result<(), Fail> {
+    let mut p = Plain::open(rt.alloc())?;
+    load(&rt, &mut p, Slot::FIRST);
+    assert_eq!(&rt; p.place, Spot::Load { slot: Slot::FIRST });
     assert_eq!(&rt;
-        p.load(
-            Word::new(0o42),
-            Word::new(0o43),
-            Some(ConsoleNumber::new(3))
-        ),
-        Ok(Slot::FIRST)
+        (p.holders[3], p.touched[0], p.touched[1]),
+        (Some(0), true, false)
     );
-    assert_eq!(&rt;
-        (p.place, p.holders[3], p.touched[0], p.touched[1]),
-        (Spot::Load { slot: Slot::FIRST }, Some(0), true, false)
-    );
-    assert_eq!(&rt;
-        p.load(
-            Word::new(0o42),
-            Word::new(0o44),
-            Some(ConsoleNumber::new(3))
-        ),
-        Ok(Slot::new(1))
-    );
+    load(&rt, &mut p, Slot::new(1));
     assert_eq!(&rt;
         (p.holders[3], p.touched[0], p.touched[1]),
         (Some(0), false, true)
     );
-    for (line, came) in [
-        (Line::Deposit(2, 0o201040_000005), Ok(Came::Done)),
-        (Line::Deposit(3, 0o040140_000100), Ok(Came::Done)),
-        (Line::Deposit(0o2000, 0), Err(Refusal::NoPage)),
-        (Line::Exam(0, 0o20), Ok(Came::Done)),
-        (Line::Exam(0o17, 2), Err(Refusal::NoPage)),
-        (Line::Words(0o1777, 1), Ok(Came::Done)),
-        (Line::ReadOnly(1), Ok(Came::Done)),
-        (Line::Words(0o1777, 1), Err(Refusal::ReadOnly)),
-        (Line::Step, Ok(Came::Still)),
-        (Line::Go(2), Ok(Came::Done)),
-        (Line::Step, Ok(Came::Done)),
-        (Line::Step, Ok(Came::Calls(0o100))),
-        (Line::Stop, Ok(Came::Done)),
-        (Line::Step, Ok(Came::Still)),
-        (Line::Cont, Ok(Came::Done)),
-        (Line::Deposit(3, 0), Ok(Came::Done)),
-        (Line::Step, Ok(Came::Done)),
-    ] {
-        assert_eq!(&rt; run_line(&rt, &mut p, Slot::FIRST, line), came, "{line:?}");
-    }
-    assert_eq!(&rt; p.type_in(ConsoleNumber::new(3), b"AB"), 0);
-    assert_eq!(&rt; p.consoles[3].waiting(), (2, 0));
-    assert_eq!(&rt; p.drain(ConsoleNumber::new(3), 64).len(), 0);
-    assert_eq!(&rt; p.symbol(Slot::FIRST, Word::new(0o123), 2), Ok(()));
     assert_eq!(&rt;
         (p.peek(Slot::new(1)), p.peek(Slot::new(2))),
         (Ok(()), Err(Refusal::NoJob))
     );
+    Ok(())
+}
+
+/// Bytes wait at a console, and a job has a symbol and no page 2.
+#[test]
+fn consoles_and_symbols(rt: HostRuntime) -> Result<(), Fail> {
+    let mut p = Plain::open(rt.alloc())?;
+    load(&rt, &mut p, Slot::FIRST);
+    assert_eq!(&rt; p.type_in(ConsoleNumber::new(3), b"AB"), 0);
+    assert_eq!(&rt; p.consoles[3].waiting(), (2, 0));
+    assert_eq!(&rt; p.drain(ConsoleNumber::new(3), 64).len(), 0);
     assert_eq!(&rt; p.read_only(Slot::FIRST, 2), Err(Refusal::NoPage));
-    if let Ok(words) = p.words(Slot::FIRST, 0o1777, 2) {
-        assert_eq!(&rt; words.as_slice().first(), Some(&Word::new(1)));
-    }
+    assert_eq!(&rt; p.go(Slot::FIRST, 3), Ok(()));
+    assert_eq!(&rt; p.symbol(Slot::FIRST, Word::new(0o123), 2), Ok(()));
     if let Ok(show) = p.shown(Slot::FIRST) {
         assert_eq!(&rt;
             (show.symbol, show.con),
             (Some((Word::new(0o123), 1)), Some(3))
         );
     }
-    p.version(2);
-    assert_eq!(&rt; p.version, 1);
     Ok(())
 }
 

@@ -4,15 +4,20 @@ use its_session::{print_event, read_line};
 use its_word::{ConsoleNumber, Slot, Word};
 use std::process::Abort;
 
+/// A line is read as this event at this place of a session of this version.
+fn is_read(rt: &impl Abort, place: Place, version: u8, line: &[u8], event: Event) {
+    assert_eq!(rt; read_line(line, place, version), Ok(event), "at {line:?}");
+}
+
 macro_rules! reads {
     ($rt:expr; $place:expr, $line:literal, $event:expr) => {
-        assert_eq!($rt; read_line($line, $place, 1), Ok($event));
+        is_read(&$rt, $place, 1, $line, $event);
     };
 }
 
 macro_rules! reads_in_two {
     ($rt:expr; $place:expr, $line:literal, $event:expr) => {
-        assert_eq!($rt; read_line($line, $place, 2), Ok($event));
+        is_read(&$rt, $place, 2, $line, $event);
     };
 }
 
@@ -111,6 +116,11 @@ fn reads_version_two(rt: HostRuntime) {
     reads_in_two!(rt; Place::Plain, b"STOP 137", Event::Stop { s: Slot::new(0o137) });
     reads_in_two!(rt; Place::Plain, b"CONT 137", Event::Cont { s: Slot::new(0o137) });
     reads_in_two!(rt; Place::Plain, b"PEEK 137", Event::Peek { s: Slot::new(0o137) });
+}
+
+/// Lines of version 2, or of its first line, that are none, or have a number outside its range.
+#[test]
+fn refuses_version_two(rt: HostRuntime) {
     refuses(
         &rt,
         Place::First,
