@@ -1,5 +1,5 @@
 -- Lines that are added to a text one after another.
-use Rattle.std.specs.Prelude.{◌≡◌, Ok, List, ℕ, [], ◌∷◌, ◌++◌, All, refl}
+use Rattle.std.specs.Prelude.{◌≡◌, Ok, List, ℕ, [], ◌∷◌, ◌++◌}
 use Rattle.std.proofs.Common.{sym, ◌∙◌, ap, subst, append_assoc, append-nil}
 use Rattle.std.proofs.lemmas.Grind.{flat_map-append}
 use Rattle.std.proofs.lemmas.List.Elements.{All-append, All-cons, All-nil}

@@ -1,18 +1,16 @@
 -- A core into which words are stored one after another.
-use Rattle.std.specs.Prelude.{if◌then◌else◌, ◌≡◌, ◌≢◌, ◌≤◌, ◌<◌, ◌+◌, ◌/◌, ◌%◌, ◌^◌, ◌&&◌, ◌||◌, ℕ, zero, suc, Bool, true, false, not, Option, Some, None, Result, Ok, Err, List, [], ◌∷◌, ◌++◌, All, cond, length, is_some, nat_eq, nat_le, nat_lt, replicate, slice_get, slice_set, refl}
+use Rattle.std.specs.Prelude.{if◌then◌else◌, ◌≡◌, ◌≢◌, ◌≤◌, ◌<◌, ◌/◌, ◌%◌, ◌^◌, ◌&&◌, ◌||◌, ℕ, zero, suc, Bool, true, false, Option, Some, None, Ok, List, [], ◌∷◌, ◌++◌, cond, length, is_some, nat_eq, nat_le, nat_lt, slice_get, slice_set, refl}
 use Rattle.std.proofs.Common.{sym, ◌∙◌, ap, subst, arith, inl, inr}
-use Rattle.std.specs.List.{list_any}
 use Rattle.std.specs.Map.{lookup}
 use Rattle.std.proofs.lemmas.Bool.{cases_Bool}
 use Rattle.std.proofs.lemmas.Bool.Decides.{nat_tests}
 use Rattle.std.proofs.lemmas.List.Folds.{list_any-append}
 use Rattle.its_word.specs.Limits.{most_pages}
-use Rattle.its_word.specs.Core.{Core, Page, can_store, no_core, page_of, page_stored, pages_present, present, store, stores_in, with_page, word_at, word_in, zero_page}
-use Rattle.its_records.specs.declared.session.Reason.{Reason}
+use Rattle.its_word.specs.Core.{Core, Page, can_store, no_core, page_of, page_stored, present, store, stores_in, with_page, word_at, word_in, zero_page}
 use Rattle.its_word.proofs.CoreLaws.{can_store-store, in_page, is_some-store, stores_page, word_at-store_same, word_at-store_other}
 use Rattle.its_word.proofs.PageLaws.{can_store-no_core, can_store-with_page_acc, can_store-with_page_other, get-copies, page_of-no_core, page_of-with_page, page_of-with_page_other, word_at-no_core, word_at-no_core_past, word_at-with_page_acc, word_at-with_page_other}
 use Rattle.its_plain.specs.OperatorJobs.{with_stored, with_stored_in}
-use Rattle.its_assembly.specs.Loading.{has_page, image_word, on_page, word_by}
+use Rattle.its_assembly.specs.Loading.{has_page, on_page, word_by}
 
 -- a core that has some words, if also the pages of `has` are there
 pub record CoreIs (has : ℕ → Bool) (cells : List (ℕ × ℕ)) (c : Core) : Type 0 where

@@ -1,14 +1,13 @@
 -- The lines of a text, gathered one after another.
 use Rattle.std.specs.Prelude.{◌≡◌, ◌≤◌, ◌<◌, ◌+◌, ◌*◌, ◌^◌, ℕ, Bool, true, false, Option, Some, None, IfSome, OnOk, Result, Ok, Err, List, [], ◌∷◌, ◌++◌, length, nat_le, replicate, refl}
 use Rattle.std.proofs.Common.{sym, ◌∙◌, ap, subst, arith, append_assoc, append-nil}
-use Rattle.std.specs.Io.KnownBytes.{Consumes, IsAtEnd}
+use Rattle.std.specs.Io.KnownBytes.{Consumes}
 use Rattle.std.proofs.KnownBytes.{Consumes-nil, Consumes-trans}
 use Rattle.std.proofs.lemmas.Bool.Decides.{nat_tests}
 use Rattle.std.proofs.lemmas.List.{length-append}
 use Rattle.its_io.specs.declared.stream.Failed.{Failed}
 use Rattle.its_session.specs.Events.{most_lines, lines_from}
 use Rattle.its_reader.specs.declared.lines.Lines.{Lines}
-use Rattle.its_reader.specs.declared.lines.Next.{Next}
 use Rattle.its_reader.specs.declared.lines.Next.TheVariants as nexts
 use Rattle.its_reader.specs.Bytes.{pending}
 use Rattle.its_reader.specs.Limits.{WithinLimits}
@@ -20,7 +19,7 @@ use Rattle.its_assembly.specs.declared.text.Unread.TheVariants as unreads
 use Rattle.its_assembly.specs.Text.{Assembles, Gathered, LinesSo, StandsFor, joined, read_whole}
 use Rattle.its_assembly.specs.Past.{runs_past}
 use Rattle.its_assembly.proofs.TextLaws.{all_clean, clean, clean_prefix, joined_lines, joined_last, joined_more, same_lines}
-use Rattle.its_assembly.proofs.LongLaws.{all_short, assembly_by, assembly_long, few_lines, long_within, none_assembled, past_lines, short_more}
+use Rattle.its_assembly.proofs.LongLaws.{assembly_by, assembly_long, few_lines, long_within, none_assembled, past_lines, short_more}
 
 -- no line yet
 pub gather_start : (kept : Bool) (r : Lines) (text : List ℕ) (left : Option (List ℕ)) → text ≡ [] → r.number ≡ 0 → r.ended ≡ false → pending r.buffer ≡ [] → LinesSo kept text r left left

@@ -1,5 +1,5 @@
 -- The session of an image, line by line: its transcript, and the job that it makes.
-use Rattle.std.specs.Prelude.{if◌then◌else◌, ◌≡◌, ◌≢◌, ◌≤◌, ◌<◌, ◌+◌, ◌==◌, ◌^◌, ◌&&◌, ◌||◌, ℕ, zero, suc, Bool, true, false, not, Option, Some, None, Result, Ok, Err, List, [], ◌∷◌, ◌++◌, All, cond, drop, length, is_some, map, nat_eq, nat_le, nat_lt, refl}
+use Rattle.std.specs.Prelude.{if◌then◌else◌, ◌≡◌, ◌≢◌, ◌≤◌, ◌<◌, ◌+◌, ◌==◌, ◌^◌, ◌&&◌, ℕ, zero, suc, Bool, true, false, not, Option, Some, None, Result, Ok, List, [], ◌∷◌, ◌++◌, All, length, is_some, map, nat_eq, nat_le, nat_lt, refl}
 use Rattle.std.proofs.Common.{sym, ◌∙◌, ap, subst, arith, inl, inr, append_assoc, append-nil}
 use Rattle.std.specs.Map.{lookup}
 use Rattle.std.proofs.lemmas.Bool.{cases_Bool}
@@ -9,9 +9,9 @@ use Rattle.std.proofs.lemmas.List.Elements.{All-append, All-cons, All-head, All-
 use Rattle.std.proofs.lemmas.List.Sums.{count_by-le-length}
 use Rattle.its_records.proofs.FreeLaws.{no_job_at_all}
 use Rattle.its_records.specs.Item.{Item, Read}
-use Rattle.its_word.specs.Limits.{limit_of, most_pages, most_symbols, slots}
+use Rattle.its_word.specs.Limits.{limit_of, most_pages, most_symbols}
 use Rattle.its_word.specs.Only.{Only}
-use Rattle.its_word.specs.Core.{Core, can_store, no_core, pages_mapped, pages_present, word_at}
+use Rattle.its_word.specs.Core.{Core, can_store, no_core, pages_present, word_at}
 use Rattle.its_records.specs.Tree.{free_from, fresh_job, least_free, no_job}
 use Rattle.its_records.specs.declared.jobs.Job.{Job}
 use Rattle.its_records.specs.declared.session.Event.{Event}
@@ -20,21 +20,21 @@ use Rattle.its_records.specs.declared.session.Reason.{Reason}
 use Rattle.its_word.proofs.PageLaws.{pages_mapped-none, pages_mapped-only, pages_present-no_core}
 use Rattle.its_print.specs.Printing.{Line}
 use Rattle.its_print.specs.Printing as printed
-use Rattle.its_plain.specs.Machine.{Machine, Whole, changed, core_of, limit, mapped, no_machine, whole, with_job, with_new}
-use Rattle.its_plain.specs.Operator.{Block, Does, Operated, Quits, and_then, no_block, nobody, only}
-use Rattle.its_plain.specs.OperatorJobs.{any_barred, is_barred, after_load, after_load_in, new_job, on_registers, after_go, with_stored, with_core, with_holder, with_word_loaded, with_words_loaded, with_words_loaded_if, with_words_stored}
-use Rattle.its_plain.specs.OperatorSymbols.{with_symbol_kept, with_symbol_kept_if}
+use Rattle.its_plain.specs.Machine.{Machine, changed, core_of, mapped, no_machine, whole, with_job, with_new}
+use Rattle.its_plain.specs.Operator.{Block, Does, and_then, no_block, nobody, only}
+use Rattle.its_plain.specs.OperatorJobs.{any_barred, is_barred, after_load, new_job, on_registers, after_go, with_core, with_holder, with_word_loaded, with_words_loaded, with_words_loaded_if, with_words_stored}
+use Rattle.its_plain.specs.OperatorSymbols.{with_symbol_kept}
 use Rattle.its_plain.specs.OperatorVersion.{with_version}
-use Rattle.its_plain.specs.OperatorLines.{Lined, Done, lined, operate}
+use Rattle.its_plain.specs.OperatorLines.{Done, lined, operate}
 use Rattle.its_plain.specs.Transcript.{Ended, Fate, Shows, Transcript, Walk, at_start, end_line, next_line, obeyed_line, walk_after, Turned, all_made}
 use Rattle.its_plain.specs.Turns.{highest, turns_asked, ticks_asked}
-use Rattle.its_plain.specs.Course.{Course, course, run_of}
+use Rattle.its_plain.specs.Course.{course, run_of}
 use Rattle.its_asm.specs.declared.assembly.Image.{Image}
 use Rattle.its_assembly.specs.Image.{CellFits, ImageFits, rises, rises_from}
-use Rattle.its_assembly.specs.Loading.{IsWhole, Loads, has_page, image_word}
+use Rattle.its_assembly.specs.Loading.{IsWhole, has_page}
 use Rattle.its_assembly.specs.Made.{IsSessionOf}
-use Rattle.its_assembly.specs.Written.{goes_on, image_events, rows, rows_from, symbol_lines}
-use Rattle.its_assembly.proofs.CoreLaws.{CoreIs, Stored, core_start, store_one}
+use Rattle.its_assembly.specs.Written.{goes_on, rows, rows_from, symbol_lines}
+use Rattle.its_assembly.proofs.CoreLaws.{CoreIs, core_start, store_one}
 use Rattle.its_assembly.proofs.SessionLaws.{session_whole}
 
 -- events that lead from one place of a session to another and show nothing

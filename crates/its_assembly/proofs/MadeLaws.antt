@@ -1,20 +1,19 @@
 -- The result of a text, from the lines that were kept.
-use Rattle.std.specs.Prelude.{◌≡◌, ℕ, Option, Some, None, IfSome, Result, Ok, Err, List, refl}
-use Rattle.std.proofs.Common.{sym, ◌∙◌, ap, subst}
+use Rattle.std.specs.Prelude.{◌≡◌, ℕ, Option, Some, None, IfSome, Result, Ok, Err, List}
+use Rattle.std.proofs.Common.{sym, subst}
 use Rattle.arrayvec.specs.ArrayVec.{ArrayVec}
 use Rattle.std.specs.Global.{Vec}
 use Rattle.its_asm.specs.Assembly.{assembly}
 use Rattle.its_asm.specs.Making.{IsFault}
 use Rattle.its_asm.specs.declared.assembly.Image.{Image}
 use Rattle.its_asm.specs.declared.reason.AsmFault.{AsmFault}
-use Rattle.its_asm.specs.declared.reason.AsmFault.TheVariants.{Line, NoMemory}
+use Rattle.its_asm.specs.declared.reason.AsmFault.TheVariants.{Line}
 use Rattle.its_asm.specs.declared.reason.AsmReason.{AsmReason}
 use Rattle.its_assembly.specs.declared.source.Made.{Made}
 use Rattle.its_assembly.specs.declared.source.Made.TheVariants as mades
 use Rattle.its_assembly.specs.declared.source.Unmade.{Unmade}
 use Rattle.its_assembly.specs.declared.source.Unmade.TheVariants as unmades
 use Rattle.its_assembly.specs.declared.text.Unread.TheVariants as unreads
-use Rattle.its_assembly.specs.Past.{runs_past}
 use Rattle.its_assembly.specs.Text.{Assembles, Gathered, StandsFor}
 use Rattle.its_assembly.specs.Made.{MadeFrom, EndsOf, IsSession, IsSessionOf, IsRefusal, MakesOf}
 use Rattle.its_assembly.specs.Written.{fault_line}

@@ -1,18 +1,14 @@
 -- Lines of words and of symbols, added one after another.
-use Rattle.std.specs.Prelude.{Result, Ok, Err, OnOk, if◌then◌else◌, ◌≡◌, ◌≤◌, ◌<◌, ◌+◌, ◌-◌, ◌^◌, ℕ, zero, suc, Bool, true, false, Option, Some, None, List, [], ◌∷◌, ◌++◌, All, length, drop, take, map, get_or, slice_get, refl}
-use Rattle.std.proofs.Common.{sym, ◌∙◌, ap, subst, arith, add-one, append_assoc, append-nil}
+use Rattle.std.specs.Prelude.{Result, Ok, Err, OnOk, ◌≡◌, ◌≤◌, ◌<◌, ◌+◌, ◌-◌, ◌^◌, ℕ, zero, suc, true, false, Some, None, List, [], ◌∷◌, ◌++◌, All, length, drop, take, get_or, slice_get, refl}
+use Rattle.std.proofs.Common.{sym, ◌∙◌, ap, subst, arith, add-one, append_assoc}
 use Rattle.std.proofs.Math.Seq.{drop-cons}
-use Rattle.std.proofs.lemmas.Bool.Decides.{nat_tests}
-use Rattle.std.proofs.lemmas.List.{length-append}
 use Rattle.std.proofs.lemmas.Option.{get_or_from_slice_get, slice_get_within}
-use Rattle.its_records.specs.declared.session.Event.{Event}
 use Rattle.its_records.specs.declared.session.Event.TheVariants as events
 use Rattle.its_assembly.specs.declared.row.Row.{Row}
-use Rattle.its_session.specs.Fits.{IsNameWord}
 use Rattle.std.proofs.lemmas.List.Elements.{All-drop, All-get_or, All-take}
 use Rattle.its_assembly.specs.Image.{CellFits, SymbolFits}
 use Rattle.its_assembly.specs.Written.{goes_on, rows_from, rows, symbol_lines}
-use Rattle.its_assembly.specs.Made.{Adds, AddsRow, RowFits, RowsSo, row_line}
+use Rattle.its_assembly.specs.Made.{Adds, AddsRow, RowsSo, row_line}
 use Rattle.its_assembly.proofs.AddsLaws.{as_added, none_added, then_adds}
 
 -- what follows i of some cells

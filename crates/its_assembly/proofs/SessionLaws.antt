@@ -1,5 +1,5 @@
 -- The session of an image is read as its events, all of them.
-use Rattle.std.specs.Prelude.{if◌then◌else◌, ◌≡◌, ◌≤◌, ◌<◌, ◌+◌, ◌-◌, ◌^◌, ◌==◌, ◌&&◌, ℕ, suc, Bool, true, false, not, Option, Ok, Err, List, [], ◌∷◌, ◌++◌, All, length, map, nat_le, nat_lt, refl}
+use Rattle.std.specs.Prelude.{if◌then◌else◌, ◌≡◌, ◌≤◌, ◌<◌, ◌+◌, ◌^◌, ◌==◌, ◌&&◌, ℕ, suc, Bool, true, false, not, Option, Ok, Err, List, [], ◌∷◌, ◌++◌, All, length, map, nat_le, nat_lt, refl}
 use Rattle.std.proofs.Common.{sym, ◌∙◌, ap, subst, arith, append_assoc}
 use Rattle.std.specs.List.{list_all}
 use Rattle.std.proofs.lemmas.Bool.Decides.{nat_tests}

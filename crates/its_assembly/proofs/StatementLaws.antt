@@ -1,6 +1,6 @@
 -- The values and the names of statements lie in their ranges.
-use Rattle.std.specs.Prelude.{if◌then◌else◌, ◌≡◌, ◌≤◌, ◌<◌, ◌+◌, ◌-◌, ◌%◌, ◌^◌, ◌==◌, ℕ, Bool, true, false, Option, Some, None, IfSome, Result, Ok, Err, List, [], ◌∷◌, All, IsTrue, filter, length, nat_le, drop, bytes_eq, codes, refl}
-use Rattle.std.proofs.Common.{sym, ◌∙◌, ap, subst, arith}
+use Rattle.std.specs.Prelude.{if◌then◌else◌, ◌≡◌, ◌≤◌, ◌<◌, ◌%◌, ◌^◌, ℕ, Bool, true, false, Option, Some, None, IfSome, Result, Ok, Err, List, [], ◌∷◌, All, filter, nat_le, drop, bytes_eq, codes, refl}
+use Rattle.std.proofs.Common.{arith}
 use Rattle.std.proofs.lemmas.Bool.Decides.{nat_tests}
 use Rattle.std.proofs.lemmas.List.Elements.{All-cons, All-nil}
 use Rattle.its_word.specs.Text.{is_name, is_octal, octal_value, sixbit_of}
@@ -8,7 +8,7 @@ use Rattle.its_session.specs.Fits.{IsNameWord}
 use Rattle.its_chart.specs.Text.{is_mark}
 use Rattle.its_chart.specs.Mnemonic.{opcode_named}
 use Rattle.its_asm.specs.Text.{closed, is_symbol, pieces, label_by, label_of, symbol_of}
-use Rattle.its_asm.specs.Expression.{Scope, added, both, expression, given, summed, sum_with, term}
+use Rattle.its_asm.specs.Expression.{Scope, added, expression, given, summed, sum_with, term}
 use Rattle.its_asm.specs.Statement.{body, console_named, equals, equals_by, formed, gives, job, job_by, labels_by, labels_of, operation, sixbit, with_one}
 use Rattle.its_asm.specs.Instruction.{without_literal, instruction, whole}
 use Rattle.its_asm.specs.Layout.{statement_at}

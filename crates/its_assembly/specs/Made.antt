@@ -1,6 +1,6 @@
 -- The result of the text of a source (docs/ASM.md, "The command").
 -- No promise rests on this.
-use Rattle.std.specs.Prelude.{◌≡◌, ◌≤◌, ◌+◌, ◌^◌, ℕ, true, false, Option, IfSome, Result, Ok, Err, List, [], ◌∷◌, ◌++◌, All, length}
+use Rattle.std.specs.Prelude.{◌≡◌, ◌≤◌, ◌+◌, ◌^◌, ℕ, true, false, Option, IfSome, Result, Ok, Err, List, ◌∷◌, ◌++◌, All, length}
 use Rattle.std.specs.Io.KnownBytes.{Consumes}
 use Rattle.its_records.specs.declared.session.Event.{Event}
 use Rattle.its_records.specs.declared.session.Event.TheVariants as events
@@ -18,7 +18,7 @@ use Rattle.its_assembly.specs.declared.source.Unmade.{Unmade}
 use Rattle.its_assembly.specs.declared.source.Unmade.TheVariants as unmades
 use Rattle.its_reader.specs.Limits.{WithinLimits}
 use Rattle.its_assembly.specs.Past.{runs_past}
-use Rattle.its_assembly.specs.Written.{event_line, fault_line, image_events, lines_text, rows_from}
+use Rattle.its_assembly.specs.Written.{fault_line, image_events, lines_text, rows_from}
 
 -- an event's line is read as that event
 abbrev pub ReadsBack : Event → Type 0

@@ -1,12 +1,11 @@
 -- The call of a slot, which is kept in one place, as a frame.
 -- No promise rests on this.
-use Rattle.std.specs.Prelude.{ℕ, Bool, true, false, Option, Some, None, List, drop, Result, Ok, Err}
+use Rattle.std.specs.Prelude.{ℕ, Bool, Option, Some, None, drop, Result, Ok, Err}
 use Rattle.its_word.specs.ArrayVec.{ArrayVec}
 use Rattle.its_word.specs.declared.access.Fault.{Fault}
 use Rattle.its_records.specs.declared.calls.Ask.{Ask}
 use Rattle.its_records.specs.declared.calls.Owed.{Owed}
 use Rattle.its_records.specs.declared.calls.Site.{Site}
-use Rattle.its_frame.specs.declared.decision.Held.{Held}
 use Rattle.its_frame.specs.declared.frame.Frame.{Frame}
 use Rattle.its_frame.specs.declared.frame.Frame.TheVariants as frames
 use Rattle.its_frame.specs.declared.frame.Ending.{Ending}

@@ -17,10 +17,9 @@ use Rattle.its_stepped.specs.Commit.{after_going_on, owed_parts, owed_store, sle
 use Rattle.its_stepped.specs.State.{ending, waiting}
 use Rattle.its_calls.specs.Calls.{frame_seen, gone_to, request, request_in}
 use Rattle.its_calls.specs.declared.call.Next.{Next}
-use Rattle.its_calls.specs.declared.call.Next.TheVariants as next
 use Rattle.its_calls.specs.declared.call.View.{View}
 use Rattle.its_calls.specs.declared.call.View.TheVariants as views
-use Rattle.its_world.specs.World.{state_of, frame_at, FrameBecomes}
+use Rattle.its_world.specs.World.{state_of, FrameBecomes}
 use Rattle.its_world.specs.declared.world.World.{World}
 use Rattle.its_commit.specs.Built.{backed}
 use Rattle.its_commit.specs.Carried.{awake_next, standing_of, next_of, next_stays}

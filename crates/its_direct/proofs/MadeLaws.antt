@@ -1,7 +1,7 @@
 -- A decision without a change that makes a job makes none.
 use Rattle.std.specs.Prelude.{◌≡◌, ◌&&◌, ◌||◌, ℕ, Bool, true, false, not, Option, Some, None, is_some, List, [], ◌∷◌, refl}
 use Rattle.std.specs.List.{list_any}
-use Rattle.std.proofs.Common.{sym, ◌∙◌, ap}
+use Rattle.std.proofs.Common.{sym, ◌∙◌}
 use Rattle.std.proofs.lemmas.Bool.{false≢true}
 use Rattle.its_word.specs.ArrayVec.{ArrayVec}
 use Rattle.its_records.specs.declared.calls.Ask.{Ask}
@@ -10,7 +10,7 @@ use Rattle.its_frame.specs.declared.change.Change.TheVariants as changes
 use Rattle.its_frame.specs.declared.decision.Decision.{Decision}
 use Rattle.its_frame.specs.declared.decision.Held.{Held}
 use Rattle.its_frame.specs.declared.decision.Decision.TheVariants.{Waits, Goes, Ends, Gone}
-use Rattle.its_plain.specs.CallStep.{Transition, acted, after_end, after_moves, is_made}
+use Rattle.its_plain.specs.CallStep.{acted, after_end, after_moves, is_made}
 use Rattle.its_plain.specs.Change.{after_removal, effect, effects, in_job, is_gone, job_after_removal, superiors}
 use Rattle.its_plain.specs.Machine.{Machine, Whole}
 use Rattle.its_plain.specs.Own.{after_leave}

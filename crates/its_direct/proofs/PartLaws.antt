@@ -13,7 +13,6 @@ use Rattle.its_records.specs.declared.jobs.Job.{Job}
 use Rattle.its_core.specs.Cores.{core_at}
 use Rattle.its_jobs.specs.Table.{job_at}
 use Rattle.its_frame.specs.declared.change.Change.{Change}
-use Rattle.its_frame.specs.declared.decision.Decision.{Decision}
 use Rattle.its_frame.specs.declared.decision.Decision.TheVariants.{Goes}
 use Rattle.its_frame.specs.declared.decision.Held.{Held}
 use Rattle.its_word.specs.Stores.{stored}

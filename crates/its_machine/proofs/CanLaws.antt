@@ -22,13 +22,13 @@ use Rattle.its_frame.specs.declared.decision.Wait.TheVariants.{Input, Output, Em
 use Rattle.its_frame.specs.declared.variable.Variable.{Variable}
 use Rattle.its_plain.specs.Arguments.{input, has_input, place_of_input}
 use Rattle.its_frame.specs.Variables.{variable_named}
-use Rattle.its_plain.specs.CallBasic.{negated, sleep_tests, sleep, dismissed_by, dismiss_at, dismiss, Party, Oneself, Nobody, Channel, by_oneself, by_superior, channel_at, is_oneself, party_on, party, set_own, own_variable, set_other, value_of_other, other_variable, usrvar_of, usrvar, told_superior, is_negative, longest_period, alarm_of, realt, is_shut, ioc}
+use Rattle.its_plain.specs.CallBasic.{negated, sleep_tests, sleep, dismissed_by, dismiss_at, dismiss, Party, Oneself, Channel, by_oneself, by_superior, channel_at, is_oneself, party_on, party, set_own, own_variable, set_other, value_of_other, other_variable, usrvar_of, usrvar, told_superior, is_negative, longest_period, alarm_of, realt, is_shut, ioc}
 use Rattle.its_plain.specs.CallTty.{view_console, has_console, is_other, input_waits, output_waits, first_typed, shown_byte, opens_on, open_tests, opens, iot_in, iot_out, siot_in, siot_out, can_take, is_holder, lands, ttylnd_of, ttylnd}
-use Rattle.its_plain.specs.CallLink.{words_in, is_end_closed, is_dry, is_ended, is_crowded, is_unread, link_named, can_open, joins, makes_link, opens_end, link_tests, opens_link, closes_end, iot_receive, iot_receives, iot_sends, iot_linked, siot_receive, siot_receives, siot_send, siot_sends, siot_linked, first_word}
+use Rattle.its_plain.specs.CallLink.{words_in, is_end_closed, is_dry, is_ended, is_crowded, is_unread, link_named, can_open, joins, makes_link, opens_end, link_tests, opens_link, closes_end, iot_receive, iot_linked, siot_receive, siot_send, siot_linked, first_word}
 use Rattle.its_plain.specs.Transfer.{store_tests, read_tests, word_of, iot_ends, siot_tests, siot_by, next_pointer}
 use Rattle.its_plain.specs.Change.{channel_in, effect}
 use Rattle.its_plain.specs.Interrupt.{after_dismissal}
-use Rattle.its_plain.specs.Machine.{Names, File, Chan, Shut, TtyIn, TtyOut, Reads, Writes, On, Linked, Console, Pipe, Whole, Machine, limit}
+use Rattle.its_plain.specs.Machine.{Names, File, Chan, Shut, Reads, Writes, On, Linked, Console, Pipe, Whole, Machine, limit}
 use Rattle.its_plain.specs.Own.{names_of}
 use Rattle.its_plain.specs.CallFile.{most_files, channels_by, channels_in, is_full, has_file, is_read, words_of, names_from, is_output, opens_as, disk_tests, opens_disk, closes_draft, iot_read, siot_read, siot_write, access_on, access, file_tests, delete, rename, access_to, end_of_core}
 use Rattle.its_plain.specs.OperatorFiles.{channels_of}

@@ -3,7 +3,7 @@ use Rattle.std.specs.Prelude.{◌≡◌, ◌≢◌, ℕ, zero, suc, Bool, true, 
 use Rattle.std.proofs.Common.{sym, ◌∙◌, ap}
 use Rattle.its_word.specs.Core.{Core}
 use Rattle.its_records.specs.declared.jobs.Channel.{Channel}
-use Rattle.its_records.specs.declared.jobs.Channel.TheVariants.{Closed, TtyIn, TtyOut, Reading, Writing, Usr}
+use Rattle.its_records.specs.declared.jobs.Channel.TheVariants.{Closed, Reading, Writing, Usr}
 use Rattle.its_records.specs.declared.jobs.Job.{Job}
 use Rattle.its_files.specs.Files.{Store, readers_at, found, names_at, marked_draft, with_mark, close, close_by, close_old, close_new}
 use Rattle.its_files.specs.declared.entry.CloseFault.{CloseFault}

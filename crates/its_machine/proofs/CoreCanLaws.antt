@@ -10,7 +10,7 @@ use Rattle.its_plain.specs.Arguments.{input}
 use Rattle.its_plain.specs.CallBasic.{Oneself, is_oneself, channel_at, party_on, party}
 use Rattle.its_plain.specs.CallCore.{page_changed, highest_operation, makes, has_page, is_amiss, page_tests, pages_of, corblk_of, corblk}
 use Rattle.its_plain.specs.CallUsr.{other_core}
-use Rattle.its_plain.specs.Machine.{Chan, Shut, TtyIn, TtyOut, Reads, Writes, On, Machine, core_of, mapped}
+use Rattle.its_plain.specs.Machine.{Chan, On, Machine, core_of, mapped}
 use Rattle.its_plain.specs.Tests.{◌⇒◌, fails, finishes}
 use Rattle.its_plain.specs.View.{View}
 use Rattle.its_stepped.proofs.TestLaws.{first_holds}

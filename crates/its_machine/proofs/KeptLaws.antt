@@ -6,7 +6,7 @@ use Rattle.std.proofs.lemmas.List.{get_or-set_same, get_or-set_other}
 use Rattle.its_word.specs.Limits.{slots}
 use Rattle.its_word.specs.Only.{Only, Same}
 use Rattle.its_records.specs.declared.jobs.Channel.{Channel}
-use Rattle.its_records.specs.declared.jobs.Channel.TheVariants.{Closed, TtyIn, TtyOut, Reading, Writing, Usr}
+use Rattle.its_records.specs.declared.jobs.Channel.TheVariants.{Closed, Reading, Writing}
 use Rattle.its_jobs.specs.Table.{Table}
 use Rattle.its_files.specs.Files.{Store, entry_at, is_file, names_by, names_at, readers_at, readers_by, words_at, is_marked, is_marked_by, marked_draft, with_readers, with_draft, with_file, after_discard, with_word, delete, delete_by, after_delete, rename, rename_by, rename_free, after_rename, new_names, found, IsStore, Marked, Replaces, Links_to, Gone, words_by, after_unlink_old, after_unlink_old_at, after_unlink_old_by, after_link_new, after_link_new_at, after_link_new_by, after_free_old, after_free_old_at, after_free_old_by, after_help, after_link}
 use Rattle.its_files.specs.Blocks.{text_at}

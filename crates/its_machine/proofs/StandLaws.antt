@@ -8,7 +8,7 @@ use Rattle.std.proofs.lemmas.List.FromFn.{length-range_with_len, get_or-range_wi
 use Rattle.std.proofs.lemmas.List.Folds.{list_any_at, Any-from_list_any}
 use Rattle.its_word.specs.Limits.{slots}
 use Rattle.its_records.specs.declared.jobs.Channel.{Channel}
-use Rattle.its_records.specs.declared.jobs.Channel.TheVariants.{Closed, TtyIn, TtyOut, Reading, Writing, Usr}
+use Rattle.its_records.specs.declared.jobs.Channel.TheVariants.{Closed, Reading, Writing}
 use Rattle.its_jobs.specs.Table.{Table}
 use Rattle.its_files.specs.Files.{Store, entry_at, is_file, is_draft, readers_at, is_marked, is_marked_by, marked_draft, found, IsStore, entry_in, drafts, one_if}
 use Rattle.its_files.specs.Opening.{up_to}

@@ -21,7 +21,7 @@ use Rattle.its_plain.specs.Transfer.{store_tests, read_tests, word_of, iot_ends}
 use Rattle.its_plain.specs.CallUsr.{inferior_named, any_named, makes_job, opens_job, usr_tests, opens_usr, other_core, at_end, iot_peeks, iot_from, iot_into, siot_peeks, siot_pokes, set_word, highest_address, usrmem_tests, usrmem_on, usrmem, uclose_on, uclose}
 use Rattle.its_plain.specs.Change.{channel_in, inferior, effect}
 use Rattle.its_plain.specs.Decide.{reaching}
-use Rattle.its_plain.specs.Machine.{Chan, Shut, TtyIn, TtyOut, Reads, Writes, On, Whole, Machine, core_of, limit}
+use Rattle.its_plain.specs.Machine.{Chan, On, Whole, Machine, core_of, limit}
 use Rattle.its_plain.specs.Tests.{◌⇒◌, fails, finishes, goes, out}
 use Rattle.its_plain.specs.View.{View, outline}
 use Rattle.its_stepped.proofs.FrameLaws.{changed_only}

@@ -4,7 +4,6 @@ use Rattle.std.proofs.Common.{arith, sym, ap, ◌∙◌, subst}
 use Rattle.std.proofs.lemmas.Bool.{eqb-true}
 use Rattle.its_word.specs.Core.{Core, can_store}
 use Rattle.its_word.specs.Stores.{place, stored}
-use Rattle.its_records.specs.declared.calls.Ask.{Ask}
 use Rattle.its_records.specs.declared.calls.Exit.{Exit}
 use Rattle.its_records.specs.declared.calls.Owed.{Owed}
 use Rattle.its_records.specs.declared.calls.Owed.TheVariants as owed
@@ -19,7 +18,7 @@ use Rattle.its_frame.specs.declared.frame.Frame.TheVariants as frames
 use Rattle.its_plain.specs.Change.{poke}
 use Rattle.its_plain.specs.Own.{with_stores, after_exit, after_leave}
 use Rattle.its_stepped.specs.State.{Part, Mark, State, mine, with_slot, same, reserving, ending}
-use Rattle.its_stepped.specs.Unwind.{due, with_part, after_settling, unwind_by, unwind_one}
+use Rattle.its_stepped.specs.Unwind.{due, with_part, after_settling, unwind_one}
 use Rattle.its_stepped.specs.Sound.{Owes, backs, EndingPays, MarkBy, Sound, file_parts, parts_in_frame}
 use Rattle.its_calls.specs.Calls.{after_step, ending_in}
 use Rattle.its_calls.specs.Steps.{is_file}

@@ -3,14 +3,12 @@ use Rattle.std.specs.Prelude.{◌≡◌, ◌≢◌, ◌<◌, ◌≤◌, ℕ, zer
 use Rattle.std.proofs.Common.{arith, sym, ap, ◌∙◌, subst}
 use Rattle.std.proofs.lemmas.List.{drop_all}
 use Rattle.its_frame.specs.declared.frame.Frame.{Frame}
-use Rattle.its_frame.specs.declared.frame.Frame.TheVariants as frames
 use Rattle.its_word.specs.Byte.{deposit_of}
 use Rattle.its_word.specs.Core.{Core, can_store, word_at, got, get}
 use Rattle.its_word.proofs.CoreLaws.{word_at-can_store}
 use Rattle.its_word.specs.declared.access.NoAccess.{NoAccess}
 use Rattle.its_records.specs.declared.calls.Operand.{Operand}
 use Rattle.its_records.specs.declared.calls.Ask.{Ask}
-use Rattle.its_records.specs.declared.calls.Owed.TheVariants as owed
 use Rattle.its_records.specs.declared.calls.Site.{Site}
 use Rattle.its_word.specs.declared.plan.Store.{Store}
 use Rattle.its_core.specs.Cores.{core_at, clear_at}

@@ -1,16 +1,16 @@
 -- The turns of a RUN are fair: any slot that runs on is nearer than the slot that has just had its turn, and becomes
 -- nearer with each turn of another slot.
-use Rattle.std.specs.Prelude.{◌≡◌, ◌≢◌, ◌<◌, ◌≤◌, ◌==◌, ℕ, zero, suc, ◌+◌, Bool, true, false, Option, Some, None, List, [], ◌∷◌, ◌++◌, length, drop, refl}
+use Rattle.std.specs.Prelude.{◌≡◌, ◌≢◌, ◌<◌, ◌≤◌, ◌==◌, ℕ, zero, suc, Bool, true, false, Option, Some, None, List, [], ◌∷◌, ◌++◌, length, drop, refl}
 use Rattle.std.proofs.Common.{sym, ◌∙◌, ap, subst, arith, inl, inr, append-nil}
 use Rattle.std.proofs.lemmas.Bool.{cases_eq, cases_order, eq-eqb, ne_eqb}
-use Rattle.its_robin.specs.Robin.{robin, between, IsNext}
+use Rattle.its_robin.specs.Robin.{between, IsNext}
 use Rattle.its_robin.proofs.RobinLaws.{robin_same, robin_next, way_on, as_far, farthest}
 use Rattle.its_records.specs.Item.{Item, Read, Unread, Beyond}
 use Rattle.its_word.specs.Limits.{slots}
 use Rattle.its_records.specs.declared.calls.Pace.{Pace}
 use Rattle.its_records.specs.declared.session.Event.{Event}
 use Rattle.its_print.specs.Printing.{Line}
-use Rattle.its_plain.specs.Course.{Course, onward, rests, Lines, Letter, Moment, machine_after, paced, letters, turned_by, turned, past, course, run_of}
+use Rattle.its_plain.specs.Course.{Course, Lines, Letter, machine_after, paced, letters, turned_by, turned, past, course}
 use Rattle.its_plain.specs.Course as courses
 use Rattle.its_plain.specs.Fair.{Turn, turn_at, turns_on, RunsAt, has_turn, Fair, FairTurns}
 use Rattle.its_plain.specs.Machine.{Machine}

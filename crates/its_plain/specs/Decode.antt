@@ -1,7 +1,7 @@
 -- The decoding of a symbolic call (docs/CALLS.md, "Decoding"): its block, its arguments one by one, and what is asked.
 -- A promise rests on this.
-use Rattle.std.specs.Prelude.{if◌then◌else◌, ◌==◌, ◌||◌, ◌&&◌, ℕ, zero, suc, ◌+◌, ◌/◌, ◌%◌, ◌^◌, Bool, true, false, List, [], ◌∷◌, ◌++◌, length, map, drop, not, Option, Some, None, Result, Ok, Err, nat_lt, slice_get, slice_index, unwrap_or}
-use Rattle.std.specs.List.{filter_map, list_all, list_any, range_with_len}
+use Rattle.std.specs.Prelude.{if◌then◌else◌, ◌==◌, ◌||◌, ◌&&◌, ℕ, zero, suc, ◌+◌, ◌/◌, ◌%◌, ◌^◌, Bool, true, false, List, [], ◌∷◌, ◌++◌, length, drop, not, Option, Some, None, Result, Ok, Err, nat_lt, slice_get, slice_index, unwrap_or}
+use Rattle.std.specs.List.{filter_map, list_all, list_any}
 use Rattle.its_word.specs.ArrayVec.{ArrayVec}
 use Rattle.its_word.specs.Word.{pair_of}
 use Rattle.its_word.specs.Core.{Core, word_at}

@@ -1,6 +1,6 @@
 -- The line CLOCK, and the alarms that it makes go (docs/SESSION.md, "The lines").
 -- A promise rests on this.
-use Rattle.std.specs.Prelude.{if◌then◌else◌, ℕ, ◌+◌, ◌&&◌, Bool, true, false, Option, Some, None, List, filter, option_map, Result, Ok, Err, nat_lt}
+use Rattle.std.specs.Prelude.{ℕ, ◌+◌, ◌&&◌, Bool, true, false, Option, Some, None, List, filter, option_map, Result, Ok, Err, nat_lt}
 use Rattle.std.specs.List.{range_with_len}
 use Rattle.its_word.specs.Limits.{slots}
 use Rattle.its_records.specs.declared.session.Reason.{Reason}

@@ -1,7 +1,7 @@
 -- The symbols of a job: SYM keeps one, and STATE shows the one that is nearest to the PC (docs/SESSION.md, "The
 -- lines").
 -- A promise rests on this.
-use Rattle.std.specs.Prelude.{◌≤◌, ◌<◌, ℕ, ◌-◌, ◌&&◌, Bool, true, false, not, Option, Some, None, List, [], ◌∷◌, ◌++◌, Result, Ok, Err, cond, length, nat_lt}
+use Rattle.std.specs.Prelude.{ℕ, ◌-◌, ◌&&◌, Bool, true, false, not, Option, Some, None, List, [], ◌∷◌, ◌++◌, Result, Ok, Err, cond, length, nat_lt}
 use Rattle.its_word.specs.Limits.{most_symbols}
 use Rattle.its_records.specs.declared.session.Reason.{Reason}
 use Rattle.its_records.specs.declared.session.Reason.TheVariants.{NoJob, Full}

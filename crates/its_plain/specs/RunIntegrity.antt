@@ -1,17 +1,16 @@
 -- The integrity of a session: along the one run of its lines, every moment changes what it may and nothing else, and what a
 -- reader reads stays (docs/MACHINE.md, "Who may touch what").
 -- A promise rests on this.
-use Rattle.std.specs.Prelude.{◌≡◌, ◌≢◌, ◌<◌, ℕ, Bool, true, false, Option, Some, None, List, [], ◌∷◌}
+use Rattle.std.specs.Prelude.{◌≡◌, ◌≢◌, ◌<◌, ℕ, false, Some, List, [], ◌∷◌}
 use Rattle.its_records.specs.Item.{Item}
 use Rattle.its_records.specs.declared.calls.Pace.TheVariants.{Step}
-use Rattle.its_records.specs.declared.session.Event.{Event}
 use Rattle.its_records.specs.declared.session.Event.TheVariants as events
 use Rattle.its_print.specs.Printing.{Line}
 use Rattle.its_plain.specs.CallFile.{file_named}
 use Rattle.its_plain.specs.Change.{channel_in, same_names}
 use Rattle.its_plain.specs.Course.{Deed, Lines, Turns, Letter, Moment, Course, run_of}
 use Rattle.its_plain.specs.Integrity.{MayStep, ReachesNobody, OnlyTells, OnlyParts, touched}
-use Rattle.its_plain.specs.Machine.{Names, File, Chan, Reads, Machine}
+use Rattle.its_plain.specs.Machine.{Names, File, Reads, Machine}
 use Rattle.its_plain.specs.Operator.{Block}
 use Rattle.its_plain.specs.Stretch.{machine_at, Section, end_of, begin_of}
 

@@ -12,7 +12,7 @@ use Rattle.its_plain.specs.CallBasic.{Oneself, is_oneself, channel_at, party_on,
 use Rattle.its_plain.specs.CallCore.{page_changed, highest_operation, page_tests, pages_of, corblk_of, corblk}
 use Rattle.its_plain.specs.CallUsr.{other_core}
 use Rattle.its_plain.specs.Decide.{call_named}
-use Rattle.its_plain.specs.Machine.{Chan, Shut, TtyIn, TtyOut, Reads, Writes, On, Machine}
+use Rattle.its_plain.specs.Machine.{Chan, Shut, On, Machine}
 use Rattle.its_plain.specs.Tests.{◌⇒◌, finishes, fails}
 use Rattle.its_plain.specs.View.{View}
 use Rattle.its_stepped.specs.State.{State}

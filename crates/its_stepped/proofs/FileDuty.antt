@@ -17,7 +17,7 @@ use Rattle.its_plain.specs.CallBasic.{channel_at, ioc}
 use Rattle.its_plain.specs.Transfer.{store_tests, read_tests, word_of, iot_ends}
 use Rattle.its_plain.specs.CallFile.{most_files, is_full, channels_in, has_file, is_read, words_of, names_from, is_output, opens_as, disk_tests, opens_disk, closes_draft, end_of_file, iot_read, iot_reads, iot_writes, end_of_core, access_to, access_on, access, file_tests, delete, rename}
 use Rattle.its_plain.specs.Decide.{call_named}
-use Rattle.its_plain.specs.Machine.{Names, File, Chan, Shut, TtyIn, TtyOut, Reads, Writes, On, Whole, Machine}
+use Rattle.its_plain.specs.Machine.{Names, File, Chan, Shut, Reads, On, Whole, Machine}
 use Rattle.its_plain.specs.Own.{names_of}
 use Rattle.its_plain.specs.Tests.{◌⇒◌, finishes, fails}
 use Rattle.its_plain.specs.View.{View}

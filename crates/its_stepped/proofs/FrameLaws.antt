@@ -13,7 +13,7 @@ use Rattle.its_word.specs.declared.plan.Store.{Store}
 use Rattle.its_word.proofs.CoreLaws.{page_alike, can_store-store, is_some-store}
 use Rattle.its_word.proofs.PageLaws.{pages_present-store}
 use Rattle.its_frame.specs.declared.frame.Frame.{Frame}
-use Rattle.its_frame.specs.declared.frame.Frame.TheVariants.{Entered, Parsed, Asked, Holding, Waiting, Moving, Ending}
+use Rattle.its_frame.specs.declared.frame.Frame.TheVariants.{Holding, Waiting, Moving, Ending}
 use Rattle.its_plain.specs.Machine.{Whole, changed, core_of, mapped}
 use Rattle.its_plain.specs.Own.{with_stores, after_leave}
 use Rattle.its_plain.specs.Change.{on_slot, in_job, poke}

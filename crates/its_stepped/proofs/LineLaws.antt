@@ -1,7 +1,7 @@
 -- A line of a session is the same on the stepped machine and on its plain machine (docs/STEPS.md, "Lines").
-use Rattle.std.specs.Prelude.{◌≡◌, ℕ, ◌+◌, ◌==◌, Bool, true, false, Option, Some, None, IfSome, List, [], ◌∷◌, ◌++◌, Result, Ok, Err, option_map, is_some, length, nat_lt, refl, if◌then◌else◌}
+use Rattle.std.specs.Prelude.{◌≡◌, ℕ, ◌+◌, Bool, true, false, Option, Some, None, IfSome, List, [], ◌∷◌, ◌++◌, Result, Ok, Err, option_map, is_some, length, nat_lt, refl, if◌then◌else◌}
 use Rattle.std.proofs.Common.{sym, ◌∙◌, ap, subst, inl, inr}
-use Rattle.std.proofs.lemmas.Bool.{cases_Bool, cases_eq, eq-eqb, ne_eqb}
+use Rattle.std.proofs.lemmas.Bool.{cases_eq, eq-eqb, ne_eqb}
 use Rattle.its_word.specs.Core.{Core, Page, page_of, word_at, can_store}
 use Rattle.its_word.specs.Limits.{most_symbols}
 use Rattle.its_word.specs.Directory.{with_changed, longer}

@@ -6,8 +6,7 @@ use Rattle.std.proofs.lemmas.Bool.{eq-eqb}
 use Rattle.its_word.specs.Core.{Core}
 use Rattle.its_records.specs.declared.calls.Exit.{Exit}
 use Rattle.its_records.specs.declared.calls.Owed.{Owed}
-use Rattle.its_records.specs.declared.calls.Owed.TheVariants as owed
-use Rattle.its_records.specs.declared.calls.Owed.TheVariants.{GiveBack, Unlink, Link, Free, Leave}
+use Rattle.its_records.specs.declared.calls.Owed.TheVariants.{Unlink, Link, Free, Leave}
 use Rattle.its_word.specs.declared.plan.Store.{Store}
 use Rattle.its_frame.specs.Left.{kept}
 use Rattle.its_stepped.specs.State.{Part, UnlinkOld, LinkNew, FreeOld, Mark, State}

@@ -1,20 +1,20 @@
 -- What a reader reads stays: neither a step nor a line changes a file that a channel reads (docs/MACHINE.md, "Who may touch what").
-use Rattle.std.specs.Prelude.{◌≡◌, ◌≢◌, ◌<◌, ◌==◌, ℕ, Bool, true, false, Option, Some, None, is_some, List, [], ◌∷◌, ◌++◌, cond, find, Result, Ok, Err, nat_lt, length, slice_index_or, refl}
+use Rattle.std.specs.Prelude.{◌≡◌, ◌<◌, ℕ, Bool, true, false, Option, Some, None, is_some, List, [], ◌∷◌, ◌++◌, cond, Result, Ok, Err, nat_lt, length, slice_index_or, refl}
 use Rattle.std.specs.List.{range_with_len, list_any}
 use Rattle.std.specs.Option.{option_or}
-use Rattle.std.proofs.Common.{sym, ◌∙◌, ap, subst, inl, inr, arith}
+use Rattle.std.proofs.Common.{sym, ◌∙◌, ap, inl, inr, arith}
 use Rattle.std.proofs.lemmas.Bool.{cases_Bool}
 use Rattle.std.proofs.lemmas.List.FromFn.{length-range_with_len, get_or-range_with_len}
 use Rattle.std.proofs.lemmas.List.Folds.{find-append, list_any_at}
-use Rattle.its_word.specs.Directory.{without_names, kept_file, with_changed, changed_if, longer, named}
+use Rattle.its_word.specs.Directory.{without_names, kept_file, with_changed, changed_if, longer}
 use Rattle.its_word.specs.Limits.{slots}
 use Rattle.its_word.proofs.NamesLaws.{same_sym, same_both, same_self}
 use Rattle.its_plain.specs.CallFile.{Channels, most_files, is_full, file_named, has_file, reads, is_read}
 use Rattle.its_plain.specs.Change.{channel_in, with_file, without_file, with_new_names, same_names}
 use Rattle.its_plain.specs.Integrity.{FilesMay, files_same, draft_closed, file_deleted, file_renamed}
-use Rattle.its_plain.specs.Machine.{Names, File, Chan, Reads, Whole, Machine}
+use Rattle.its_plain.specs.Machine.{Names, File, Reads, Machine}
 use Rattle.its_plain.specs.Operator.{and_then}
-use Rattle.its_plain.specs.OperatorFiles.{channels_of, with_files, with_file_made_if, with_file_made, with_word_added_if, with_word_added_to, with_word_added, with_words_added}
+use Rattle.its_plain.specs.OperatorFiles.{channels_of, with_file_made_if, with_file_made, with_word_added_if, with_word_added_to, with_word_added, with_words_added}
 use Rattle.its_plain.specs.Own.{names_of}
 use Rattle.its_records.specs.declared.session.Reason.{Reason}
 

@@ -1,5 +1,5 @@
 -- The integrity of a session, along the one run of its lines (docs/MACHINE.md, "Who may touch what").
-use Rattle.std.specs.Prelude.{◌≡◌, ◌≢◌, ◌<◌, ◌==◌, ◌||◌, ℕ, Bool, true, false, Option, Some, None, is_some, unwrap_or, List, [], ◌∷◌, ◌++◌, Result, Ok, Err, refl}
+use Rattle.std.specs.Prelude.{◌≡◌, ◌≢◌, ◌<◌, ◌||◌, ℕ, true, false, Option, Some, None, is_some, unwrap_or, List, [], ◌∷◌, Result, Ok, Err, refl}
 use Rattle.std.proofs.Common.{sym, ◌∙◌, ap, subst}
 use Rattle.std.proofs.lemmas.Bool.{ne_eqb}
 use Rattle.its_records.specs.Item.{Item}
@@ -13,16 +13,15 @@ use Rattle.its_records.specs.declared.session.Reason.{Reason}
 use Rattle.its_print.specs.Printing.{Line}
 use Rattle.its_plain.specs.CallFile.{file_named}
 use Rattle.its_plain.specs.CallStep.{step}
-use Rattle.its_plain.specs.Change.{channel_in, same_names, superiors, is_gone}
-use Rattle.its_plain.specs.Course.{Deed, Lines, Turns, Letter, Moment, Course, moment_at, machine_after, run_of}
-use Rattle.its_plain.specs.Integrity.{MayWrite, RemovesTree, by_logout, by_uclose, Removes, JobMay, job_same, job_written, job_removed, superior_informed, superior_left, job_made, MayStep, ReachesNobody, OnlyTells, tells_nothing, tells_stop, tells_end, makes_job, OnlyParts, touched}
-use Rattle.its_plain.specs.Machine.{Names, File, Chan, Reads, On, Whole, Machine}
+use Rattle.its_plain.specs.Change.{channel_in, superiors, is_gone}
+use Rattle.its_plain.specs.Course.{Lines, Letter, Moment, moment_at, machine_after, run_of}
+use Rattle.its_plain.specs.Integrity.{RemovesTree, by_logout, by_uclose, Removes, JobMay, job_same, job_written, job_removed, superior_informed, superior_left, job_made, MayStep, ReachesNobody, OnlyTells, tells_nothing, tells_stop, tells_end, makes_job, touched}
+use Rattle.its_plain.specs.Machine.{Names, File, Reads, Whole, Machine}
 use Rattle.its_plain.specs.Operator.{Block, Does, Refuses, Ticks, Quits, quietly}
-use Rattle.its_plain.specs.OperatorFiles.{with_file_made, with_words_added}
 use Rattle.its_plain.specs.OperatorLines.{Lined, Done, Peeks, lined, operate}
 use Rattle.its_plain.specs.Own.{names_of}
-use Rattle.its_plain.specs.RunIntegrity.{OwnStep, MayDo, EachMay, IsReader, ReadsOn, IsSpared, AllSpared, ReadingStretch, Integrity}
-use Rattle.its_plain.specs.Stretch.{machine_at, end_of, begin_of}
+use Rattle.its_plain.specs.RunIntegrity.{OwnStep, MayDo, EachMay, IsReader, ReadsOn, IsSpared, AllSpared, Integrity}
+use Rattle.its_plain.specs.Stretch.{machine_at, end_of}
 use Rattle.its_plain.specs.Transcript.{Walk, at_start}
 use Rattle.its_plain.specs.Turns.{highest}
 use Rattle.its_plain.proofs.PartsLaws.{PartsOf, line_parts}

@@ -1,7 +1,7 @@
 -- The lines that the stepped machine writes are a transcript of the plain machine (docs/STEPS.md, "Lines").
-use Rattle.std.specs.Prelude.{◌≡◌, ◌<◌, ℕ, zero, suc, ◌+◌, not, Option, Some, None, option_map, List, [], ◌∷◌, length, refl}
+use Rattle.std.specs.Prelude.{◌≡◌, ◌<◌, ℕ, zero, suc, ◌+◌, not, Option, Some, None, option_map, List, ◌∷◌, length, refl}
 use Rattle.std.proofs.Common.{sym, ap, subst, arith}
-use Rattle.its_records.specs.Item.{Item, Read, Unread, Beyond}
+use Rattle.its_records.specs.Item.{Item, Read}
 use Rattle.its_records.specs.declared.session.Event.{Event}
 use Rattle.its_plain.specs.OperatorLines.{Lined, Done, Peeks, lined}
 use Rattle.its_plain.specs.Licence.{Licensed, Dots, most_dots, dots_after, dots_after_line}

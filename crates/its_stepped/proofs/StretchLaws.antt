@@ -1,11 +1,10 @@
 -- Each byte once and in order, over a stretch of a session's run (docs/CALLS.md, "Each byte once").
-use Rattle.std.specs.Prelude.{◌≡◌, ◌≢◌, ℕ, zero, suc, ◌+◌, Bool, true, false, Option, Some, None, is_some, unwrap_or, List, [], ◌∷◌, ◌++◌, drop, length, Result, Ok, Err, refl, option_map}
+use Rattle.std.specs.Prelude.{◌≡◌, ◌≢◌, ℕ, suc, ◌+◌, Bool, true, false, Option, Some, None, is_some, List, [], ◌∷◌, length, Result, Ok, Err, refl, option_map}
 use Rattle.std.proofs.Common.{sym, ◌∙◌, ap, subst, arith, inl, inr}
 use Rattle.std.proofs.lemmas.Bool.{cases_eq, eqb-true}
-use Rattle.its_records.specs.Item.{Item, Read, Unread, Beyond}
+use Rattle.its_records.specs.Item.{Item}
 use Rattle.its_records.specs.declared.calls.Ask.{Ask}
-use Rattle.its_records.specs.declared.calls.Pace.{Pace}
-use Rattle.its_records.specs.declared.calls.Pace.TheVariants.{Step, Work, Wait, Off}
+use Rattle.its_records.specs.declared.calls.Pace.TheVariants.{Step}
 use Rattle.its_records.specs.declared.calls.Site.{Site}
 use Rattle.its_records.specs.declared.jobs.Job.{Job}
 use Rattle.its_records.specs.declared.session.Event.{Event}
@@ -17,28 +16,26 @@ use Rattle.its_frame.specs.declared.decision.Decision.{Decision}
 use Rattle.its_frame.specs.declared.decision.Decision.TheVariants.{Waits, Goes, Ends, Gone}
 use Rattle.its_frame.specs.declared.name.CallName.TheVariants.{Siot}
 use Rattle.its_plain.specs.Arguments.{input}
-use Rattle.its_plain.specs.OperatorLines.{operate, Lined, Done, Peeks, lined, by_exam, in_a_line, by_state}
+use Rattle.its_plain.specs.OperatorLines.{operate, by_exam, in_a_line, by_state}
 use Rattle.its_plain.specs.CallStep.{acted, decision, step, Transition, by_delivery, unless_stopped, transition_of, transition, part_in, steps_on}
-use Rattle.its_plain.specs.Course.{Deed, Lines, Turns, Letter, Moment, Course, rests, onward, after_step, machine_after, paced, letters, turned_by, turned, past, course, run_of}
-use Rattle.its_plain.specs.Transcript.{Walk, at_start, after_letter, walk_after, next_line}
-use Rattle.its_plain.specs.Turns.{turn_after, highest, turns_asked}
+use Rattle.its_plain.specs.Course.{Deed, Lines, Turns, Letter, Moment, after_step, machine_after, run_of}
+use Rattle.its_plain.specs.Transcript.{at_start}
+use Rattle.its_plain.specs.Turns.{highest}
 use Rattle.its_plain.specs.Decide.{call_named, reach}
 use Rattle.its_plain.specs.Footprint.{Stands}
 use Rattle.its_plain.specs.Interrupt.{deliverable}
 use Rattle.its_plain.specs.Machine.{Whole, Machine, changed}
 use Rattle.its_plain.specs.OneByte.{rest_of_transfer, ByteBy}
-use Rattle.its_plain.specs.Operator.{Block, no_block, Operated, Refuses, Does, Ticks, Quits, disturbs}
+use Rattle.its_plain.specs.Operator.{Block, Operated, Does, disturbs}
 use Rattle.its_plain.specs.OperatorJobs.{after_int, after_stop, after_cont, on_job, with_registers, on_registers, examined, state_shown}
 use Rattle.its_plain.specs.Stretch.{Untouched, machine_at, is_own, StretchFits, Stretch, counted, parts_in, incremented, rest_after, ByteOf, InOrder_by, InOrder, StandsAt, Transferred, end_of, begin_of, Stretches}
 use Rattle.its_stepped.specs.Forest.{Forest}
 use Rattle.its_stepped.proofs.DecodingLaws.{input_word, siot_inputs}
 use Rattle.its_stepped.proofs.CourseLaws.{Linked, EachMoment, run_course, linked_middle}
-use Rattle.its_stepped.proofs.FitLaws.{forest_steps}
 use Rattle.its_stepped.proofs.ForestLaws.{forest_starts}
 use Rattle.its_stepped.proofs.FrameLaws.{changed_only}
 use Rattle.its_stepped.proofs.OneByteLaws.{rest_pointer, rest_count, decides_error, each_byte, stands_acts, some_or}
 use Rattle.its_stepped.proofs.PcLaws.{stands_same}
-use Rattle.its_stepped.proofs.WrittenLaws.{line_forest}
 use Rattle.its_stepped.proofs.CallDuties.{named_same}
 
 -- the moments of a run: each finds a forest of jobs, and one that is a letter leads to the machine after the letter

@@ -9,7 +9,7 @@ use Rattle.its_plain.specs.CallBasic.{is_oneself, channel_at}
 use Rattle.its_plain.specs.CallStep.{among}
 use Rattle.its_plain.specs.Change.{superiors}
 use Rattle.its_plain.specs.Decide.{call_named, reaching, inferior_on, reached_by, target_by, argument_of, target, listed, reach_by, reach}
-use Rattle.its_plain.specs.Machine.{Chan, Shut, TtyIn, TtyOut, Reads, Writes, On, Whole, Machine}
+use Rattle.its_plain.specs.Machine.{Chan, On, Whole, Machine}
 use Rattle.its_plain.proofs.TargetLaws.{reach_named, target_on}
 use Rattle.its_stepped.specs.State.{State}
 use Rattle.its_stepped.specs.Forest.{Forest}

@@ -16,7 +16,7 @@ use Rattle.its_plain.specs.CallBasic.{Party, Oneself, Nobody, Channel, party}
 use Rattle.its_plain.specs.CallTty.{view_console, has_console, input_waits, output_waits, first_typed, shown_byte, opens_on, open_tests, opens, iot_in, iot_out, can_take, is_holder, lands, ttylnd_of, ttylnd}
 use Rattle.its_plain.specs.Transfer.{store_tests, read_tests, word_of, iot_ends}
 use Rattle.its_plain.specs.Decide.{call_named}
-use Rattle.its_plain.specs.Machine.{Shut, TtyIn, TtyOut, Reads, Writes, On, Machine}
+use Rattle.its_plain.specs.Machine.{On, Machine}
 use Rattle.its_plain.specs.Tests.{◌⇒◌, finishes, fails}
 use Rattle.its_plain.specs.View.{View}
 use Rattle.its_stepped.specs.State.{State}

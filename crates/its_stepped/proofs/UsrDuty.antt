@@ -21,7 +21,7 @@ use Rattle.its_plain.specs.Transfer.{store_tests, read_tests, word_of, iot_ends,
 use Rattle.its_plain.specs.CallUsr.{inferior_named, any_named, makes_job, opens_job, usr_tests, opens_usr, other_core, at_end, iot_peeks, iot_from, iot_into, siot_peeks, siot_from, siot_pokes, siot_into, set_word, usrmem_tests, usrmem_on, usrmem, uclose_on, uclose}
 use Rattle.its_plain.specs.Change.{superiors, is_gone}
 use Rattle.its_plain.specs.Decide.{call_named, with_below, reach}
-use Rattle.its_plain.specs.Machine.{Chan, Shut, TtyIn, TtyOut, Reads, Writes, On, Whole, Machine}
+use Rattle.its_plain.specs.Machine.{Chan, Shut, On, Whole, Machine}
 use Rattle.its_plain.specs.Tests.{◌⇒◌, finishes, fails, out}
 use Rattle.its_plain.specs.View.{Outline, View, outline}
 use Rattle.its_stepped.specs.State.{State}

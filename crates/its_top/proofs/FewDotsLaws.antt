@@ -9,7 +9,7 @@ use Rattle.its_records.specs.declared.calls.Pace.{Pace}
 use Rattle.its_records.specs.declared.calls.Pace.TheVariants.{Step, Work, Wait, Off}
 use Rattle.its_records.specs.declared.session.Event.{Event}
 use Rattle.its_print.specs.Printing.{Line}
-use Rattle.its_plain.specs.Course.{Course, Letter, Moment, machine_after, paced, letters, past, course}
+use Rattle.its_plain.specs.Course.{Course, Letter, Moment, machine_after, paced, past, course}
 use Rattle.its_plain.specs.Course as courses
 use Rattle.its_plain.specs.FewDots.{most_in_a_row, FewAt, FewDots}
 use Rattle.its_plain.specs.Licence.{Licensed, Dots, dots_after, dots_after_line}

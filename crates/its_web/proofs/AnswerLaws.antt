@@ -1,5 +1,5 @@
 -- The answers of the library follow from what the program says.
-use Rattle.std.proofs.Common.{arith, ◌∙◌, ◌≡◌, ◌≢◌, ◌≤◌, ◌⊎◌, ℕ, Bool, true, false, Option, Some, None, IfSome, List, [], refl, sym, ap, subst, inl, inr, length, take}
+use Rattle.std.proofs.Common.{arith, ◌∙◌, ◌≡◌, ◌≢◌, ◌≤◌, ◌⊎◌, ℕ, Option, Some, None, IfSome, List, [], refl, sym, ap, subst, inl, inr, length, take}
 use Rattle.std.specs.Io.KnownBytes.{Appends}
 use Rattle.its_top.specs.Commands.{IfGenerates}
 use Rattle.its_top.specs.Outcomes.{OfRun, OfCheck, OfVerify, OfAsm, OfGen, OfNoCommand, RunSays, CheckSays, VerifySays, AsmSays, usage}

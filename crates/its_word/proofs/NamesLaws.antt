@@ -1,6 +1,6 @@
 -- Names of files that are the same: so they are to each other, and to all others.
 use Rattle.std.specs.Prelude.{◌≡◌, ◌&&◌, eqb, ℕ, true, List, [], ◌∷◌, length, slice_index_or, refl}
-use Rattle.std.proofs.Common.{sym, ◌∙◌, ap, inl, inr, arith}
+use Rattle.std.proofs.Common.{sym, ◌∙◌, inl, inr, arith}
 use Rattle.std.proofs.lemmas.Bool.{cases_Bool, both_ways, eqb-true, eq-eqb, and_parts, and_from}
 use Rattle.its_word.specs.Directory.{same_names}
 

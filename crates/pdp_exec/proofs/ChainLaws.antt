@@ -8,7 +8,7 @@ use Rattle.its_word.specs.declared.access.Address.{Address}
 use Rattle.its_word.specs.declared.access.Fault.{Fault}
 use Rattle.its_word.specs.declared.access.Fault.TheVariants.{Ilo}
 use Rattle.its_word.specs.declared.instruction.Instruction.{Instruction}
-use Rattle.its_word.specs.declared.instruction.Instruction.TheVariants.{Move, Exch, Arithmetic, Shift, Branch, Xct, Stack, Compare, Boolean, Half, Test, Byte, Iot, Call, Break, Illegal}
+use Rattle.its_word.specs.declared.instruction.Instruction.TheVariants.{Xct, Iot, Call}
 use Rattle.its_records.specs.declared.jobs.Job.{Job}
 use Rattle.its_word.specs.declared.plan.Context.{Context}
 use Rattle.its_word.specs.declared.plan.Reached.{Reached}

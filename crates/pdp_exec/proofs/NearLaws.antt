@@ -1,5 +1,5 @@
 -- A call whose word is at the PC, and whose address is its right half.
-use Rattle.std.proofs.Common.{◌≡◌, ℕ, zero, suc, ◌-◌, true, false, List, [], ◌∷◌, ◌++◌, Some, None, Ok, arith, refl, sym, ◌∙◌, ap}
+use Rattle.std.proofs.Common.{◌≡◌, ℕ, zero, suc, false, [], ◌∷◌, ◌++◌, Some, None, Ok, arith, refl, sym, ◌∙◌, ap}
 use Rattle.its_word.specs.Address.{address, calculation, index_of, index_places, indexed, is_indirect, last_used}
 use Rattle.its_word.specs.Core.{Core}
 use Rattle.its_word.specs.Opcode.{ac_of}
@@ -8,9 +8,9 @@ use Rattle.its_word.specs.declared.instruction.Instruction.{Instruction}
 use Rattle.its_word.specs.declared.instruction.Instruction.TheVariants.{Iot, Call}
 use Rattle.its_records.specs.declared.jobs.Job.{Job}
 use Rattle.its_word.proofs.AddressLaws.{direct_answer, direct_used}
-use Rattle.its_plain.specs.Traced.{also, gives, located, word}
+use Rattle.its_plain.specs.Traced.{also, located, word}
 use Rattle.its_plain.specs.UnitPlan.{read_of}
-use Rattle.its_plain.specs.Unit.{Called, context_of, decoded, reached, site_of, chain_step, chain_step_at, unit}
+use Rattle.its_plain.specs.Unit.{Called, context_of, decoded, chain_step, chain_step_at, unit}
 use Rattle.pdp_exec.specs.Ready.{leads_on}
 use Rattle.pdp_exec.proofs.ChainLaws.{Ended, along_found, along_start, plain_step, step_plain, unit_call, unit_iot}
 
