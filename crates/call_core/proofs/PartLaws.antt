@@ -1,15 +1,14 @@
 -- A part of SIOT is the decision of its call, which reaches no other job; and each such decision is a part.
 use Rattle.std.specs.Prelude.{if◌then◌else◌, ◌==◌, ◌≡◌, ◌&&◌, ℕ, Bool, true, false, List, Option, Some, None, Result, Ok, Err, IfSome, [], option_map, refl}
 use Rattle.std.proofs.Common.{sym, ◌∙◌, ap}
-use Rattle.std.proofs.lemmas.Bool.{eq-eqb, eqb-true}
+use Rattle.std.proofs.lemmas.Bool.{eq-eqb}
 use Rattle.its_records.specs.declared.calls.Ask.{Ask}
 use Rattle.its_records.specs.declared.jobs.Channel.{Channel}
 use Rattle.its_records.specs.declared.jobs.Channel.TheVariants.{Usr}
 use Rattle.its_records.specs.declared.jobs.Job.{Job}
 use Rattle.its_files.specs.Files.{Store}
 use Rattle.its_files.specs.declared.entry.Mark.{Mark}
-use Rattle.its_frame.proofs.NameLaws.{name_is}
-use Rattle.its_frame.specs.Calls.{call_named, sixbit}
+use Rattle.its_frame.specs.Calls.{call_named, is_siot}
 use Rattle.its_frame.specs.declared.decision.Decision.{Decision}
 use Rattle.its_frame.specs.declared.name.CallName.{CallName}
 use Rattle.its_frame.specs.declared.name.CallName.TheVariants.{Siot}
@@ -36,22 +35,8 @@ use Rattle.call_basic.specs.declared.transfer.Part.{Part}
 use Rattle.call_basic.specs.declared.transfer.Stop.{Stop}
 use Rattle.call_basic.specs.declared.transfer.Stop.TheVariants as stops
 use Rattle.call_basic.proofs.RawLaws.{raw_here}
-use Rattle.call_core.specs.Parts.{asks_siot, going_alone, is_siot, is_usr, moved_of, next_part, part_by}
+use Rattle.call_core.specs.Parts.{asks_siot, going_alone, is_usr, moved_of, next_part, part_by}
 use Rattle.call_core.proofs.RawLaws.{decision_here}
-
-pub siot_named : (n : ℕ) → (n == 0o635157640000) ≡ true → call_named n ≡ Some Siot
-unfolding call_named sixbit
-siot_named n e = ap call_named (eqb-true n 0o635157640000 e)
-
--- no other name is that of SIOT
-siot_by : (n : ℕ) (o : Option CallName) (b : Bool) → call_named n ≡ o → (n == 0o635157640000) ≡ b → b ≡ is_siot o
-unfolding sixbit
-siot_by n o true e t = sym (ap is_siot (sym e ∙ siot_named n t))
-siot_by n (Some Siot) false e t = sym t ∙ eq-eqb n 0o635157640000 (name_is n Siot e)
-siot_by n _ false e t = refl
-
-pub siot_is : (n : ℕ) → (n == 0o635157640000) ≡ is_siot (call_named n)
-siot_is n = siot_by n (call_named n) (n == 0o635157640000) refl refl
 
 siot_decided : (v : View) (a : Ask) → a.fail ≡ 0 → call_named a.name ≡ Some Siot → decided v a ≡ siot_call v a
 unfolding decided

@@ -10,9 +10,8 @@ use Rattle.its_frame.specs.declared.change.Change.TheVariants as changes
 use Rattle.its_frame.specs.declared.decision.Decision.{Decision}
 use Rattle.its_frame.specs.declared.decision.Decision.TheVariants.{Goes}
 use Rattle.its_frame.specs.declared.decision.Held.{Held}
-use Rattle.its_frame.specs.declared.name.CallName.{CallName}
-use Rattle.its_frame.specs.declared.name.CallName.TheVariants.{Siot}
 use Rattle.its_plain.specs.CallStep.{decision}
+use Rattle.its_frame.specs.Calls.{is_siot}
 use Rattle.its_plain.specs.Decide.{call_named, reach}
 use Rattle.its_plain.specs.Machine.{Machine, Whole}
 use Rattle.call_basic.specs.declared.transfer.Moved.{Moved}
@@ -45,10 +44,6 @@ part_by (Goes cs h vs) = going_part cs.items h vs.items
 part_by _ = None
 
 -- the call is SIOT, and its decoding gave no error
-abbrev pub is_siot : Option CallName → Bool
-is_siot (Some Siot) = true
-is_siot _ = false
-
 abbrev pub asks_siot : Ask → Bool
 asks_siot a = (a.fail == 0) && is_siot (call_named a.name)
 

@@ -10,7 +10,7 @@ ghost use Rattle.its_world.specs.Tidy.{Tidy};
 ghost use Rattle.its_world.specs.World.{state_of, raw_in};
 ghost use Rattle.call_basic.specs.Parts.{going};
 ghost use Rattle.call_basic.specs.Seen.{is_waiting, raw_with, seen_by};
-ghost use Rattle.call_core.specs.Parts.{asks_siot, is_siot, next_part};
+ghost use Rattle.call_core.specs.Parts.{asks_siot, next_part};
 
 use super::devices::{close, iot, open, siot, siot_part};
 use super::pages::corblk;
@@ -20,11 +20,8 @@ use call_tty::{finish, listen, ttylnd};
 use call_usr::{uclose, usrmem};
 use its_frame::{CallName, Decision, Wait, error};
 use its_records::{Ask, Job};
-use its_word::{Slot, Word};
+use its_word::Slot;
 use its_world::World;
-
-/// The name of SIOT.
-const SIOT: u64 = 0o635157640000;
 
 /// The decision of the call of a slot's job.
 pub fn decide(w: &World, slot: Slot, ask: &Ask) -> Decision
@@ -87,7 +84,7 @@ pub fn is_siot(ask: &Ask) -> bool
     ensures name { result ≡ true → call_named_by ask.now.name ≡ Some Siot }
     ensures siot { result ≡ asks_siot ask.now }
 {
-    ask.fail == 0 && is_named_siot(ask.name)
+    ask.fail == 0 && CallName::is_siot(ask.name)
 }
 
 /// Whether the call of a slot's job can go on.
@@ -140,15 +137,6 @@ fn decided(w: &World, slot: Slot, job: &Job, ask: &Ask) -> Decision
         Some(CallName::Realt) => realt(w, slot, job, ask),
         None => fails(job, ask, error::NO_CALL),
     }
-}
-
-/// Whether a word is the name of SIOT.
-#[tactic(auto, using(crate::proofs::PartLaws::siot_named, crate::proofs::PartLaws::siot_is))]
-fn is_named_siot(name: Word) -> bool
-    ensures name { result ≡ true → call_named_by name ≡ Some Siot }
-    ensures siot { result ≡ is_siot (call_named_by name) }
-{
-    name.value() == SIOT
 }
 
 /// Whether a call reserves a page before it is tried: one that makes a page, whose decoding gave no error.

@@ -1,7 +1,7 @@
 -- The call SIOT by its name, the job into which it reaches, and what it moves.
 use Rattle.std.specs.Prelude.{if◌then◌else◌, ◌≡◌, ◌==◌, ◌&&◌, ℕ, Bool, true, false, List, Option, Some, None, Result, Ok, Err, is_some, option_map, refl}
 use Rattle.std.proofs.Common.{ap, sym, ◌∙◌}
-use Rattle.std.proofs.lemmas.Bool.{eq-eqb, eqb-true}
+use Rattle.std.proofs.lemmas.Bool.{eq-eqb}
 use Rattle.its_records.specs.declared.calls.Ask.{Ask}
 use Rattle.its_records.specs.declared.jobs.Channel.{Channel}
 use Rattle.its_records.specs.declared.jobs.Channel.TheVariants.{Usr}
@@ -9,8 +9,7 @@ use Rattle.its_records.specs.declared.jobs.Job.{Job}
 use Rattle.its_frame.specs.declared.name.CallName.{CallName}
 use Rattle.its_frame.specs.declared.name.CallName.TheVariants.{Siot}
 use Rattle.its_frame.specs.declared.decision.Decision.{Decision}
-use Rattle.its_frame.specs.Calls.{call_named, sixbit}
-use Rattle.its_frame.proofs.NameLaws.{name_is}
+use Rattle.its_frame.specs.Calls.{call_named, is_siot}
 use Rattle.its_plain.specs.Arguments.{input}
 use Rattle.its_plain.specs.CallDevice.{siot_call}
 use Rattle.its_plain.specs.CallStep.{decision}
@@ -23,32 +22,18 @@ use Rattle.its_machine.specs.Called.{channel_under}
 use Rattle.its_machine.proofs.NumberLaws.{usr_on}
 use Rattle.its_decide.specs.Seen.{machine_seen, raw_with}
 use Rattle.its_decide.specs.declared.caller.Seen.{Seen}
-use Rattle.its_decide.specs.Moving.{change_of, found, halted, is_siot, moved_alone, moved_by, moved_on, moving, next_moved, outcome, shift_of}
+use Rattle.its_decide.specs.Moving.{change_of, found, halted, moved_alone, moved_by, moved_on, moving, next_moved, outcome, shift_of}
 use Rattle.its_decide.specs.declared.moving.Halt.{Halt}
 use Rattle.its_decide.specs.declared.moving.Halt.TheVariants as halts
 use Rattle.its_decide.specs.declared.moving.NextMove.{NextMove}
 use Rattle.its_decide.specs.declared.moving.Shift.{Shift}
 use Rattle.its_decide.specs.declared.moving.Shift.TheVariants as shifts
 
-pub siot_named : (n : ℕ) → (n == 0o635157640000) ≡ true → call_named n ≡ Some Siot
-unfolding call_named sixbit
-siot_named n e = ap call_named (eqb-true n 0o635157640000 e)
-
 pub siot_target : (q : Whole) (a : Ask) (o : Option ℕ) → a.fail ≡ 0 → call_named a.name ≡ Some Siot → o ≡ reached_by q (input a 0) → o ≡ target q a
 unfolding target
 siot_target q a o z e is =
     is
     ∙ sym (ap (λ (b : Bool). if b then target_by q a (argument_of (call_named a.name)) else None) (eq-eqb a.fail 0 z) ∙ ap (λ (n : Option CallName). target_by q a (argument_of n)) e)
-
--- no other name is that of SIOT
-siot_by : (n : ℕ) (o : Option CallName) (b : Bool) → call_named n ≡ o → (n == 0o635157640000) ≡ b → b ≡ is_siot o
-unfolding sixbit
-siot_by n o true e t = sym (ap is_siot (sym e ∙ siot_named n t))
-siot_by n (Some Siot) false e t = sym t ∙ eq-eqb n 0o635157640000 (name_is n Siot e)
-siot_by n _ false e t = refl
-
-pub siot_is : (n : ℕ) → (n == 0o635157640000) ≡ is_siot (call_named n)
-siot_is n = siot_by n (call_named n) (n == 0o635157640000) refl refl
 
 -- what SIOT moves is what its decision moves
 shift_back : (s : Shift) → shift_of (change_of s) ≡ Some s

@@ -7,8 +7,7 @@ use Rattle.its_records.specs.declared.jobs.Channel.TheVariants.{Usr}
 use Rattle.its_frame.specs.declared.decision.Decision.{Decision}
 use Rattle.its_frame.specs.declared.decision.Decision.TheVariants as decisions
 use Rattle.its_frame.specs.declared.decision.Held.{Held}
-use Rattle.its_frame.specs.declared.name.CallName.{CallName}
-use Rattle.its_frame.specs.declared.name.CallName.TheVariants.{Siot}
+use Rattle.its_frame.specs.Calls.{is_siot}
 use Rattle.its_plain.specs.CallStep.{decision}
 use Rattle.its_plain.specs.Decide.{call_named, reach}
 use Rattle.its_plain.specs.Machine.{Machine, Whole}
@@ -78,10 +77,6 @@ moved_on (Usr s write at) d = None
 moved_on _ d = moved_by d
 
 -- what a call moves next: what its decision moves, if it is SIOT, its decoding gave no error, and it reaches no other job
-abbrev pub is_siot : Option CallName → Bool
-is_siot (Some Siot) = true
-is_siot _ = false
-
 abbrev pub moved_alone : List ℕ → Decision → Option NextMove
 moved_alone [] d = moved_by d
 moved_alone (k ∷ ks) d = None

@@ -9,7 +9,7 @@ ghost use Rattle.its_plain.specs.CallStep.{decision};
 ghost use Rattle.its_plain.specs.Decide.{call_named, reach};
 ghost use Rattle.its_decide.specs.Called.{looks};
 ghost use Rattle.its_decide.specs.Fits.{SeenFits};
-ghost use Rattle.its_decide.specs.Moving.{change_of, found, halted, is_siot, moved_by, moved_on, moving, next_moved, outcome};
+ghost use Rattle.its_decide.specs.Moving.{change_of, found, halted, moved_by, moved_on, moving, next_moved, outcome};
 ghost use Rattle.its_decide.specs.Seen.{machine_seen, raw_with};
 
 use super::arguments::input;
@@ -17,12 +17,9 @@ use super::caller::{Caller, Seen};
 use super::choice::reached;
 use super::ends::goes_with;
 use arrayvec::ArrayVec;
-use its_frame::{Change, Decision, Held, Wait};
+use its_frame::{CallName, Change, Decision, Held, Wait};
 use its_records::{Ask, Channel, Job};
 use its_word::{Fault, Slot, Word};
-
-/// The name of SIOT.
-const SIOT: u64 = 0o635157640000;
 
 /// What changes outside the job's own words and registers if SIOT moves a byte or word: the position of a channel, the draft of a channel, the
 /// input or the output of a console, or the words of a link. Each is a `Change`; this type has no other, and is small.
@@ -149,16 +146,6 @@ impl Caller<'_> {
     }
 }
 
-/// Whether a word is the name of SIOT.
-#[inline(always)]
-#[tactic(auto, using(crate::proofs::SiotLaws::siot_named, crate::proofs::SiotLaws::siot_is))]
-fn is_siot(name: Word) -> bool
-    ensures siot { result ≡ true → call_named name ≡ Some Siot }
-    ensures is { result ≡ is_siot (call_named name) }
-{
-    name.value() == SIOT
-}
-
 /// What the call of a slot's job, which has these registers, moves next, if it is SIOT, its decoding gave no error, and it reaches no
 /// other job. Then its decision is this, and disturbs nobody. None says that one of the three does not hold, or that the decision moves
 /// nothing.
@@ -174,7 +161,7 @@ pub fn next_move(seen: &Seen<'_>, slot: Slot, job: &Job, ask: &Ask) -> Option<Ne
     if ask.fail != 0 {
         return None;
     }
-    if !is_siot(ask.name) {
+    if !CallName::is_siot(ask.name) {
         return None;
     }
     let target = reached(seen, slot, job, input(ask, 0));

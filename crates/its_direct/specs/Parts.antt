@@ -1,9 +1,13 @@
 -- Parts of one call, one after another.
 -- No promise rests on this.
-use Rattle.std.specs.Prelude.{◌≡◌, ℕ, zero, suc, Bool, true, false, Some, [], None, slice_set, slice_index_or}
+use Rattle.std.specs.Prelude.{◌≡◌, ◌+◌, ◌%◌, ◌^◌, ℕ, zero, suc, Bool, true, false, Option, Some, [], None, slice_set, slice_index_or}
+use Rattle.its_word.specs.Core.{Core, word_at}
+use Rattle.its_word.specs.Word.{right_of}
 use Rattle.its_records.specs.declared.calls.Ask.{Ask}
 use Rattle.its_records.specs.declared.calls.Operand.{Operand}
 use Rattle.its_records.specs.declared.calls.Site.{Site}
+use Rattle.its_records.specs.declared.jobs.Job.{Job}
+use Rattle.its_frame.specs.Calls.{call_named, is_siot}
 use Rattle.its_frame.specs.declared.decision.Decision.{Decision}
 use Rattle.its_plain.specs.CallStep.{Transition, decision, is_made, transition}
 use Rattle.its_plain.specs.Decide.{reach}
@@ -19,6 +23,23 @@ no_input = record { value = 0; place = None }
 
 abbrev pub with_input : Ask → ℕ → ℕ → Ask
 with_input a k v = record a { inputs = record { items = slice_set a.inputs.items k (record (slice_index_or a.inputs.items k no_input) { value = v }) } }
+
+-- whether the word after the one to which the word at a PC points names SIOT. No other call has parts
+abbrev pub is_name : Option ℕ → Bool
+is_name (Some n) = is_siot (call_named n)
+is_name None = false
+
+abbrev pub named_after : Core → Option ℕ → Bool
+named_after c (Some w) = is_name (word_at c ((right_of w + 1) % 2 ^ 18))
+named_after c None = false
+
+abbrev pub names_siot : Core → ℕ → Bool
+names_siot c pc = named_after c (word_at c pc)
+
+-- the same of a job, if there is one
+abbrev pub siot_of : Core → Option Job → Bool
+siot_of c (Some j) = names_siot c j.pc
+siot_of c None = false
 
 -- the step of slot j's job is that of a call that asks for this
 pub record AtCall (m : Machine) (j : ℕ) (a : Ask) : Type 0 where

@@ -3,7 +3,9 @@ ghost use Rattle.std.specs.Prelude.{◌≡◌, ◌<◌, ◌≤◌, ◌∷◌, []
 ghost use Rattle.its_plain.specs.Arguments.{with_new_values};
 ghost use Rattle.its_decide.specs.Moving.{moving};
 ghost use Rattle.its_direct.specs.Events.{Kept};
-ghost use Rattle.its_direct.specs.Parts.{AtCall, Decides, InParts, PartIf, with_input};
+ghost use Rattle.its_core.specs.Cores.{core_at};
+ghost use Rattle.its_jobs.specs.Table.{job_at};
+ghost use Rattle.its_direct.specs.Parts.{AtCall, Decides, InParts, PartIf, names_siot, siot_of, with_input};
 ghost use Rattle.its_direct.specs.Plain.{machine_of};
 ghost use Rattle.its_direct.specs.Waiting.{AtHand};
 
@@ -11,12 +13,10 @@ use super::asking::{no_ask, put_near};
 use super::plain::{Plain, Spot};
 use its_core::Core;
 use its_decide::{NextMove, next_move};
+use its_frame::CallName;
 use its_records::Ask;
 use its_word::{ADDRESSES, Slot, Word};
 use pdp_exec::Near;
-
-/// The name of SIOT.
-const SIOT: u64 = 0o635157640000;
 
 impl Plain {
     /// Takes steps of a slot's job that are parts of the call at its PC, n at most, as long as each disturbs nobody and makes no job; how
@@ -41,7 +41,9 @@ impl Plain {
     }
 
     /// Whether the word after the one to which the word at the PC of a slot's job points names SIOT. No other call has parts.
-    fn names_siot(&self, slot: Slot) -> bool {
+    fn names_siot(&self, slot: Slot) -> bool
+        ensures { result ≡ siot_of (core_at self.now.core slot) (job_at self.now.jobs slot) }
+    {
         match self.jobs.job(slot) {
             Some(job) => names_siot(&self.core, slot, job.pc),
             None => false,
@@ -143,12 +145,14 @@ impl Plain {
 }
 
 /// Whether the word after the one to which the word at a PC points names SIOT.
-fn names_siot(core: &Core, slot: Slot, pc: u32) -> bool {
+fn names_siot(core: &Core, slot: Slot, pc: u32) -> bool
+    ensures { result ≡ names_siot (core_at core.now slot) pc }
+{
     let Some(call) = core.word(slot, pc) else {
         return false;
     };
     match core.word(slot, (call.right() + 1) % ADDRESSES) {
-        Some(name) => name.value() == SIOT,
+        Some(name) => CallName::is_siot(name),
         None => false,
     }
 }

@@ -1,10 +1,10 @@
 -- The call of a name: its row has that name, and no other row.
 use Rattle.std.proofs.Common.{◌≡◌, ◌≢◌, ◌==◌, ℕ, true, false, cond, List, [], ◌∷◌, Option, Some, None, refl, sym, ◌∙◌, ap, Bool}
 use Rattle.std.specs.List.{find}
-use Rattle.std.proofs.lemmas.Bool.{eqb-true}
+use Rattle.std.proofs.lemmas.Bool.{eq-eqb, eqb-true}
 use Rattle.its_frame.specs.declared.name.CallName.{CallName}
-use Rattle.its_frame.specs.declared.name.CallName.TheVariants.{Hang}
-use Rattle.its_frame.specs.Calls.{sixbit, calls, call_named, call_row}
+use Rattle.its_frame.specs.declared.name.CallName.TheVariants.{Hang, Siot}
+use Rattle.its_frame.specs.Calls.{sixbit, calls, call_named, call_row, is_siot}
 
 -- a name that is found is that of the row
 found_by : (w : ℕ) (x n : CallName) (o : Option CallName) (b : Bool) → (sixbit x == w) ≡ b → (o ≡ Some n → sixbit n ≡ w) → cond b (Some x) o ≡ Some n
@@ -48,3 +48,17 @@ none_found w (x ∷ ns) h = none_by w x (find (λ n. sixbit n == w) ns) (sixbit 
 pub unnamed : (w : ℕ) → Unnamed w calls → None ≡ call_named w
 unfolding call_named
 unnamed w h = sym (none_found w calls h)
+
+-- the name of SIOT, and no other name is its
+pub siot_named : (n : ℕ) → (n == 0o635157640000) ≡ true → call_named n ≡ Some Siot
+unfolding call_named sixbit
+siot_named n e = ap call_named (eqb-true n 0o635157640000 e)
+
+siot_by : (n : ℕ) (o : Option CallName) (b : Bool) → call_named n ≡ o → (n == 0o635157640000) ≡ b → b ≡ is_siot o
+unfolding sixbit
+siot_by n o true e t = sym (ap is_siot (sym e ∙ siot_named n t))
+siot_by n (Some Siot) false e t = sym t ∙ eq-eqb n 0o635157640000 (name_is n Siot e)
+siot_by n _ false e t = refl
+
+pub siot_is : (n : ℕ) → (n == 0o635157640000) ≡ is_siot (call_named n)
+siot_is n = siot_by n (call_named n) (n == 0o635157640000) refl refl

@@ -1,6 +1,6 @@
 -- The calls of the monitor, and what is asked of a call by its name alone (docs/CALLS.md, "The calls").
 -- A promise rests on this.
-use Rattle.std.specs.Prelude.{◌==◌, ℕ, true, false, List, [], ◌∷◌, Option, Some, None}
+use Rattle.std.specs.Prelude.{◌==◌, ℕ, Bool, true, false, List, [], ◌∷◌, Option, Some, None}
 use Rattle.std.specs.List.{find}
 use Rattle.its_frame.specs.declared.name.CallName.{CallName}
 use Rattle.its_frame.specs.declared.name.CallName.TheVariants.{Hang, Sleep, Dismis, Usrvar, Logout, Open, Close, Iot, Siot, Finish, Listen, Ttylnd, Access, Fillen, Delete, Rename, Usrmem, Uclose, Corblk, Realt}
@@ -59,3 +59,8 @@ sixbit n = (call_row n).name
 
 unfoldable pub call_named : ℕ → Option CallName
 call_named w = find (λ n. sixbit n == w) calls
+
+-- whether the call of a name is SIOT
+abbrev pub is_siot : Option CallName → Bool
+is_siot (Some Siot) = true
+is_siot _ = false

@@ -1,8 +1,12 @@
 //! The calls of the monitor by their names, and what is asked of a call by its name alone.
-ghost use Rattle.std.specs.Prelude.{◌≡◌};
-ghost use Rattle.its_frame.specs.Calls.{call_named, call_row, sixbit, takes};
+ghost use Rattle.std.specs.Prelude.{◌≡◌, true, Some};
+ghost use Rattle.its_frame.specs.Calls.{call_named, call_row, is_siot, sixbit, takes};
+ghost use Rattle.its_frame.specs.declared.name.CallName.TheVariants.{Siot};
 
 use its_word::Word;
+
+/// The name of SIOT, in SIXBIT.
+const SIOT: u64 = 0o635157640000;
 
 /// A call of the monitor by its name. `Iot` is the instruction `.IOT`, whose call has no block.
 #[derive(Clone, Copy, Debug, PartialEq, Eq)]
@@ -181,6 +185,16 @@ impl CallName {
         ensures { result ≡ sixbit self }
     {
         Word::new(self.row().name)
+    }
+
+    /// Whether a name is that of SIOT.
+    #[inline(always)]
+    #[tactic(auto, using(crate::proofs::NameLaws::siot_named, crate::proofs::NameLaws::siot_is))]
+    pub fn is_siot(name: Word) -> bool
+        ensures named { result ≡ true → call_named name ≡ Some Siot }
+        ensures siot { result ≡ is_siot (call_named name) }
+    {
+        name.value() == SIOT
     }
 
     /// The call of a name.

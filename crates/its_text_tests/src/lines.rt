@@ -4,35 +4,38 @@ use its_session::{print_event, read_line};
 use its_word::{ConsoleNumber, Slot, Word};
 use std::process::Abort;
 
-/// A line is read as this event at this place of a session of this version.
-fn is_read(rt: &impl Abort, place: Place, version: u8, line: &[u8], event: Event) {
-    assert_eq!(rt; read_line(line, place, version), Ok(event), "at {line:?}");
+/// A line is read as this event at this place of a session of version 2.
+fn is_read(rt: &impl Abort, place: Place, line: &str, event: Event) {
+    assert_eq!(rt;
+        read_line(line.as_bytes(), place, 2),
+        Ok(event),
+        "at {line}"
+    );
 }
 
-macro_rules! reads {
-    ($rt:expr; $place:expr, $line:literal, $event:expr) => {
-        is_read(&$rt, $place, 1, $line, $event);
-    };
-}
-
-macro_rules! reads_in_two {
-    ($rt:expr; $place:expr, $line:literal, $event:expr) => {
-        is_read(&$rt, $place, 2, $line, $event);
-    };
-}
-
-fn words(values: &[u64]) -> ArrayVec<Word, 16> {
-    let mut words = ArrayVec::new();
-    for value in values {
-        let _fits = words.try_push(Word::new(*value));
+/// A line that can stand at this place of a session of version 2, and what is printed of its event.
+fn is_printed(rt: &impl Abort, place: Place, line: &[u8], printed: &[u8]) {
+    let mut out = ArrayVec::new();
+    let event = read_line(line, place, 2);
+    assert!(rt; event.is_ok());
+    if let Ok(event) = event {
+        print_event(&event, &mut out);
     }
-    words
+    assert_eq!(rt; out.as_slice(), printed);
 }
 
-fn bytes(values: &[u8]) -> ArrayVec<u8, 32> {
-    let mut bytes = ArrayVec::new();
-    let _fit = bytes.try_extend_from_slice(values);
-    bytes
+/// Each row of a text is such a line, and is the same in a session of this version. After ` > ` there is what is printed, if that is
+/// not the line itself.
+fn reads(rt: &impl Abort, place: Place, version: u8, rows: &str) {
+    for row in rows.split('\n') {
+        let (line, printed) = row.split_once(" > ").unwrap_or((row, row));
+        is_printed(rt, place, line.as_bytes(), printed.as_bytes());
+        let (one, two) = (
+            read_line(line.as_bytes(), place, version),
+            read_line(line.as_bytes(), place, 2),
+        );
+        assert!(rt; one == two, "{line}");
+    }
 }
 
 /// Each line of a text is refused at this place of a session of this version for this reason.
@@ -42,80 +45,212 @@ fn refuses(rt: &impl Abort, place: Place, version: u8, lines: &str, bad: Bad) {
     }
 }
 
-#[test]
-fn reads_blocks(rt: HostRuntime) {
-    let (u, j) = (Word::new(0o650000000000), Word::new(0o520000000000));
-    reads!(rt; Place::Plain, b"LOAD U J -", Event::Load { u, j, console: None });
-    reads!(rt; Place::Plain, b"LOAD U J 0", Event::Load { u, j, console: Some(ConsoleNumber::new(0)) });
-    reads!(rt; Place::Plain, b"LOAD U J 7", Event::Load { u, j, console: Some(ConsoleNumber::new(7)) });
-    let (u, j) = (Word::new(0o017741722031), Word::new(0o737576000000));
-    reads!(rt; Place::Plain, b"LOAD !_AZ09 []^ 007", Event::Load { u, j, console: Some(ConsoleNumber::new(7)) });
-    reads!(rt; Place::Load, b"100/ 201040000005 202040000200", Event::Words { a: 0o100, words: words(&[0o201040000005, 0o202040000200]) });
-    reads!(rt; Place::Load, b"0/ 0", Event::Words { a: 0, words: words(&[0]) });
-    reads!(rt; Place::Load, b"777777/ 1", Event::Words { a: 0o777777, words: words(&[1]) });
-    reads!(rt; Place::Load, b"777760/ 1 2 3 4 5 6 7 10 11 12 13 14 15 16 17 777777777777", Event::Words { a: 0o777760, words: words(&[1, 2, 3, 4, 5, 6, 7, 8, 9, 10, 11, 12, 13, 14, 15, 0o777777777777]) });
-    reads!(rt; Place::Load, b"GO 0", Event::Go { a: 0 });
-    reads!(rt; Place::Load, b"GO 777777", Event::Go { a: 0o777777 });
-    let (d, x, y) = (
-        Word::new(0o440000000000),
-        Word::new(0o410000000000),
-        Word::new(0o420000000000),
-    );
-    reads!(rt; Place::Plain, b"FILE D A B", Event::File { d, x, y });
-    reads!(rt; Place::File, b"/ 1 2", Event::Append { words: words(&[1, 2]) });
-    reads!(rt; Place::File, b"/ 1 1 1 1 1 1 1 1 1 1 1 1 1 1 1 1", Event::Append { words: words(&[1; 16]) });
-    reads!(rt; Place::File, b"EOF", Event::EndFile);
-    reads!(rt; Place::Plain, b"DIR D", Event::Dir { d });
-    reads!(rt; Place::Plain, b"SHOW D A B", Event::Show { d, x, y });
+/// The words 201040000005 and 1.
+fn two_words() -> ArrayVec<Word, 16> {
+    let mut words = ArrayVec::new();
+    let _fits = words.try_push(Word::new(0o201040000005));
+    let _fits = words.try_push(Word::new(1));
+    words
 }
 
-#[test]
-fn reads_operator_lines(rt: HostRuntime) {
-    reads!(rt; Place::Plain, b"TICK 0 1", Event::Tick { s: Slot::new(0), n: 1 });
-    reads!(rt; Place::Plain, b"TICK 77 1000", Event::Tick { s: Slot::new(0o77), n: 0o1000 });
-    reads!(rt; Place::Plain, b"  TICK 000   00000000010 ", Event::Tick { s: Slot::new(0), n: 0o10 });
-    reads!(rt; Place::Plain, b"TYPE 0 0", Event::TypeIn { c: ConsoleNumber::new(0), bytes: bytes(&[0]) });
-    reads!(rt; Place::Plain, b"TYPE 7 101 177", Event::TypeIn { c: ConsoleNumber::new(7), bytes: bytes(&[0o101, 0o177]) });
-    reads!(rt; Place::Plain, b"TYPE 0 1 1 1 1 1 1 1 1 1 1 1 1 1 1 1 1 1 1 1 1 1 1 1 1 1 1 1 1 1 1 1 1", Event::TypeIn { c: ConsoleNumber::new(0), bytes: bytes(&[1; 32]) });
-    reads!(rt; Place::Plain, b"DRAIN 0 1", Event::Drain { c: ConsoleNumber::new(0), n: 1 });
-    reads!(rt; Place::Plain, b"DRAIN 7 100", Event::Drain { c: ConsoleNumber::new(7), n: 0o100 });
-    reads!(rt; Place::Plain, b"CLOCK 0", Event::Clock { n: 0 });
-    reads!(rt; Place::Plain, b"CLOCK 777777777777", Event::Clock { n: 0o777777777777 });
-    reads!(rt; Place::Plain, b"INT 0 1000 0", Event::Int { s: Slot::new(0), v: Word::new(0o1000), w: Word::ZERO });
-    reads!(rt; Place::Plain, b"INT 77 777777777777 1", Event::Int { s: Slot::new(0o77), v: Word::ONES, w: Word::new(1) });
-    reads!(rt; Place::Plain, b"EXAM 0 200 1", Event::Exam { s: Slot::new(0), a: 0o200, n: 1 });
-    reads!(rt; Place::Plain, b"EXAM 77 777770 10", Event::Exam { s: Slot::new(0o77), a: 0o777770, n: 8 });
-    reads!(rt; Place::Plain, b"EXAM 0 777777 1", Event::Exam { s: Slot::new(0), a: 0o777777, n: 1 });
-    reads!(rt; Place::Plain, b"STATE 77", Event::State { s: Slot::new(0o77) });
-    reads!(rt; Place::Plain, b"DEPOSIT 0 202 254000000203", Event::Deposit { s: Slot::new(0), a: 0o202, w: Word::new(0o254000000203) });
-    reads!(rt; Place::Plain, b"DEPOSIT 77 777777 777777777777", Event::Deposit { s: Slot::new(0o77), a: 0o777777, w: Word::ONES });
-    reads!(rt; Place::Plain, b"STOP 0", Event::Stop { s: Slot::new(0) });
-    reads!(rt; Place::Plain, b"CONT 77", Event::Cont { s: Slot::new(0o77) });
-    reads!(rt; Place::Plain, b"PEEK 1", Event::Peek { s: Slot::new(1) });
-    reads!(rt; Place::Plain, b"END", Event::End);
+/// The bytes 101 and 177.
+fn two_bytes() -> ArrayVec<u8, 32> {
+    let mut bytes = ArrayVec::new();
+    let _fits = bytes.try_push(0o101);
+    let _fits = bytes.try_push(0o177);
+    bytes
 }
+
+/// Words and bytes of a line are those of its event, in their order.
+#[test]
+fn words_and_bytes(rt: HostRuntime) {
+    let (a, words) = (0o100, two_words());
+    is_read(
+        &rt,
+        Place::Load,
+        "100/ 201040000005 1",
+        Event::Words { a, words },
+    );
+    let words = two_words();
+    is_read(
+        &rt,
+        Place::File,
+        "/ 201040000005 1",
+        Event::Append { words },
+    );
+    let (c, bytes) = (ConsoleNumber::new(7), two_bytes());
+    is_read(
+        &rt,
+        Place::Plain,
+        "TYPE 7 101 177",
+        Event::TypeIn { c, bytes },
+    );
+}
+
+/// Each number and name of a line is the field of its event that it stands for.
+#[test]
+fn fields(rt: HostRuntime) {
+    let (u, j, s) = (
+        Word::new(0o017741722031),
+        Word::new(0o737576000000),
+        Slot::new(0o137),
+    );
+    is_read(
+        &rt,
+        Place::Plain,
+        "LOAD !_AZ09 []^ 007",
+        Event::Load {
+            u,
+            j,
+            console: Some(ConsoleNumber::new(7)),
+        },
+    );
+    is_read(
+        &rt,
+        Place::Plain,
+        "LOAD !_AZ09 []^ -",
+        Event::Load {
+            u,
+            j,
+            console: None,
+        },
+    );
+    is_read(
+        &rt,
+        Place::Load,
+        "SYM !_AZ09 777777",
+        Event::Symbol {
+            name: u,
+            a: 0o777777,
+        },
+    );
+    is_read(
+        &rt,
+        Place::Plain,
+        "SHOW !_AZ09 []^ !_AZ09",
+        Event::Show { d: u, x: j, y: u },
+    );
+    is_read(
+        &rt,
+        Place::Plain,
+        "TICK 137 1000",
+        Event::Tick { s, n: 0o1000 },
+    );
+    is_read(&rt, Place::Plain, "RUN 7 10", Event::Run { n: 7, q: 8 });
+    is_read(
+        &rt,
+        Place::Plain,
+        "INT 137 777777777777 1",
+        Event::Int {
+            s,
+            v: Word::ONES,
+            w: Word::new(1),
+        },
+    );
+    is_read(
+        &rt,
+        Place::Plain,
+        "EXAM 137 200 3",
+        Event::Exam { s, a: 0o200, n: 3 },
+    );
+    is_read(
+        &rt,
+        Place::Plain,
+        "DEPOSIT 137 202 254000000203",
+        Event::Deposit {
+            s,
+            a: 0o202,
+            w: Word::new(0o254000000203),
+        },
+    );
+}
+
+/// Lines of a session of version 1, outside of blocks.
+const PLAIN: &str = "LOAD U J -
+LOAD U J 0
+LOAD U J 007 > LOAD U J 7
+FILE D A B
+DIR D
+SHOW D A B
+TICK 0 1
+TICK 77 1000
+  TICK 000   00000000010  > TICK 0 10
+TYPE 0 0
+TYPE 7 101 177
+TYPE 0 1 1 1 1 1 1 1 1 1 1 1 1 1 1 1 1 1 1 1 1 1 1 1 1 1 1 1 1 1 1 1 1
+DRAIN 0 1
+DRAIN 7 100
+CLOCK 0
+CLOCK 777777777777
+INT 0 1000 0 > INT 0 000000001000 000000000000
+INT 77 777777777777 1 > INT 77 777777777777 000000000001
+EXAM 0 200 1 > EXAM 0 000200 1
+EXAM 77 777770 10
+EXAM 0 777777 1
+STATE 77
+DEPOSIT 0 202 254000000203 > DEPOSIT 0 000202 254000000203
+DEPOSIT 77 777777 777777777777
+STOP 0
+CONT 77
+PEEK 1
+END
+; none > ";
+
+/// The same after LOAD.
+const IN_LOAD: &str = "100/ 201040000005 202040000200 > 000100/ 201040000005 202040000200
+0/ 0 > 000000/ 000000000000
+777777/ 1 > 777777/ 000000000001
+777776/ 01 777777777777 > 777776/ 000000000001 777777777777
+GO 0 > GO 000000
+GO 777777";
+
+/// Lines with the most words that a line can have.
+const FULL_IN_LOAD: &str =
+    "777760/ 1 2 3 4 5 6 7 10 11 12 13 14 15 16 17 777777777777 > 777760/ 000000000001 000000000002 000000000003 000000000004 000000000005 000000000006 000000000007 000000000010 000000000011 000000000012 000000000013 000000000014 000000000015 000000000016 000000000017 777777777777";
+
+/// The same after FILE.
+const IN_FILE: &str = "/ 1 2 > / 000000000001 000000000002
+/ 1 1 1 1 1 1 1 1 1 1 1 1 1 1 1 7 > / 000000000001 000000000001 000000000001 000000000001 000000000001 000000000001 000000000001 000000000001 000000000001 000000000001 000000000001 000000000001 000000000001 000000000001 000000000001 000000000007
+EOF  > EOF";
+
+#[test]
+fn reads_lines(rt: HostRuntime) {
+    reads(&rt, Place::Plain, 1, PLAIN);
+    reads(&rt, Place::Load, 1, IN_LOAD);
+    reads(&rt, Place::Load, 1, FULL_IN_LOAD);
+    reads(&rt, Place::File, 1, IN_FILE);
+}
+
+/// First lines of a session.
+const FIRST: &str = "VERSION 1
+ VERSION  002 > VERSION 2
+TICK 77 1";
+
+/// Lines of a session of version 2, outside of blocks.
+const PLAIN_IN_TWO: &str = "TICK 137 1
+RUN 1 1
+RUN 1000 100
+INT 137 1 0 > INT 137 000000000001 000000000000
+EXAM 100 0 1 > EXAM 100 000000 1
+LIST 0 100 2 > LIST 0 000100 2
+LIST 137 777770 10
+DEPOSIT 137 0 1 > DEPOSIT 137 000000 000000000001
+STATE 137
+STOP 137
+CONT 137
+PEEK 137";
+
+/// The same after LOAD.
+const IN_LOAD_IN_TWO: &str = "RO 0
+RO 0377 > RO 377
+SYM FOO 777777
+SYM FOO 100 > SYM FOO 000100";
 
 #[test]
 fn reads_version_two(rt: HostRuntime) {
-    let name = Word::new(0o465757000000);
-    reads!(rt; Place::First, b"VERSION 1", Event::Version { v: 1 });
-    reads!(rt; Place::First, b" VERSION  002", Event::Version { v: 2 });
-    reads!(rt; Place::First, b"TICK 77 1", Event::Tick { s: Slot::new(0o77), n: 1 });
-    reads_in_two!(rt; Place::Load, b"RO 0", Event::ReadOnly { page: 0 });
-    reads_in_two!(rt; Place::Load, b"RO 377", Event::ReadOnly { page: 0o377 });
-    reads_in_two!(rt; Place::Load, b"SYM FOO 777777", Event::Symbol { name, a: 0o777777 });
-    reads_in_two!(rt; Place::Plain, b"TICK 137 1", Event::Tick { s: Slot::new(0o137), n: 1 });
-    reads_in_two!(rt; Place::Plain, b"RUN 1 1", Event::Run { n: 1, q: 1 });
-    reads_in_two!(rt; Place::Plain, b"RUN 1000 100", Event::Run { n: 0o1000, q: 0o100 });
-    reads_in_two!(rt; Place::Plain, b"INT 137 1 0", Event::Int { s: Slot::new(0o137), v: Word::new(1), w: Word::ZERO });
-    reads_in_two!(rt; Place::Plain, b"EXAM 100 0 1", Event::Exam { s: Slot::new(0o100), a: 0, n: 1 });
-    reads_in_two!(rt; Place::Plain, b"LIST 0 100 2", Event::List { s: Slot::new(0), a: 0o100, n: 2 });
-    reads_in_two!(rt; Place::Plain, b"LIST 137 777770 10", Event::List { s: Slot::new(0o137), a: 0o777770, n: 8 });
-    reads_in_two!(rt; Place::Plain, b"DEPOSIT 137 0 1", Event::Deposit { s: Slot::new(0o137), a: 0, w: Word::new(1) });
-    reads_in_two!(rt; Place::Plain, b"STATE 137", Event::State { s: Slot::new(0o137) });
-    reads_in_two!(rt; Place::Plain, b"STOP 137", Event::Stop { s: Slot::new(0o137) });
-    reads_in_two!(rt; Place::Plain, b"CONT 137", Event::Cont { s: Slot::new(0o137) });
-    reads_in_two!(rt; Place::Plain, b"PEEK 137", Event::Peek { s: Slot::new(0o137) });
+    reads(&rt, Place::First, 1, FIRST);
+    reads(&rt, Place::Plain, 2, PLAIN_IN_TWO);
+    reads(&rt, Place::Load, 2, IN_LOAD_IN_TWO);
 }
 
 /// Lines of version 2, or of its first line, that are none, or have a number outside its range.
@@ -371,41 +506,4 @@ fn refuses_numbers(rt: HostRuntime) {
     refuses(&rt, Place::Load, 1, RANGE_IN_LOAD, Bad::Range);
     refuses(&rt, Place::Plain, 1, NO_CONSOLE, Bad::NoConsole);
     refuses(&rt, Place::Plain, 1, SYNTAX_FIRST, Bad::Syntax);
-}
-
-/// Lines as they are read, and as they are printed.
-const PRINTED: [(Place, &[u8], &[u8]); 12] = [
-    (Place::First, b"VERSION 02", b"VERSION 2"),
-    (Place::Plain, b" LOAD  U J 07", b"LOAD U J 7"),
-    (Place::Load, b"RO 0377", b"RO 377"),
-    (Place::Load, b"SYM FOO 100", b"SYM FOO 000100"),
-    (Place::Load, b"GO 100", b"GO 000100"),
-    (
-        Place::Load,
-        b"00100/ 01 777777777777",
-        b"000100/ 000000000001 777777777777",
-    ),
-    (Place::File, b"EOF ", b"EOF"),
-    (Place::Plain, b"TICK 137 10", b"TICK 137 10"),
-    (Place::Plain, b"TYPE 0 001", b"TYPE 0 1"),
-    (
-        Place::Plain,
-        b"DEPOSIT 0 202 7",
-        b"DEPOSIT 0 000202 000000000007",
-    ),
-    (Place::Plain, b"SHOW  D A B", b"SHOW D A B"),
-    (Place::Plain, b"; none", b""),
-];
-
-#[test]
-fn prints_events(rt: HostRuntime) {
-    for (place, line, printed) in PRINTED {
-        let mut out = ArrayVec::new();
-        let event = read_line(line, place, 2);
-        assert!(rt; event.is_ok());
-        if let Ok(event) = event {
-            print_event(&event, &mut out);
-        }
-        assert_eq!(rt; out.as_slice(), printed);
-    }
 }

@@ -1,5 +1,5 @@
 use arrayvec::ArrayVec;
-use its_asm::{assemble, statement, type_out};
+use its_asm::{Image, assemble, statement, type_out};
 use its_word::{ConsoleNumber, Word, read_octal};
 use std::alloc::Global;
 use std::process::Abort;
@@ -207,30 +207,35 @@ fn shown(alloc: Global, text: &[u8]) -> Result<String, Fail> {
     if text.len() > 100_000 {
         return Ok(String::new(alloc));
     }
-    let image = match assemble(alloc, text) {
-        Ok(image) => image,
-        Err(fault) => return Ok(format!(in alloc; "{fault}")?),
-    };
+    match assemble(alloc, text) {
+        Ok(image) => image_shown(alloc, &image),
+        Err(fault) => Ok(format!(in alloc; "{fault}")?),
+    }
+}
+
+/// The names and the console of an image, its start, its first words and its first symbols.
+fn image_shown(alloc: Global, image: &Image) -> Result<String, Fail> {
     let (u, j, start) = (image.u.value(), image.j.value(), image.start);
-    let mut out = format!(in alloc;
-        "{u:o} {j:o} {:?} {start:o}",
-        ConsoleNumber::numbered(&image.console)
-    )?;
+    let console = ConsoleNumber::numbered(&image.console);
+    let mut out = format!(in alloc; "{u:o} {j:o} {console:?} {start:o}")?;
     for k in 0..9 {
         if let Some((a, w)) = image.words.at(k) {
-            let w = w.value();
-            let cell = format!(in alloc; " {a:o}/{w:o}")?;
-            out.push_str(&cell)?;
+            add_pair(alloc, &mut out, a.into(), '/', w.value())?;
         }
     }
     for k in 0..9 {
         if let Some((name, value)) = image.symbols.at(k) {
-            let name = name.value();
-            let symbol = format!(in alloc; " {name:o}={value:o}")?;
-            out.push_str(&symbol)?;
+            add_pair(alloc, &mut out, name.value(), '=', value.into())?;
         }
     }
     Ok(out)
+}
+
+/// Adds two numbers with a character between them.
+fn add_pair(alloc: Global, out: &mut String, a: u64, between: char, b: u64) -> Result<(), Fail> {
+    let pair = format!(in alloc; " {a:o}{between}{b:o}")?;
+    out.push_str(&pair)?;
+    Ok(())
 }
 
 #[test]

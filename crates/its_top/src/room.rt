@@ -1,4 +1,5 @@
 //! Room for what a line shows, which a session makes once: to make it costs more than a line.
+ghost use Rattle.std.specs.Prelude.{◌≡◌, []};
 
 use arrayvec::ArrayVec;
 use its_print::Run;
@@ -18,7 +19,10 @@ pub struct Room {
 
 impl Room {
     /// Room in which nothing is.
-    pub fn new() -> Room {
+    pub fn new() -> Room
+        ensures runs { result.runs.items ≡ [] }
+        ensures line { result.line.items ≡ [] }
+    {
         Room {
             runs: ArrayVec::new(),
             line: ArrayVec::new(),
