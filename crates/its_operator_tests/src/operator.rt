@@ -7,16 +7,31 @@ use its_word::{ConsoleNumber, SLOTS, Slot, Word};
 use std::process::Abort;
 use std::test::Fail;
 
-/// A line of the operator. Its slot is given beside it.
+/// A line of the operator. The slot of those that name one is given beside it.
 #[derive(Clone, Copy, Debug)]
 enum Line {
     Version(u8),
     Load(Option<u8>),
+    Clock(u64),
+    Type(u8, u8),
+    Drain(u8),
+    Making(Making),
+    Of(OfJob),
+}
+
+/// A line that fills a job which LOAD made, or is asked when one is filled.
+#[derive(Clone, Copy, Debug)]
+enum Making {
     Word(u32, u64),
     Go(u32),
     ReadOnly(u8),
     Barred(u32),
     Symbol(u64, u32),
+}
+
+/// A line that changes or shows a job.
+#[derive(Clone, Copy, Debug)]
+enum OfJob {
     Int(u64, u64),
     Stop,
     Cont,
@@ -24,9 +39,6 @@ enum Line {
     Exam(u32),
     State,
     Peek,
-    Clock(u64),
-    Type(u8, u8),
-    Drain(u8),
 }
 
 /// What it answers. STATE says of a job its console, whether it runs, its PC word, its pending words and its nearest symbol.
@@ -55,8 +67,8 @@ fn console(rt: &impl Abort, number: u8) -> ConsoleNumber {
     ConsoleNumber::new(number)
 }
 
-/// Performs the call of a line that makes or fills a job.
-fn load_line(rt: &impl Abort, m: &mut Monitor, slot: Slot, line: Line) -> Result<Answer, Refusal>
+/// Performs the call of a line.
+fn run_line(rt: &impl Abort, m: &mut Monitor, slot: Slot, line: Line) -> Result<Answer, Refusal>
     requires kept { Kept m.old.world }
     ensures { Kept m.new.world }
 {
@@ -65,7 +77,7 @@ fn load_line(rt: &impl Abort, m: &mut Monitor, slot: Slot, line: Line) -> Result
             assert!(rt; 1 <= v);
             assert!(rt; v <= 2);
             m.version(v);
-            return Ok(Answer::Version(m.world.version));
+            Ok(Answer::Version(m.world.version))
         }
         Line::Load(number) => {
             let number = match number {
@@ -73,65 +85,8 @@ fn load_line(rt: &impl Abort, m: &mut Monitor, slot: Slot, line: Line) -> Result
                 None => None,
             };
             let made = m.load_job(Word::new(7), Word::new(0o107), number)?;
-            return Ok(Answer::Slot(made.number()));
+            Ok(Answer::Slot(made.number()))
         }
-        Line::Word(a, word) => {
-            assert!(rt; a <= 0o777777);
-            m.load_word(slot, a, Word::new(word))?;
-        }
-        Line::Go(a) => {
-            assert!(rt; a <= 0o777777);
-            m.go(slot, a)?;
-        }
-        Line::ReadOnly(page) => m.read_only(slot, page)?,
-        Line::Barred(a) => {
-            assert!(rt; a < 0o777777);
-            return Ok(Answer::Barred(m.barred(slot, a, 2)));
-        }
-        Line::Symbol(name, a) => m.symbol(slot, Word::new(name), a)?,
-        _ => return job_line(rt, m, slot, line),
-    }
-    Ok(Answer::Done)
-}
-
-/// The same of a line that changes or shows a job.
-fn job_line(rt: &impl Abort, m: &mut Monitor, slot: Slot, line: Line) -> Result<Answer, Refusal>
-    requires kept { Kept m.old.world }
-    ensures { Kept m.new.world }
-{
-    match line {
-        Line::Int(v, x) => m.interrupt(slot, Word::new(v), Word::new(x))?,
-        Line::Stop => m.stop(slot)?,
-        Line::Cont => m.cont(slot)?,
-        Line::Deposit(a, word) => {
-            assert!(rt; a <= 0o777777);
-            m.deposit(slot, a, Word::new(word))?;
-        }
-        Line::Exam(a) => {
-            assert!(rt; a <= 0o777777);
-            return Ok(Answer::Word(m.exam(slot, a)?.value()));
-        }
-        Line::State => {
-            let show = m.state(slot)?;
-            return Ok(shown(rt, &show));
-        }
-        Line::Peek => {
-            let show = m.peek(slot)?;
-            assert_eq!(rt; (show.state, show.name), (PeekState::User, None));
-            assert_eq!(rt; (show.left, show.a, show.b, show.h), (0, None, None, None));
-            return Ok(Answer::User);
-        }
-        _ => return other_line(rt, m, line),
-    }
-    Ok(Answer::Done)
-}
-
-/// The same of a line that names no slot.
-fn other_line(rt: &impl Abort, m: &mut Monitor, line: Line) -> Result<Answer, Refusal>
-    requires kept { Kept m.old.world }
-    ensures { Kept m.new.world }
-{
-    match line {
         Line::Clock(n) => {
             m.advance(n)?;
             Ok(Answer::Done)
@@ -144,8 +99,69 @@ fn other_line(rt: &impl Abort, m: &mut Monitor, line: Line) -> Result<Answer, Re
             let c = console(rt, c);
             Ok(Answer::Byte(m.drain(c)))
         }
-        _ => rt.abort(),
+        Line::Making(line) => making_line(rt, m, slot, line),
+        Line::Of(line) => job_line(rt, m, slot, line),
     }
+}
+
+/// The same of a line that fills a job.
+fn making_line(
+    rt: &impl Abort,
+    m: &mut Monitor,
+    slot: Slot,
+    line: Making,
+) -> Result<Answer, Refusal>
+    requires kept { Kept m.old.world }
+    ensures { Kept m.new.world }
+{
+    match line {
+        Making::Word(a, word) => {
+            assert!(rt; a <= 0o777777);
+            m.load_word(slot, a, Word::new(word))?;
+        }
+        Making::Go(a) => {
+            assert!(rt; a <= 0o777777);
+            m.go(slot, a)?;
+        }
+        Making::ReadOnly(page) => m.read_only(slot, page)?,
+        Making::Barred(a) => {
+            assert!(rt; a < 0o777777);
+            return Ok(Answer::Barred(m.barred(slot, a, 2)));
+        }
+        Making::Symbol(name, a) => m.symbol(slot, Word::new(name), a)?,
+    }
+    Ok(Answer::Done)
+}
+
+/// The same of a line that changes or shows a job.
+fn job_line(rt: &impl Abort, m: &mut Monitor, slot: Slot, line: OfJob) -> Result<Answer, Refusal>
+    requires kept { Kept m.old.world }
+    ensures { Kept m.new.world }
+{
+    match line {
+        OfJob::Int(v, x) => m.interrupt(slot, Word::new(v), Word::new(x))?,
+        OfJob::Stop => m.stop(slot)?,
+        OfJob::Cont => m.cont(slot)?,
+        OfJob::Deposit(a, word) => {
+            assert!(rt; a <= 0o777777);
+            m.deposit(slot, a, Word::new(word))?;
+        }
+        OfJob::Exam(a) => {
+            assert!(rt; a <= 0o777777);
+            return Ok(Answer::Word(m.exam(slot, a)?.value()));
+        }
+        OfJob::State => {
+            let show = m.state(slot)?;
+            return Ok(shown(rt, &show));
+        }
+        OfJob::Peek => {
+            let show = m.peek(slot)?;
+            assert_eq!(rt; (show.state, show.name), (PeekState::User, None));
+            assert_eq!(rt; (show.left, show.a, show.b, show.h), (0, None, None, None));
+            return Ok(Answer::User);
+        }
+    }
+    Ok(Answer::Done)
 }
 
 /// What STATE shows of a job with the names 7 and 107 that has no superior, and masks and defers nothing.
@@ -170,78 +186,110 @@ static LINES: [(u8, Line, Result<Answer, Refusal>); 53] = [
     (0, Line::Version(2), Ok(Answer::Version(2))),
     (0, Line::Version(1), Ok(Answer::Version(1))),
     (0, Line::Version(2), Ok(Answer::Version(2))),
-    (0, Line::Go(0o2000), Err(Refusal::NoJob)),
+    (0, Line::Making(Making::Go(0o2000)), Err(Refusal::NoJob)),
     (0, Line::Load(Some(3)), Ok(Answer::Slot(0))),
     (0, Line::Version(1), Ok(Answer::Version(2))),
     (0, Line::Load(None), Ok(Answer::Slot(1))),
     (0, Line::Load(Some(3)), Ok(Answer::Slot(2))),
     (0, Line::Type(3, 0o101), Ok(Answer::Waits(true))),
     (0, Line::Drain(3), Ok(Answer::Byte(None))),
-    (0, Line::Word(0o2000, 0o42), Ok(Answer::Done)),
-    (0, Line::Go(0o2000), Ok(Answer::Done)),
     (
         0,
-        Line::State,
+        Line::Making(Making::Word(0o2000, 0o42)),
+        Ok(Answer::Done),
+    ),
+    (0, Line::Making(Making::Go(0o2000)), Ok(Answer::Done)),
+    (
+        0,
+        Line::Of(OfJob::State),
         Ok(Answer::State(Some(3), true, 0o10000_002000, (0, 0), None)),
     ),
-    (0, Line::Int(0o4, 0o2), Ok(Answer::Done)),
-    (0, Line::Int(0o1000, 0o2), Ok(Answer::Done)),
-    (0, Line::Stop, Ok(Answer::Done)),
+    (0, Line::Of(OfJob::Int(0o4, 0o2)), Ok(Answer::Done)),
+    (0, Line::Of(OfJob::Int(0o1000, 0o2)), Ok(Answer::Done)),
+    (0, Line::Of(OfJob::Stop), Ok(Answer::Done)),
     (
         0,
-        Line::State,
+        Line::Of(OfJob::State),
         Ok(Answer::State(Some(3), false, 0o10000_002000, (0o1004, 0o2), None)),
     ),
-    (0, Line::Cont, Ok(Answer::Done)),
+    (0, Line::Of(OfJob::Cont), Ok(Answer::Done)),
     (
         0,
-        Line::State,
+        Line::Of(OfJob::State),
         Ok(Answer::State(Some(3), true, 0o10000_002000, (0o1000, 0o2), None)),
     ),
-    (0, Line::Deposit(0o3777, 0o17), Ok(Answer::Done)),
-    (0, Line::Exam(0o3777), Ok(Answer::Word(0o17))),
-    (0, Line::Exam(0o2000), Ok(Answer::Word(0o42))),
-    (0, Line::Exam(0o4000), Err(Refusal::NoPage)),
-    (1, Line::Exam(0o2000), Err(Refusal::NoPage)),
-    (0, Line::Deposit(0o4000, 1), Err(Refusal::NoPage)),
-    (0, Line::Peek, Ok(Answer::User)),
+    (0, Line::Of(OfJob::Deposit(0o3777, 0o17)), Ok(Answer::Done)),
+    (0, Line::Of(OfJob::Exam(0o3777)), Ok(Answer::Word(0o17))),
+    (0, Line::Of(OfJob::Exam(0o2000)), Ok(Answer::Word(0o42))),
+    (0, Line::Of(OfJob::Exam(0o4000)), Err(Refusal::NoPage)),
+    (1, Line::Of(OfJob::Exam(0o2000)), Err(Refusal::NoPage)),
+    (0, Line::Of(OfJob::Deposit(0o4000, 1)), Err(Refusal::NoPage)),
+    (0, Line::Of(OfJob::Peek), Ok(Answer::User)),
     (0, Line::Clock(0o177777777777), Ok(Answer::Done)),
     (0, Line::Clock(1), Err(Refusal::Range)),
-    (63, Line::Word(0o2000, 1), Err(Refusal::NoJob)),
-    (63, Line::Int(1, 1), Err(Refusal::NoJob)),
-    (63, Line::Stop, Err(Refusal::NoJob)),
-    (63, Line::Cont, Err(Refusal::NoJob)),
-    (63, Line::Deposit(0o17, 1), Err(Refusal::NoJob)),
-    (63, Line::Exam(0o17), Err(Refusal::NoJob)),
-    (63, Line::State, Err(Refusal::NoJob)),
-    (63, Line::Peek, Err(Refusal::NoJob)),
-    (0, Line::Barred(0o1777), Ok(Answer::Barred(false))),
-    (0, Line::ReadOnly(2), Err(Refusal::NoPage)),
-    (0, Line::ReadOnly(1), Ok(Answer::Done)),
-    (0, Line::Barred(0o1777), Ok(Answer::Barred(true))),
-    (0, Line::Barred(0o4000), Ok(Answer::Barred(false))),
-    (95, Line::Barred(0o1777), Ok(Answer::Barred(false))),
-    (0, Line::Word(0o2000, 1), Err(Refusal::ReadOnly)),
-    (0, Line::Deposit(0o2000, 1), Err(Refusal::ReadOnly)),
-    (0, Line::Exam(0o2000), Ok(Answer::Word(0o42))),
-    (95, Line::ReadOnly(1), Err(Refusal::NoJob)),
-    (95, Line::Symbol(1, 0), Err(Refusal::NoJob)),
-    (1, Line::Symbol(1, 1), Ok(Answer::Done)),
+    (
+        63,
+        Line::Making(Making::Word(0o2000, 1)),
+        Err(Refusal::NoJob),
+    ),
+    (63, Line::Of(OfJob::Int(1, 1)), Err(Refusal::NoJob)),
+    (63, Line::Of(OfJob::Stop), Err(Refusal::NoJob)),
+    (63, Line::Of(OfJob::Cont), Err(Refusal::NoJob)),
+    (63, Line::Of(OfJob::Deposit(0o17, 1)), Err(Refusal::NoJob)),
+    (63, Line::Of(OfJob::Exam(0o17)), Err(Refusal::NoJob)),
+    (63, Line::Of(OfJob::State), Err(Refusal::NoJob)),
+    (63, Line::Of(OfJob::Peek), Err(Refusal::NoJob)),
+    (
+        0,
+        Line::Making(Making::Barred(0o1777)),
+        Ok(Answer::Barred(false)),
+    ),
+    (0, Line::Making(Making::ReadOnly(2)), Err(Refusal::NoPage)),
+    (0, Line::Making(Making::ReadOnly(1)), Ok(Answer::Done)),
+    (
+        0,
+        Line::Making(Making::Barred(0o1777)),
+        Ok(Answer::Barred(true)),
+    ),
+    (
+        0,
+        Line::Making(Making::Barred(0o4000)),
+        Ok(Answer::Barred(false)),
+    ),
+    (
+        95,
+        Line::Making(Making::Barred(0o1777)),
+        Ok(Answer::Barred(false)),
+    ),
+    (
+        0,
+        Line::Making(Making::Word(0o2000, 1)),
+        Err(Refusal::ReadOnly),
+    ),
+    (
+        0,
+        Line::Of(OfJob::Deposit(0o2000, 1)),
+        Err(Refusal::ReadOnly),
+    ),
+    (0, Line::Of(OfJob::Exam(0o2000)), Ok(Answer::Word(0o42))),
+    (95, Line::Making(Making::ReadOnly(1)), Err(Refusal::NoJob)),
+    (95, Line::Making(Making::Symbol(1, 0)), Err(Refusal::NoJob)),
+    (1, Line::Making(Making::Symbol(1, 1)), Ok(Answer::Done)),
     (
         1,
-        Line::State,
+        Line::Of(OfJob::State),
         Ok(Answer::State(None, false, 0o10000_000000, (0, 0), None)),
     ),
-    (1, Line::Symbol(2, 0), Ok(Answer::Done)),
+    (1, Line::Making(Making::Symbol(2, 0)), Ok(Answer::Done)),
     (
         1,
-        Line::State,
+        Line::Of(OfJob::State),
         Ok(Answer::State(None, false, 0o10000_000000, (0, 0), Some((2, 0)))),
     ),
-    (1, Line::Symbol(3, 0), Ok(Answer::Done)),
+    (1, Line::Making(Making::Symbol(3, 0)), Ok(Answer::Done)),
     (
         1,
-        Line::State,
+        Line::Of(OfJob::State),
         Ok(Answer::State(None, false, 0o10000_000000, (0, 0), Some((3, 0)))),
     ),
 ];
@@ -250,7 +298,7 @@ static LINES: [(u8, Line, Result<Answer, Refusal>); 53] = [
 fn lines(rt: HostRuntime) -> Result<(), Fail> {
     let mut m = Monitor::open(rt.alloc())?;
     for (slot, line, want) in LINES.iter() {
-        let got = load_line(&rt, &mut m, at(&rt, *slot), *line);
+        let got = run_line(&rt, &mut m, at(&rt, *slot), *line);
         assert_eq!(rt; got, *want, "{slot}: {line:?}");
     }
     let holder = m.world.holders[3];
