@@ -2,8 +2,8 @@
 //! call does at its commit, and the small changes that it makes outside its own words and registers;
 //! and the names of calls and of variables.
 //!
-//! Proved: `CallName::row` is the table of calls; `CallName::named` gives the call of a name, and `Variable::named` the
-//! variable of a name. The error numbers are those of the definitions (the law `errors_are`).
+//! Proved: `CallName::row` is the table of calls; `CallName::named` gives the call of a name, `CallName::is_siot`
+//! says whether it is SIOT, and `Variable::named` gives the variable of a name. The error numbers are those of the definitions (the law `errors_are`).
 #![tactic(auto)]
 
 mod change;

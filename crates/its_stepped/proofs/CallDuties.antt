@@ -16,7 +16,7 @@ use Rattle.its_frame.specs.declared.name.CallName.TheVariants.{Hang, Sleep}
 use Rattle.its_plain.specs.Arguments.{stores_of, operands_with_values, input, place_of_input, is_shared, debts, with_new_values}
 use Rattle.its_plain.specs.CallBasic.{hang, sleep_tests, sleep, negated, shared_place, read_only, popped, dismissed_by, dismiss_at, dismiss, is_negative, longest_period, alarm_of, realt}
 use Rattle.its_plain.specs.Decide.{call_named}
-use Rattle.its_plain.specs.Interrupt.{after_dismissal, after_dismissal_at, below}
+use Rattle.its_plain.specs.Interrupt.{after_dismissal, after_dismissal_at}
 use Rattle.its_plain.specs.Interrupt as interrupts
 use Rattle.its_plain.specs.Machine.{Machine}
 use Rattle.its_plain.specs.Tests.{◌⇒◌, finishes, fails, goes}
