@@ -13,7 +13,7 @@ fn is_read(rt: &impl Abort, place: Place, line: &str, event: Event) {
     );
 }
 
-/// A line that can stand at this place of a session of version 2, and what is printed of its event.
+/// A line is read at this place of a session of version 2, and its event is printed so.
 fn is_printed(rt: &impl Abort, place: Place, line: &[u8], printed: &[u8]) {
     let mut out = ArrayVec::new();
     let event = read_line(line, place, 2);
@@ -24,8 +24,8 @@ fn is_printed(rt: &impl Abort, place: Place, line: &[u8], printed: &[u8]) {
     assert_eq!(rt; out.as_slice(), printed);
 }
 
-/// Each row of a text is such a line, and is the same in a session of this version. After ` > ` there is what is printed, if that is
-/// not the line itself.
+/// Each row of a text is such a line, and is read as the same event in a session of this version. After ` > ` there is how the event
+/// is printed, if that is not the line itself.
 fn reads(rt: &impl Abort, place: Place, version: u8, rows: &str) {
     for row in rows.split('\n') {
         let (line, printed) = row.split_once(" > ").unwrap_or((row, row));
@@ -87,7 +87,7 @@ fn words_and_bytes(rt: HostRuntime) {
     );
 }
 
-/// Each number and name of a line is the field of its event that it stands for.
+/// Each number and name of a line is in its field of the event.
 #[test]
 fn fields(rt: HostRuntime) {
     let (u, j, s) = (

@@ -32,7 +32,7 @@ fn names(rt: HostRuntime) {
     }
 }
 
-/// Numbers, and the words that are printed of them.
+/// Numbers, and how the word of each is printed.
 const NUMBERS: &str = "0 000000000000
 17 000000000017
 000000000017 000000000017
