@@ -16,7 +16,7 @@ use Rattle.its_plain.specs.Operator.{Block}
 use Rattle.its_plain.specs.Transcript.{Walk, after_letter}
 use Rattle.its_plain.specs.Turns.{is_running}
 use Rattle.its_plain.proofs.StepLaws.{step_by}
-use Rattle.its_verify.specs.Gathered.{Begins, alone, dotted, gathered_by, joined, joined_by, letters_in, letters_of, starred}
+use Rattle.its_verify.specs.Gathered.{Begins, dotted, gathered_by, joined, joined_by, letters_in, letters_of, only_run, starred}
 use Rattle.its_verify.specs.JudgeState.{LeadsOn, RunLed, RunsLed, walk_of}
 use Rattle.its_verify.specs.Letters.{if_so, paced}
 use Rattle.its_verify.specs.declared.gathered.Gathered.{Gathered}
@@ -126,7 +126,7 @@ record Leads (g : Gathered) (r : Run) (h : Gathered) : Type 0 where
 leads_by : (p q : Pace) (g h : Gathered) (r : Run) → g.run.pace ≡ p → r.pace ≡ q → g.dots ≤ most_dots → joined_by p q g r.more ≡ Some h → Leads g r h
 leads_by Step Step g h r first next few is =
     let n = g.run.more + r.more + 1 in
-    let so = so_is (nat_lt n (2 ^ 32)) (alone (record { pace = Step; more = n })) h is in
+    let so = so_is (nat_lt n (2 ^ 32)) (only_run (record { pace = Step; more = n })) h is in
     record {
       few = subst (λ (k : Gathered). k.dots ≤ most_dots) so.1 (omega arith);
       same = λ v i ps. rw (first, next) (all_stars g.run.more g.dots r.more n v i ps few refl) ∙ ap (λ (k : Gathered). paced v i (letters_of k ++ ps)) so.1;
@@ -152,18 +152,18 @@ gathered_leads : (rs : List Run) (g : Gathered) (v : Walk) (i : ℕ) → g.dots 
 gathered_leads [] g v i few = refl
 gathered_leads (r ∷ rs) g v i few = leads_with rs g r (joined g r) v i few refl (λ h less. gathered_leads rs h v i less)
 
-pub begins : (first : Run) (behind rest : List Run) (g : Gathered) → (g, rest) ≡ gathered_by (alone first) behind → Begins first behind g rest
+pub begins : (first : Run) (behind rest : List Run) (g : Gathered) → (g, rest) ≡ gathered_by (only_run first) behind → Begins first behind g rest
 begins first behind rest g is v i =
     ap (λ (ps : List Pace). paced v i (first.pace ∷ ps)) (sym (append_assoc (replicate first.more first.pace) [] (paces_in behind)))
-    ∙ gathered_leads behind (alone first) v i (omega arith)
+    ∙ gathered_leads behind (only_run first) v i (omega arith)
     ∙ ap (λ (k : Gathered × List Run). paced v i (letters_of k.0 ++ paces_in k.1)) (sym is)
 
 -- what is led together is all that may be
-pub stars_fit : (n : ℕ) → n < 2 ^ 32 → Some (alone (record { pace = Step; more = n })) ≡ starred n
-stars_fit n few = sym (ap (λ (b : Bool). if_so b (alone (record { pace = Step; more = n }))) (lt-ltb n (2 ^ 32) few))
+pub stars_fit : (n : ℕ) → n < 2 ^ 32 → Some (only_run (record { pace = Step; more = n })) ≡ starred n
+stars_fit n few = sym (ap (λ (b : Bool). if_so b (only_run (record { pace = Step; more = n }))) (lt-ltb n (2 ^ 32) few))
 
 pub stars_past : (n : ℕ) → 2 ^ 32 ≤ n → None ≡ starred n
-stars_past n many = sym (ap (λ (b : Bool). if_so b (alone (record { pace = Step; more = n }))) (le-ltb n (2 ^ 32) many))
+stars_past n many = sym (ap (λ (b : Bool). if_so b (only_run (record { pace = Step; more = n }))) (le-ltb n (2 ^ 32) many))
 
 pub dots_fit : (r : Run) (n : ℕ) → n ≤ 16 → Some (record { run = r; dots = n }) ≡ dotted r n
 dots_fit r n few = sym (ap (λ (b : Bool). if_so b (record { run = r; dots = n })) (le-leb n most_dots few))

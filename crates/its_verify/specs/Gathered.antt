@@ -11,13 +11,13 @@ use Rattle.its_plain.specs.Transcript.{Walk}
 use Rattle.its_verify.specs.Letters.{if_so, paced}
 use Rattle.its_verify.specs.declared.gathered.Gathered.{Gathered}
 
--- a run alone
-abbrev pub alone : Run → Gathered
-alone r = record { run = r; dots = 0 }
+-- one run, with nothing after it
+abbrev pub only_run : Run → Gathered
+only_run r = record { run = r; dots = 0 }
 
 -- a `*` and so many more are one run, if the number of those after the first fits in 32 bits
 abbrev pub starred : ℕ → Option Gathered
-starred more = if_so (nat_lt more (2 ^ 32)) (alone (record { pace = Step; more = more }))
+starred more = if_so (nat_lt more (2 ^ 32)) (only_run (record { pace = Step; more = more }))
 
 -- a run and so many `.` after it, if so many may come in a row
 abbrev pub dotted : Run → ℕ → Option Gathered

@@ -16,12 +16,12 @@ pub(crate) struct Gathered {
 }
 
 impl Gathered {
-    ghost use Rattle.its_verify.specs.Gathered.{Begins, alone, dotted, gathered_by, joined, starred};
+    ghost use Rattle.its_verify.specs.Gathered.{Begins, dotted, gathered_by, joined, only_run, starred};
 
     /// The letters of a run and of as many after it as may be led with it, and the runs that are left.
     #[tactic(auto, using(crate::proofs::GatheredLaws::begins, crate::proofs::GatheredLaws::gathers_more, crate::proofs::GatheredLaws::gathers_stop, crate::proofs::GatheredLaws::gathers_end))]
     pub(crate) fn with_next(first: Run, behind: &[Run]) -> (Gathered, &[Run])
-        ensures most { (result.0, result.1.now) ≡ gathered_by (alone first) behind.now }
+        ensures most { (result.0, result.1.now) ≡ gathered_by (only_run first) behind.now }
         ensures begins { Begins first behind.now result.0 result.1.now }
         ensures fewer { length result.1.now ≤ length behind.now }
     {

@@ -1,10 +1,10 @@
 use Rattle.std.proofs.Common.{◌≡◌, ◌≤◌, length}
-use Rattle.its_verify.specs.Gathered.{alone, gathered_by}
+use Rattle.its_verify.specs.Gathered.{gathered_by, only_run}
 use Rattle.its_verify.proofs.gathered.Gathered.with_next.Given as goal
 
 abbrev pub invariant-loop-run : goal.invariant-loop-run
 invariant-loop-run l = record {
-  most : gathered_by l.gathered l.rest ≡ gathered_by (alone l.fn.first) l.fn.behind;
+  most : gathered_by l.gathered l.rest ≡ gathered_by (only_run l.fn.first) l.fn.behind;
   fewer : length l.rest ≤ length l.fn.behind;
 }
 
