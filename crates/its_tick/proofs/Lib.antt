@@ -15,3 +15,4 @@ pub mod RunningLaws
 pub mod WaitingLaws
 mod PartLaws
 mod ByteLaws
+mod DueLaws

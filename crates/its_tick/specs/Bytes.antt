@@ -1,6 +1,14 @@
 -- Bytes that SIOT moves, each by one tick.
 -- No promise rests on this.
-use Rattle.std.specs.Prelude.{◌≡◌, ◌<◌, ℕ, Bool, true, false, IfSome, is_some, replicate}
+use Rattle.std.specs.Prelude.{◌≡◌, ◌&&◌, ◌<◌, ℕ, Bool, true, false, not, Option, Some, None, IfSome, is_none, is_some, replicate}
+use Rattle.its_frame.specs.declared.frame.Frame.{Frame}
+use Rattle.its_frame.specs.declared.frame.Frame.TheVariants as frames
+use Rattle.its_frame.specs.declared.frame.Holding.{Holding}
+use Rattle.its_jobs.specs.Table.{job_at}
+use Rattle.its_plain.specs.Machine.{Whole}
+use Rattle.its_records.specs.declared.jobs.Job.{Job}
+use Rattle.its_commit.specs.Carried.{standing_of}
+use Rattle.call_core.specs.Parts.{asks_siot, next_part}
 use Rattle.its_records.specs.declared.calls.Pace.TheVariants.{Step}
 use Rattle.its_stepped.specs.Lines.{paces_of, after_ticks}
 use Rattle.its_stepped.specs.Tick.{tick, tick_in}
@@ -14,6 +22,27 @@ use Rattle.its_tick.specs.Ticks.{ticked}
 -- the tick of the call of slot s keeps the frames of pages
 abbrev pub Still : World → ℕ → Type 0
 Still w s = IfSome (raw_in w s) (λ q. pages_in (state_of w) s q (call_in w s) w.core.frames ≡ w.core.frames)
+
+-- a call that is held without a page is SIOT, and its decoding gave no error
+abbrev pub is_moving : Option Frame → Bool
+is_moving (Some (frames.Holding f)) = is_none f.page && asks_siot f.ask
+is_moving _ = false
+
+-- the call of slot s has a part that is done next
+abbrev pub has_part : World → ℕ → Option Holding → Option Whole → Bool
+has_part w s (Some f) (Some q) = is_some (next_part w.files.mark (state_of w).raw s q f.ask)
+has_part w s _ _ = false
+
+abbrev pub part_due : World → ℕ → Bool
+part_due w s = has_part w s (standing_of (call_in w s)) (raw_in w s)
+
+-- the next tick of slot s moves a byte of SIOT by one change: its job runs, and such a call has such a part
+abbrev pub byte_due_of : World → ℕ → Option Job → Bool
+byte_due_of w s (Some j) = not j.stopped && (is_moving (call_in w s) && part_due w s)
+byte_due_of w s None = false
+
+abbrev pub byte_due : World → ℕ → Bool
+byte_due w s = byte_due_of w s (job_at w.jobs s)
 
 -- a byte is moved, as by a tick of a call
 pub record Carried (old new : World) (s : ℕ) : Type 0 where

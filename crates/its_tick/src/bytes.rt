@@ -1,10 +1,10 @@
 //! Bytes that SIOT moves, one after another.
-ghost use Rattle.std.specs.Prelude.{◌≡◌, ◌≤◌, true, IfSome, is_some};
+ghost use Rattle.std.specs.Prelude.{◌≡◌, ◌<◌, ◌≤◌, true, false, IfSome, is_some};
 ghost use Rattle.its_commit.specs.Carried.{standing_of};
 ghost use Rattle.its_stepped.specs.Duty.{IsTried};
 ghost use Rattle.its_world.specs.World.{call_in};
 ghost use Rattle.its_tick.specs.Kept.{Kept};
-ghost use Rattle.its_tick.specs.Bytes.{ByteMadeIf, BytesMade, CarriedIf};
+ghost use Rattle.its_tick.specs.Bytes.{ByteMadeIf, BytesMade, CarriedIf, byte_due, is_moving, part_due};
 
 use call_basic::change_of;
 use call_core::{is_siot, part};
@@ -21,6 +21,7 @@ pub fn bytes(w: &mut World, slot: Slot, n: u32) -> u32
     requires frame { is_some (call_in w.old slot) ≡ true }
     ensures few { result ≤ n }
     ensures made { BytesMade w.old w.new slot result }
+    ensures most { result < n → byte_due w.new slot ≡ false }
 {
     if is_moving(w, slot) {
         return run_bytes(w, slot, n);
@@ -35,6 +36,7 @@ fn run_bytes(w: &mut World, slot: Slot, n: u32) -> u32
     requires frame { is_some (call_in w.old slot) ≡ true }
     ensures few { result ≤ n }
     ensures made { BytesMade w.old w.new slot result }
+    ensures most { result < n → byte_due w.new slot ≡ false }
 {
     for k in 0..n {
         if !makes_byte(w, slot) {
@@ -47,7 +49,8 @@ fn run_bytes(w: &mut World, slot: Slot, n: u32) -> u32
 /// A tick that moves a byte of SIOT, if the next tick of a slot's job does that by one change; whether it does. If not, nothing changes.
 fn makes_byte(w: &mut World, slot: Slot) -> bool
     requires kept { Kept w.old }
-    ensures { ByteMadeIf result w.old w.new slot }
+    ensures made { ByteMadeIf result w.old w.new slot }
+    ensures due { result ≡ byte_due w.old slot }
 {
     let Some(job) = w.jobs.job(slot) else {
         return false;
@@ -66,6 +69,7 @@ fn makes_byte(w: &mut World, slot: Slot) -> bool
 fn is_moving(w: &World, slot: Slot) -> bool
     ensures stands { result ≡ true → is_some (standing_of (call_in w.now slot)) ≡ true }
     ensures clear { result ≡ true → IfSome (standing_of (call_in w.now slot)) (λ f. IsTried f.page) }
+    ensures moving { result ≡ is_moving (call_in w.now slot) }
 {
     match w.frame(slot) {
         View::Holding {
@@ -84,7 +88,8 @@ fn moves(w: &mut World, slot: Slot) -> bool
     requires kept { Kept w.old }
     requires stands { is_some (standing_of (call_in w.old slot)) ≡ true }
     requires clear { IfSome (standing_of (call_in w.old slot)) (λ f. IsTried f.page) }
-    ensures { CarriedIf result w.old w.new slot }
+    ensures carried { CarriedIf result w.old w.new slot }
+    ensures due { result ≡ part_due w.old slot }
 {
     let (ask, _) = standing(w, slot);
     match part(w, slot, ask) {
