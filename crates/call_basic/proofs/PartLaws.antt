@@ -1,4 +1,5 @@
--- SIOT is stopped by the first of its tests that holds, or moves the byte to which the next pointer points.
+-- SIOT is stopped by the first of its tests that holds, or moves the byte to which the next pointer
+-- points.
 use Rattle.std.specs.Prelude.{◌≡◌, ◌<◌, ◌^◌, ℕ, Bool, true, not, Option, None, IfSome, IfOk, is_some, Result, Ok, Err}
 use Rattle.std.proofs.Common.{sym, ◌∙◌, ap, subst}
 use Rattle.its_word.specs.Byte.{has_size}

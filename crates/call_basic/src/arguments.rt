@@ -56,8 +56,8 @@ pub(crate) fn is_shared(place: u32, ask: &Ask) -> bool
     among(place, &ask.decode) || times(place, &ask.operand) > 1
 }
 
-/// Whether a place is in the footprint of a call: the place of a decode word, or of the word of an input or of the
-/// control argument.
+/// Whether a place is in the footprint of a call: the place of a decode word, or of the word of an
+/// input or of the control argument.
 #[tactic(auto, unfolding(its_plain::specs::Footprint::in_footprint))]
 pub fn in_footprint(place: u32, ask: &Ask) -> bool
     ensures { result ≡ in_footprint place ask.now }

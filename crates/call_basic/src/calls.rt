@@ -1,3 +1,5 @@
+//! The call LOGOUT, and the slot into which a call reaches.
+
 ghost use Rattle.std.specs.Prelude.{◌≡◌, true, is_some, IfSome};
 ghost use Rattle.its_frame.specs.declared.decision.Decision.TheVariants.{Gone};
 ghost use Rattle.its_jobs.specs.Table.{job_at, superior_at};
@@ -26,7 +28,7 @@ pub fn target_of(w: &World, slot: Slot, ask: &Ask) -> Option<u8>
     }
 }
 
-/// The same, by the job's registers.
+/// Into which job a call reaches, by the registers of its caller.
 #[tactic(auto, unfolding(its_plain::specs::Decide::target))]
 fn target(w: &World, slot: Slot, job: &Job, ask: &Ask) -> Option<u8>
     ensures { result ≡ target (raw_with w.now slot job.now) ask.now }

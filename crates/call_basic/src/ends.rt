@@ -95,7 +95,8 @@ pub fn finishes_with(job: &Job, change: Change, stores: ArrayVec<Store, 2>) -> D
     }
 }
 
-/// The call fails: the number is stored at its error address, if it has one, and PC is past the call.
+/// The call fails: the number is stored at its error address, if it has one, and PC is past the
+/// call.
 pub fn fails(job: &Job, ask: &Ask, number: u8) -> Decision
     ensures { result ≡ Ends (record { items = [] }) (record { items = number_at ask.now.error number }) (exit_of (with_advance 1 job.now)) }
 {

@@ -1,11 +1,42 @@
-//! The decisions of the calls SLEEP, DISMIS, USRVAR, LOGOUT and REALT (docs/CALLS.md), and what the calls of several devices have
-//! in common: the ways in which any call ends, what each OPEN asks, and the tests of transfers. A decision is found from the world as
-//! it is, and changes nothing. Also into which job a call reaches.
+//! The decisions of SLEEP, REALT, DISMIS, USRVAR and LOGOUT, and tests of all calls
+//! (docs/CALLS.md). What the calls of several devices have in common is here: the ways in which any
+//! call ends, what each OPEN asks, and the tests of transfers; also into which job a call reaches.
+//! A decision is found from the world as it is, and changes nothing.
 //!
-//! Proved: SLEEP, REALT, DISMIS, USRVAR and LOGOUT decide by their definitions, with every error and fault. `target_of`
-//! says into which job a call reaches.
+//! Proved: SLEEP, REALT, DISMIS, USRVAR and LOGOUT decide by their definitions, with every error
+//! and fault. `target_of` says into which job a call reaches.
+//!
+//! A decision is a value of 208 bytes, and a long SIOT would make, merge and copy one for each of
+//! its bytes. So what SIOT does on a console, a file, a draft or a link is a `Part` (one change,
+//! the byte that is held, and the new pointer and count) or a `Stop` (why no byte is moved). One
+//! form of each function serves the tick, which carries a part out as it is (`moves`,
+//! `carry_part`), and `decide`, which makes the decision of it (`decision_of`). SIOT through an
+//! inferior makes up to two changes and disturbs that job, so it decides like any other call.
+//!
+//! The change of a part is a type of its own (`Moved`), with the six changes that SIOT makes. A
+//! `Change` has 48 bytes, and its variants have their values in places that overlap, so the
+//! compiler keeps it in memory and copies it. The values of a `Moved` stay in registers, and what a
+//! byte does is chosen once.
+//!
+//! The tests of the words that SIOT reads are one pass: `are_apart` compares each decode word with
+//! the words of pointer and count and with the next byte's word at once. If it says that they are
+//! apart, no test of them holds; else each test is made in its place in the order. It knows calls
+//! of two or three argument words, and looks at six decode words without a loop.
+//!
+//! Tests: test_decisions/src/basic.rt, test_calls/src/calls.rt.
 #![tactic(auto)]
 
+// The files:
+// - `sleeping.rt`: SLEEP
+// - `arming.rt`: REALT
+// - `returning.rt`: DISMIS
+// - `setting.rt`, `variables.rt`: USRVAR
+// - `calls.rt`: LOGOUT, and into which job a call reaches
+// - `arguments.rt`: the arguments of a call
+// - `ends.rt`: the ways in which a call ends
+// - `opening.rt`: the control argument of any OPEN, and the test that its channel is closed
+// - `party.rt`: the job that a call is on
+// - `transfer.rt`: the tests of any transfer
 mod arguments;
 mod arming;
 mod calls;

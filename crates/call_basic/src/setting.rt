@@ -1,3 +1,5 @@
+//! The call USRVAR: a variable of the job itself, or of another one.
+
 ghost use Rattle.std.specs.Prelude.{◌≡◌, Some};
 ghost use Rattle.its_frame.specs.declared.name.CallName.TheVariants.{Usrvar};
 ghost use Rattle.its_plain.specs.Arguments.{has_input, input};
@@ -19,9 +21,9 @@ use its_records::{Ask, Channel, Job};
 use its_word::{Slot, Word};
 use its_world::World;
 
-/// USRVAR job, name, optional new value: the output gets the value before, and then the new value is set. Errors 4 if
-/// the channel is closed, 5 if it is on no job, 22 if no variable has the name, 5 if the channel has no leave to
-/// write, and 22 if the variable cannot be set so.
+/// USRVAR job, name, optional new value: the output gets the value before, and then the new value
+/// is set. Errors 4 if the channel is closed, 5 if it is on no job, 22 if no variable has the name,
+/// 5 if the channel has no leave to write, and 22 if the variable cannot be set so.
 #[tactic(auto, using(its_machine::proofs::NumberLaws::under, crate::proofs::RawLaws::usrvar_target), unfolding(its_plain::specs::CallBasic::usrvar, its_plain::specs::View::view, its_world::specs::World::state_of))]
 pub fn usrvar(w: &World, slot: Slot, job: &Job, ask: &Ask) -> Decision
     requires fail { ask.now.fail ≡ 0 }
@@ -57,7 +59,8 @@ fn own_variable(w: &World, slot: Slot, job: &Job, ask: &Ask) -> Decision
     set_own(w, slot, job, ask, variable)
 }
 
-/// The output gets the value of a variable of one's own, and then the new value is set, if there is one.
+/// The output gets the value of a variable of one's own, and then the new value is set, if there is
+/// one.
 #[tactic(auto, using(its_machine::proofs::BareLaws::set_bare), unfolding(its_plain::specs::View::view, its_world::specs::World::state_of))]
 fn set_own(w: &World, slot: Slot, job: &Job, ask: &Ask, variable: Variable) -> Decision
     ensures { result ≡ set_own (seen_by w.now slot job.now ask.now) ask.now variable (has_input ask.now 2) }

@@ -1,3 +1,5 @@
+//! The call SLEEP.
+
 ghost use Rattle.std.specs.Prelude.{◌≡◌, ◌+◌, ◌∷◌, [], None};
 ghost use Rattle.its_core.specs.Cores.{core_at};
 ghost use Rattle.its_plain.specs.CallBasic.{is_negative, negated, read_only, shared_place, sleep};
@@ -18,8 +20,8 @@ const LONGEST_SLEEP: u64 = 0o200000000000;
 /// How many values a word has.
 const WORDS: u64 = 0o1000000000000;
 
-/// SLEEP n: for n above 0 its argument becomes minus the time of waking; for n below 0 it waits for that time. Errors
-/// 22 if n is too long, 17 if n is no word of its own, and WRO.
+/// SLEEP n: for n above 0 its argument becomes minus the time of waking; for n below 0 it waits for
+/// that time. Errors 22 if n is too long, 17 if n is no word of its own, and WRO.
 #[tactic(auto, unfolding(its_plain::specs::CallBasic::sleep, its_plain::specs::View::view, its_world::specs::World::state_of))]
 pub fn sleep(w: &World, slot: Slot, job: &Job, ask: &Ask) -> Decision
     ensures { result ≡ sleep (seen_by w.now slot job.now ask.now) ask.now }
@@ -54,8 +56,8 @@ pub fn is_negative(word: u64) -> bool
     word >= WORDS / 2
 }
 
-/// Whether the argument has no word of its own: it is immediate, or its word is a decode word or that of
-/// another argument.
+/// Whether the argument has no word of its own: it is immediate, or its word is a decode word or
+/// that of another argument.
 pub fn is_shared_place(ask: &Ask, place: Option<u32>) -> bool
     ensures { result ≡ shared_place ask.now place }
 {

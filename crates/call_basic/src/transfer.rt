@@ -1,4 +1,5 @@
-//! What `.IOT` and SIOT have in common, whatever their channel is on: SIOT's tests, and the ways in which they move a byte or a word.
+//! What `.IOT` and SIOT have in common, whatever their channel is on: SIOT's tests, and the ways in
+//! which they move a byte or a word.
 ghost use Rattle.std.specs.Prelude.{◌≡◌, ◌==◌, ◌||◌, ◌∷◌, ◌-◌, [], true, false, IfOk};
 ghost use Rattle.std.specs.Option.{option_to_list};
 ghost use Rattle.its_word.specs.Byte.{size};
@@ -38,7 +39,8 @@ const SIZES: u32 = 0o100;
 /// S of a pointer to whole words.
 const WORD_BITS: u32 = 36;
 
-/// `.IOT` is done: at most one thing changes outside its job's words and registers, and PC is past it.
+/// `.IOT` is done: at most one thing changes outside its job's words and registers, and PC is past
+/// it.
 pub fn iot_ends(job: &Job, change: Option<Change>, stores: ArrayVec<Store, 2>) -> Decision
     ensures { result ≡ Ends (record { items = option_to_list change }) stores (exit_of (with_advance 1 job.now)) }
 {
@@ -66,7 +68,8 @@ pub fn bar_of_store(w: &World, slot: Slot, at: u32) -> Option<Fault>
     None
 }
 
-/// Why SIOT moves no byte: it fails with a number; it faults; its bytes are moved, or its channel is at its end; or it cannot go on.
+/// Why SIOT moves no byte: it fails with a number; it faults; its bytes are moved, or its channel
+/// is at its end; or it cannot go on.
 #[derive(Clone, Copy, Debug, PartialEq, Eq)]
 pub enum Stop {
     Fails(u8),
@@ -75,8 +78,9 @@ pub enum Stop {
     Waits(Wait),
 }
 
-/// What changes if SIOT moves a byte or a word, outside its job's own words and registers: the position of a channel; the draft of a channel; the
-/// input or the output of a console; or the words of a link. Each is a `Change`; this type has no other, and is small.
+/// What changes if SIOT moves a byte or a word, outside its job's own words and registers: the
+/// position of a channel; the draft of a channel; the input or the output of a console; or the
+/// words of a link. Each is a `Change`; this type has no other, and is small.
 #[derive(Clone, Copy, Debug, PartialEq, Eq)]
 pub enum Moved {
     Move { channel: u8, at: u32 },
@@ -102,7 +106,8 @@ pub fn change_of(moved: Moved) -> Change
     }
 }
 
-/// A part of SIOT that moves one byte: what changes, the byte that is held if it is input, and the pointer and count of the rest.
+/// A part of SIOT that moves one byte: what changes, the byte that is held if it is input, and the
+/// pointer and count of the rest.
 #[derive(Clone, Copy, Debug, PartialEq, Eq)]
 pub struct Part {
     pub moved: Moved,
@@ -111,9 +116,10 @@ pub struct Part {
     pub left: Word,
 }
 
-/// The pointer to the byte that SIOT moves next, whatever its channel is on; or the first of its tests that holds: errors 17, WRO, 21, 22,
-/// the end with count 0 or if `ended` says that the channel is at its end (of a file or of an inferior's core), and error 20. `words` says
-/// that its device moves only whole words.
+/// The pointer to the byte that SIOT moves next, whatever its channel is on; or the first of its
+/// tests that holds: errors 17, WRO, 21, 22, the end with count 0 or if `ended` says that the
+/// channel is at its end (of a file or of an inferior's core), and error 20. `words` says that its
+/// device moves only whole words.
 #[inline(always)]
 #[tactic(auto, unfolding(its_plain::specs::View::view, its_world::specs::World::state_of))]
 pub fn next_byte(w: &World, slot: Slot, ask: &Ask, words: bool, ended: bool) -> Result<Word, Stop>
@@ -148,7 +154,8 @@ pub fn next_byte(w: &World, slot: Slot, ask: &Ask, words: bool, ended: bool) -> 
     Ok(next)
 }
 
-/// Whether the word of pointer or count is an argument without a word of its own. `apart` may say that neither is.
+/// Whether the word of pointer or count is an argument without a word of its own. `apart` may say
+/// that neither is.
 #[inline(always)]
 fn is_one_shared(ask: &Ask, p: Option<u32>, k: Option<u32>, apart: bool) -> bool
     requires { apart ≡ true → (shared_place ask.now p || shared_place ask.now k) ≡ false }
@@ -261,7 +268,8 @@ pub fn one_less(count: Word) -> Word
     Word::new(count.value().saturating_sub(1))
 }
 
-/// A byte is moved: one thing changes, a byte may be held, and pointer and count become those of the rest.
+/// A byte is moved: one thing changes, a byte may be held, and pointer and count become those of
+/// the rest.
 pub fn moves(change: Change, held: Option<Held>, next: Word, count: Word) -> Decision
     ensures { result ≡ goes (change ∷ []) held (next ∷ (count - 1) ∷ []) }
 {
@@ -270,7 +278,7 @@ pub fn moves(change: Change, held: Option<Held>, next: Word, count: Word) -> Dec
     moves_with(changes, held, next, count)
 }
 
-/// The same with several changes.
+/// Several things change, a byte may be held, and pointer and count become those of the rest.
 pub fn moves_with(
     changes: ArrayVec<Change, 2>,
     held: Option<Held>,
@@ -282,7 +290,8 @@ pub fn moves_with(
     goes_with(changes, held, next, one_less(count))
 }
 
-/// A part of the call is done: these changes, a byte may be held, and its last two arguments have new values.
+/// A part of the call is done: these changes, a byte may be held, and its last two arguments have
+/// new values.
 fn goes_with(changes: ArrayVec<Change, 2>, held: Option<Held>, next: Word, left: Word) -> Decision
     ensures { result ≡ Goes changes held (record { items = next ∷ left ∷ [] }) }
 {

@@ -43,8 +43,8 @@ pub(crate) fn by_superior(variable: Variable) -> bool
     }
 }
 
-/// The registers of a job whose call finishes and sets one of its own variables. Its stopped mark, its
-/// names and its console are no part of them.
+/// The registers of a job whose call finishes and sets one of its own variables. Its stopped mark,
+/// its names and its console are no part of them.
 #[tactic(auto, unfolding(its_plain::specs::Own::with_variable))]
 pub(crate) fn exit_with(job: &Job, variable: Variable, value: Word) -> Exit
     ensures { result ≡ exit_of (with_variable variable value (with_advance 2 job.now)) }

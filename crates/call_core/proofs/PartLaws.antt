@@ -1,4 +1,5 @@
--- A part of SIOT is the decision of its call, which reaches no other job; and each such decision is a part.
+-- A part of SIOT is the decision of its call, which reaches no other job; and each such decision is
+-- a part.
 use Rattle.std.specs.Prelude.{if◌then◌else◌, ◌==◌, ◌≡◌, ◌&&◌, ℕ, Bool, true, false, List, Option, Some, None, Result, Ok, Err, IfSome, [], option_map, refl}
 use Rattle.std.proofs.Common.{sym, ◌∙◌, ap}
 use Rattle.std.proofs.lemmas.Bool.{eq-eqb}

@@ -33,8 +33,8 @@ moved_of (changes.Send l w) = Some (moved.Send l w)
 moved_of (changes.Receive l) = Some (moved.Receive l)
 moved_of _ = None
 
--- the part that a decision does: a call that goes on does one if it makes one such change and gives two arguments new
--- values. No other decision does one
+-- the part that a decision does: a call that goes on does one if it makes one such change and gives
+-- two arguments new values. No other decision does one
 abbrev pub going_part : List Change → Option Held → List ℕ → Option Part
 going_part (c ∷ []) h (next ∷ left ∷ []) = option_map (λ m. record { moved = m; held = h; next = next; left = left }) (moved_of c)
 going_part _ h _ = None
@@ -47,8 +47,8 @@ part_by _ = None
 abbrev pub asks_siot : Ask → Bool
 asks_siot a = (a.fail == 0) && is_siot (call_named a.name)
 
--- the part of a call that is done next: that of its decision, if it is such a SIOT, it reaches no other job, and no close
--- is half made
+-- the part of a call that is done next: that of its decision, if it is such a SIOT, it reaches no
+-- other job, and no close is half made
 abbrev pub going_alone : List ℕ → Decision → Option Part
 going_alone [] d = part_by d
 going_alone (k ∷ ks) d = None

@@ -1,3 +1,6 @@
+//! The choice of the crate that decides a call, by its name; which call can go on, and which needs
+//! a page.
+
 ghost use Rattle.std.specs.Prelude.{◌≡◌, true, not, is_some, IfSome, None, Some, []};
 ghost use Rattle.its_frame.specs.declared.name.CallName.TheVariants.{Siot};
 ghost use Rattle.its_jobs.specs.Table.{job_at};
@@ -37,9 +40,10 @@ pub fn decide(w: &World, slot: Slot, ask: &Ask) -> Decision
     }
 }
 
-/// The part of the call of a slot's job that is done next, if the call is SIOT and moves a byte by one change. Then it reaches no
-/// other job, and no close is half made. None says that the call is not SIOT or its decoding gave an error, that a close is half made,
-/// that the call reaches another job, or that its decision is no such part.
+/// The part of the call of a slot's job that is done next, if the call is SIOT and moves a byte by
+/// one change. Then it reaches no other job, and no close is half made. None says that the call is
+/// not SIOT or its decoding gave an error, that a close is half made, that the call reaches another
+/// job, or that its decision is no such part.
 #[tactic(auto, using(crate::proofs::PartLaws::part_other))]
 pub fn part(w: &World, slot: Slot, ask: &Ask) -> Option<Part>
     requires job { is_some (job_at w.now.jobs slot) ≡ true }
@@ -59,7 +63,7 @@ pub fn part(w: &World, slot: Slot, ask: &Ask) -> Option<Part>
     }
 }
 
-/// The same if no close is half made.
+/// The part of a SIOT that is done next, if no close is half made.
 fn unmarked_part(w: &World, slot: Slot, ask: &Ask) -> Option<Part>
     requires job { is_some (job_at w.now.jobs slot) ≡ true }
     requires fail { ask.now.fail ≡ 0 }
@@ -101,8 +105,8 @@ pub fn ready(w: &World, slot: Slot, ask: &Ask) -> bool
     }
 }
 
-/// The decision of the call of a job with these registers: the one place that says which function, of which crate, serves a call. An
-/// error of its decoding comes first.
+/// The decision of the call of a job with these registers: the one place that says which function,
+/// of which crate, serves a call. An error of its decoding comes first.
 #[tactic(auto, unfolding(its_plain::specs::Decide::decided, its_plain::specs::View::view, its_world::specs::World::state_of))]
 fn decided(w: &World, slot: Slot, job: &Job, ask: &Ask) -> Decision
     requires job { job_at w.now.jobs slot ≡ Some job.now }
@@ -139,7 +143,8 @@ fn decided(w: &World, slot: Slot, job: &Job, ask: &Ask) -> Decision
     }
 }
 
-/// Whether a call reserves a page before it is tried: one that makes a page, whose decoding gave no error.
+/// Whether a call reserves a page before it is tried: one that makes a page, whose decoding gave no
+/// error.
 #[tactic(auto, unfolding(its_stepped::specs::Tick::reserves))]
 pub fn reserves(ask: &Ask) -> bool
     ensures { result ≡ reserves ask.now }

@@ -1,4 +1,5 @@
-//! The calls that devices share: OPEN by its device; CLOSE, `.IOT` and SIOT by what the channel is on.
+//! The calls that devices share: OPEN by its device; CLOSE, `.IOT` and SIOT by what the channel is
+//! on.
 ghost use Rattle.std.specs.Prelude.{if◌then◌else◌, ◌≡◌, ◌<◌, ◌∷◌, [], true, false, None, Some, IfSome};
 ghost use Rattle.its_frame.specs.declared.change.Change.TheVariants.{Shut};
 ghost use Rattle.its_frame.specs.declared.decision.Decision.TheVariants.{Ends};
@@ -44,8 +45,8 @@ pub(crate) fn open(w: &World, slot: Slot, job: &Job, ask: &Ask) -> Decision
     }
 }
 
-/// CLOSE by what the channel is on: a draft becomes a file, an end of a link is closed, any other channel is closed alone. Error 4, and
-/// those of a draft.
+/// CLOSE by what the channel is on: a draft becomes a file, an end of a link is closed, any other
+/// channel is closed alone. Error 4, and those of a draft.
 #[tactic(auto, using(call_file::proofs::HeldLaws::reading, call_file::proofs::HeldLaws::writing, its_machine::proofs::NumberLaws::numbers), unfolding(its_plain::specs::CallDevice::close_call, its_plain::specs::View::view, its_world::specs::World::state_of))]
 pub(crate) fn close(w: &World, slot: Slot, job: &Job, ask: &Ask) -> Decision
     requires job { job_at w.now.jobs slot ≡ Some job.now }
@@ -130,8 +131,9 @@ pub(crate) fn siot(w: &World, slot: Slot, job: &Job, ask: &Ask) -> Decision
     }
 }
 
-/// The part of SIOT that is done next, if its channel is on a console, a file, a draft or a link and a byte can be moved: exactly the
-/// part that its decision does, but for a channel on an inferior.
+/// The part of SIOT that is done next, if its channel is on a console, a file, a draft or a link
+/// and a byte can be moved: exactly the part that its decision does, but for a channel on an
+/// inferior.
 #[tactic(auto, using(call_file::proofs::HeldLaws::reading, call_file::proofs::HeldLaws::writing), unfolding(its_plain::specs::CallDevice::siot_call, its_plain::specs::View::view, its_world::specs::World::state_of))]
 pub(crate) fn siot_part(w: &World, slot: Slot, job: &Job, ask: &Ask) -> Option<Part>
     requires job { job_at w.now.jobs slot ≡ Some job.now }

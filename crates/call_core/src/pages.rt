@@ -29,8 +29,9 @@ const PAGES: u64 = 0o377;
 /// How many pages all jobs have at most.
 const MAPPED: u32 = 1024;
 
-/// CORBLK operation, job, page: drops a page (0), makes one of zeros (1), or makes it read only (2) or writable (3). Errors 22, 4, 5;
-/// 22 by the page, 16 if it exists, for operation 1, or is absent, for any other; 15 if all jobs together have 1024 pages.
+/// CORBLK operation, job, page: drops a page (0), makes one of zeros (1), or makes it read only (2)
+/// or writable (3). Errors 22, 4, 5; 22 by the page, 16 if it exists, for operation 1, or is
+/// absent, for any other; 15 if all jobs together have 1024 pages.
 #[tactic(auto, using(its_machine::proofs::NumberLaws::under, crate::proofs::OtherLaws::other_few), unfolding(its_plain::specs::CallCore::corblk, its_plain::specs::View::view, its_world::specs::World::state_of))]
 pub(crate) fn corblk(w: &World, slot: Slot, job: &Job, ask: &Ask) -> Decision
     requires fail { ask.now.fail ≡ 0 }

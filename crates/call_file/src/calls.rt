@@ -22,7 +22,8 @@ pub fn is_disk(ask: &Ask) -> bool
     input(ask, 1).value() == DSK
 }
 
-/// Whether a call of a slot's job is one on files, before whose commit the pending parts of a half made close are performed.
+/// Whether a call of a slot's job is one on files, before whose commit the pending parts of a half
+/// made close are performed.
 pub fn helps(w: &World, slot: Slot, ask: &Ask) -> bool
     ensures { IfSome (raw_in w.now slot) (λ q. result ≡ helps q ask.now) }
 {
@@ -32,7 +33,8 @@ pub fn helps(w: &World, slot: Slot, ask: &Ask) -> bool
     }
 }
 
-/// The same, by the job's registers: its name, its device, or what its channel is on.
+/// Whether a call is one on files, by the job's registers: its name, its device, or what its
+/// channel is on.
 #[tactic(auto, using(crate::proofs::RawLaws::on_file), unfolding(its_stepped::specs::Tick::helps))]
 fn is_on_files(w: &World, slot: Slot, job: &Job, ask: &Ask) -> bool
     ensures { result ≡ helps (raw_with w.now slot job.now) ask.now }

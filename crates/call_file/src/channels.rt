@@ -25,7 +25,8 @@ const END_OF_CORE: u32 = ADDRESSES;
 /// How many files there are at most.
 const FILES: u32 = 256;
 
-/// OPEN channel, DSK, name 1, name 2, directory: a file for input, or a new draft with control 1. Errors 4, 22, 6.
+/// OPEN channel, DSK, name 1, name 2, directory: a file for input, or a new draft with control 1.
+/// Errors 4, 22, 6.
 #[tactic(auto, using(call_basic::proofs::ChannelLaws::free), unfolding(its_plain::specs::CallFile::opens_disk, its_plain::specs::View::view, its_world::specs::World::state_of))]
 pub fn open_disk(w: &World, slot: Slot, job: &Job, ask: &Ask) -> Decision
     ensures { result ≡ opens_disk (seen_by w.now slot job.now ask.now) ask.now }
@@ -59,7 +60,8 @@ fn opened(control: u64, d: Word, x: Word, y: Word) -> Opened
     }
 }
 
-/// CLOSE of a draft. Errors 11 if a channel reads the file that it would replace, 7 if it replaces none and there are 256 files.
+/// CLOSE of a draft. Errors 11 if a channel reads the file that it would replace, 7 if it replaces
+/// none and there are 256 files.
 #[tactic(auto, using(its_files::proofs::EntryLaws::draft_stands, its_machine::proofs::SeenLaws::seen_count), unfolding(its_plain::specs::CallFile::closes_draft, its_plain::specs::View::view, its_world::specs::World::state_of))]
 pub fn close_draft(w: &World, slot: Slot, job: &Job, ask: &Ask, draft: u32) -> Decision
     requires number { input ask.now 0 < 16 }
@@ -80,8 +82,8 @@ pub fn close_draft(w: &World, slot: Slot, job: &Job, ask: &Ask, draft: u32) -> D
     finishes_with(job, change, ArrayVec::new())
 }
 
-/// ACCESS channel, position: the next word that a file gives, or that a channel on an inferior is at. Errors 4, 5, 22 if the position
-/// is past the end.
+/// ACCESS channel, position: the next word that a file gives, or that a channel on an inferior is
+/// at. Errors 4, 5, 22 if the position is past the end.
 #[tactic(auto, using(crate::proofs::HeldLaws::reading), unfolding(its_plain::specs::CallFile::access, its_plain::specs::View::view, its_world::specs::World::state_of))]
 pub fn access(w: &World, slot: Slot, job: &Job, ask: &Ask) -> Decision
     requires job { job_at w.now.jobs slot ≡ Some job.now }

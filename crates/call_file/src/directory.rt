@@ -17,7 +17,8 @@ use its_world::World;
 /// The device of files, in SIXBIT.
 pub(crate) const DSK: u64 = 0o446353000000;
 
-/// The directory, name 1 and name 2 of a file: the two names and the directory are the arguments from k on.
+/// The directory, name 1 and name 2 of a file: the two names and the directory are the arguments
+/// from k on.
 pub(crate) fn names_from(ask: &Ask, k: usize) -> [Word; 3]
     requires { k < 8 }
     ensures { result ≡ names_from ask.now k }
@@ -61,7 +62,8 @@ fn has_readers(w: &World, file: Option<u32>) -> bool
     }
 }
 
-/// Why a file is neither deleted nor renamed: error 5 if the device is not DSK, 6 if there is no such file, 11 if a channel reads it.
+/// Why a file is neither deleted nor renamed: error 5 if the device is not DSK, 6 if there is no
+/// such file, 11 if a channel reads it.
 #[tactic(auto, unfolding(its_plain::specs::View::view, its_world::specs::World::state_of))]
 fn barred(w: &World, slot: Slot, job: &Job, ask: &Ask) -> Option<Decision>
     requires { Tidy w.now }
@@ -97,8 +99,8 @@ pub fn delete(w: &World, slot: Slot, job: &Job, ask: &Ask) -> Decision
     finishes_with(job, change, ArrayVec::new())
 }
 
-/// RENAME device, name 1, name 2, directory, new name 1, new name 2. Errors 5, 6, 11, and 23 if a file of the
-/// directory has the new names, itself included.
+/// RENAME device, name 1, name 2, directory, new name 1, new name 2. Errors 5, 6, 11, and 23 if a
+/// file of the directory has the new names, itself included.
 #[tactic(auto, unfolding(its_plain::specs::CallFile::rename, its_plain::specs::View::view, its_world::specs::World::state_of))]
 pub fn rename(w: &World, slot: Slot, job: &Job, ask: &Ask) -> Decision
     requires { Tidy w.now }

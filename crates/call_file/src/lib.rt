@@ -1,8 +1,13 @@
-//! The decisions of the calls on files: OPEN, CLOSE, `.IOT` and SIOT if their device is DSK; ACCESS, FILLEN, DELETE and RENAME
-//! (docs/CALLS.md, "Files"). A decision is found from the world as it is, and changes nothing. Also which calls are those on files.
+//! The decisions of calls on files: OPEN and transfers; directory calls (docs/CALLS.md, "Files").
+//! These are OPEN, CLOSE, `.IOT` and SIOT if their device is DSK; ACCESS, FILLEN, DELETE and
+//! RENAME. Also which calls are those on files. A decision is found from the world as it is, and
+//! changes nothing.
 //!
-//! Proved: OPEN of DSK, CLOSE of a draft, `.IOT` and SIOT on files and drafts, ACCESS, FILLEN, DELETE and RENAME decide
-//! by their definitions, with every error and fault in their order. `helps` says whether a call is on files.
+//! Proved: OPEN of DSK, CLOSE of a draft, `.IOT` and SIOT on files and drafts, ACCESS, FILLEN,
+//! DELETE and RENAME decide by their definitions, with every error and fault in their order.
+//! `helps` says whether a call is on files.
+//!
+//! Tests: test_calls/src/files.rt.
 #![tactic(auto)]
 
 mod calls;

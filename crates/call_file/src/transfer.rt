@@ -33,8 +33,8 @@ fn word_at(w: &World, file: u32, at: u32) -> Option<Word>
     w.files.word_at(file, at)
 }
 
-/// `.IOT` from a file: the word at its position, which is then one more; 777777000003 at its end. MPV or WRO by the word at
-/// E.
+/// `.IOT` from a file: the word at its position, which is then one more; 777777000003 at its end.
+/// MPV or WRO by the word at E.
 #[tactic(auto, unfolding(its_plain::specs::View::view, its_world::specs::World::state_of))]
 pub fn iot_reads(w: &World, slot: Slot, job: &Job, ask: &Ask, file: u32, at: u32) -> Decision
     requires number { input ask.now 0 < 16 }
@@ -113,7 +113,8 @@ pub fn siot_reads(
     }
 }
 
-/// The same if no test stops it.
+/// SIOT from a file once no test stops it: the word at its position is held, with the pointer and
+/// the count of the rest.
 #[inline(always)]
 #[tactic(auto, unfolding(its_plain::specs::View::view, its_world::specs::World::state_of))]
 fn siot_read(
@@ -160,7 +161,8 @@ pub fn siot_writes(w: &World, slot: Slot, job: &Job, ask: &Ask, draft: u32) -> R
     }
 }
 
-/// The same if no test stops it.
+/// SIOT to a draft once no test stops it: the byte becomes a word at its end. Error 10 if there is
+/// no room.
 #[inline(always)]
 #[tactic(auto, using(its_machine::proofs::StopLaws::loaded_fits, crate::proofs::SeenLaws::seen_full, its_files::proofs::EntryLaws::draft_stands), unfolding(its_plain::specs::View::view, its_world::specs::World::state_of))]
 fn siot_write(

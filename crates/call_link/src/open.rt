@@ -27,8 +27,9 @@ pub fn is_link(ask: &Ask) -> bool
     input(ask, 1).value() == LNK
 }
 
-/// OPEN channel, LNK, name 1, name 2: the reading end, or with control 1 the writing end, of the link with these names. Errors 4, 22;
-/// 24 if the end is open or was open, 25 if no link has the names and there are 16.
+/// OPEN channel, LNK, name 1, name 2: the reading end, or with control 1 the writing end, of the
+/// link with these names. Errors 4, 22; 24 if the end is open or was open, 25 if no link has the
+/// names and there are 16.
 #[tactic(auto, using(call_basic::proofs::ChannelLaws::free), unfolding(its_plain::specs::CallLink::opens_link, its_plain::specs::View::view, its_world::specs::World::state_of))]
 pub fn open_link(w: &World, slot: Slot, job: &Job, ask: &Ask) -> Decision
     ensures { result ≡ opens_link (seen_by w.now slot job.now ask.now) ask.now }
@@ -44,7 +45,8 @@ pub fn open_link(w: &World, slot: Slot, job: &Job, ask: &Ask) -> Decision
     opens_end(w, slot, job, ask, number.value() as u8, control == 1)
 }
 
-/// The end with the names of OPEN is opened, if nobody has opened it before; without a link of these names one is made.
+/// The end with the names of OPEN is opened, if nobody has opened it before; without a link of
+/// these names one is made.
 #[tactic(auto, unfolding(its_plain::specs::View::view, its_world::specs::World::state_of))]
 fn opens_end(w: &World, slot: Slot, job: &Job, ask: &Ask, n: u8, write: bool) -> Decision
     ensures { result ≡ opens_end (seen_by w.now slot job.now ask.now) ask.now n write (input ask.now 2) (input ask.now 3) (link_named (seen_by w.now slot job.now ask.now).links (input ask.now 2) (input ask.now 3)) }

@@ -86,7 +86,8 @@ pub fn siot_link(
     }
 }
 
-/// SIOT from a link: its first word is held, and its low bits stored by the next step. At the end of the link it finishes.
+/// SIOT from a link: its first word is held, and its low bits stored by the next step. At the end
+/// of the link it finishes.
 #[inline(always)]
 #[tactic(auto, unfolding(its_plain::specs::View::view, its_world::specs::World::state_of))]
 fn siot_receives(w: &World, slot: Slot, job: &Job, ask: &Ask, link: u8) -> Result<Part, Stop>
@@ -98,7 +99,8 @@ fn siot_receives(w: &World, slot: Slot, job: &Job, ask: &Ask, link: u8) -> Resul
     }
 }
 
-/// The same if no test of its arguments stops it.
+/// SIOT from a link once no test of its arguments stops it: the first word is held, if there is
+/// one.
 #[inline(always)]
 #[tactic(auto, unfolding(its_plain::specs::View::view, its_world::specs::World::state_of))]
 fn siot_receive(
@@ -142,7 +144,8 @@ fn siot_sends(w: &World, slot: Slot, job: &Job, ask: &Ask, link: u8) -> Result<P
     }
 }
 
-/// The same if no test of its arguments stops it.
+/// SIOT to a link once no test of its arguments stops it: the byte becomes a word, which is sent if
+/// there is room. Error 26 if the reading end is closed.
 #[inline(always)]
 #[tactic(auto, using(its_machine::proofs::StopLaws::loaded_fits), unfolding(its_plain::specs::View::view, its_world::specs::World::state_of))]
 fn siot_send(

@@ -1,8 +1,10 @@
-//! The decisions of the calls on consoles: OPEN, `.IOT` and SIOT if they are on one, FINISH, LISTEN and TTYLND
-//! (docs/CALLS.md, "Consoles"). A decision is found from the world as it is, and changes nothing.
+//! The decisions of calls on consoles: OPEN, .IOT, SIOT, FINISH, LISTEN and TTYLND (docs/CALLS.md,
+//! "Consoles"). A decision is found from the world as it is, and changes nothing.
 //!
-//! Proved: OPEN of TTY, `.IOT` and SIOT on consoles, FINISH, LISTEN and TTYLND decide by their definitions, with every
-//! error, fault and wait in their order.
+//! Proved: OPEN of TTY, `.IOT` and SIOT on consoles, FINISH, LISTEN and TTYLND decide by their
+//! definitions, with every error, fault and wait in their order.
+//!
+//! Tests: test_decisions/src/consoles.rt, test_lines/src/consoles.rt, test_calls/src/waits.rt.
 #![tactic(auto)]
 
 mod consoles;

@@ -1,3 +1,5 @@
+//! `.IOT` and SIOT on consoles.
+
 ghost use Rattle.std.specs.Prelude.{◌≡◌, true, false, slice_index_or, unwrap_or};
 ghost use Rattle.its_word.specs.Byte.{has_size};
 ghost use Rattle.its_plain.specs.Arguments.{input};
@@ -18,7 +20,8 @@ use its_world::World;
 /// The bits of a byte that a console shows.
 const SHOWN: u64 = 0o177;
 
-/// `.IOT` from a console: its first byte becomes the word at E, right-justified. MPV or WRO by the word.
+/// `.IOT` from a console: its first byte becomes the word at E, right-justified. MPV or WRO by the
+/// word.
 #[tactic(auto, unfolding(its_plain::specs::View::view, its_world::specs::World::state_of))]
 pub fn iot_in(w: &World, slot: Slot, job: &Job, ask: &Ask) -> Decision
     ensures { result ≡ iot_in (seen_by w.now slot job.now ask.now) (slice_index_or ask.now.outputs.items 0 0) (unwrap_or job.now.console 0) }
@@ -63,7 +66,8 @@ fn shown(word: Word) -> u8
     (word.value() & SHOWN) as u8
 }
 
-/// SIOT from a console: one byte, which is held and stored by the next step; pointer and count become those of the rest.
+/// SIOT from a console: one byte, which is held and stored by the next step; pointer and count
+/// become those of the rest.
 #[inline(always)]
 pub fn siot_in(w: &World, slot: Slot, job: &Job, ask: &Ask) -> Result<Part, Stop>
     ensures { part_of job.now ask.now result ≡ siot_by (seen_by w.now slot job.now ask.now) ask.now false false (siot_in (seen_by w.now slot job.now ask.now) ask.now (next_pointer (input ask.now 1)) (input ask.now 2) (unwrap_or job.now.console 0)) }

@@ -1,3 +1,5 @@
+//! FINISH, LISTEN and TTYLND.
+
 ghost use Rattle.std.specs.Prelude.{◌≡◌, unwrap_or};
 ghost use Rattle.its_plain.specs.CallTty.{finish, lands, listen, listens, ttylnd};
 ghost use Rattle.its_world.specs.World.{holder_at};
@@ -59,8 +61,9 @@ fn listened(w: &World, slot: Slot, job: &Job, ask: &Ask) -> Decision
     finishes(job, store_at(ask.outputs.first().copied(), number))
 }
 
-/// TTYLND job: the job becomes the holder of the caller's console. Errors 4, 5; 5 if the caller has no console; for
-/// oneself 13 if a stranger holds it; for an inferior 5 if the caller does not hold it.
+/// TTYLND job: the job becomes the holder of the caller's console. Errors 4, 5; 5 if the caller has
+/// no console; for oneself 13 if a stranger holds it; for an inferior 5 if the caller does not hold
+/// it.
 #[tactic(auto, using(crate::proofs::HoldLaws::takes, crate::proofs::HoldLaws::holds_it, its_machine::proofs::NumberLaws::under), unfolding(its_plain::specs::CallTty::ttylnd, its_plain::specs::View::view, its_world::specs::World::state_of))]
 pub fn ttylnd(w: &World, slot: Slot, job: &Job, ask: &Ask) -> Decision
     ensures { result ≡ ttylnd (seen_by w.now slot job.now ask.now) ask.now }
@@ -80,7 +83,8 @@ pub fn ttylnd(w: &World, slot: Slot, job: &Job, ask: &Ask) -> Decision
     }
 }
 
-/// Whether a job can take a console for itself: nobody holds it, or the job, or one of its inferiors.
+/// Whether a job can take a console for itself: nobody holds it, or the job, or one of its
+/// inferiors.
 fn can_take(w: &World, slot: Slot, console: u8) -> bool
     ensures { result ≡ may_take w.now slot (holder_at w.now.holders console) }
 {

@@ -1,4 +1,5 @@
--- The inferior that the channel of a call is on: its slot has a job, the call reaches it, and sees its core.
+-- The inferior that the channel of a call is on: its slot has a job, the call reaches it, and sees
+-- its core.
 use Rattle.std.specs.Prelude.{◌≡◌, ℕ, Bool, Some}
 use Rattle.std.proofs.Common.{◌∙◌, ap}
 use Rattle.its_records.specs.declared.calls.Ask.{Ask}

@@ -10,7 +10,8 @@ use Rattle.its_plain.specs.Decide.{target}
 use Rattle.its_world.specs.declared.world.World.{World}
 use Rattle.call_basic.specs.Seen.{raw_with}
 
--- the call of slot s with these registers reaches the job of slot k, and its first argument can be that of a channel
+-- the call of slot s with these registers reaches the job of slot k, and its first argument can be
+-- that of a channel
 pub record Targets (w : World) (s : ℕ) (j : Job) (a : Ask) (k : ℕ) : Type 0 where
   pub number : input a 0 < 16
   pub few : k < slots

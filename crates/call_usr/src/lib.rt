@@ -1,8 +1,10 @@
-//! The decisions of the calls on inferiors: OPEN of USR, `.IOT` and SIOT if the channel is on an inferior, USRMEM and
-//! UCLOSE (docs/CALLS.md, "Inferiors"). A decision is found from the world as it is, and changes nothing.
+//! The decisions of calls on inferiors: OPEN, .IOT, SIOT, USRMEM and UCLOSE (docs/CALLS.md,
+//! "Inferiors"). A decision is found from the world as it is, and changes nothing.
 //!
-//! Proved: OPEN of USR, `.IOT` and SIOT on inferiors, USRMEM and UCLOSE decide by their definitions, with every error
-//! and fault in their order.
+//! Proved: OPEN of USR, `.IOT` and SIOT on inferiors, USRMEM and UCLOSE decide by their
+//! definitions, with every error and fault in their order.
+//!
+//! Tests: test_calls/src/inferiors.rt, test_calls/src/targets.rt.
 #![tactic(auto)]
 
 mod memory;

@@ -24,8 +24,9 @@ use its_world::World;
 /// The highest address.
 const HIGHEST: u64 = 0o777777;
 
-/// USRMEM channel, address, optional new word: the output gets the word of the inferior, and then the new one is stored. Errors 4, 5,
-/// 22; 5 if the channel has no leave to write, 16 if the word is absent or cannot be stored.
+/// USRMEM channel, address, optional new word: the output gets the word of the inferior, and then
+/// the new one is stored. Errors 4, 5, 22; 5 if the channel has no leave to write, 16 if the word
+/// is absent or cannot be stored.
 #[tactic(auto, using(its_machine::proofs::NumberLaws::under), unfolding(its_plain::specs::CallUsr::usrmem, its_plain::specs::View::view, its_world::specs::World::state_of))]
 pub fn usrmem(w: &World, slot: Slot, job: &Job, ask: &Ask) -> Decision
     requires fail { ask.now.fail ≡ 0 }
@@ -45,7 +46,7 @@ pub fn usrmem(w: &World, slot: Slot, job: &Job, ask: &Ask) -> Decision
     }
 }
 
-/// The same on an inferior.
+/// USRMEM on this inferior: the output gets its word, and then the new one is stored.
 #[tactic(auto, using(crate::proofs::OtherLaws::other_here), unfolding(its_plain::specs::View::view, its_world::specs::World::state_of))]
 fn usrmem_on(
     w: &World,
@@ -77,7 +78,8 @@ fn usrmem_on(
     set_word(job, ask, inferior, address, word)
 }
 
-/// The call finishes: the output gets a word of an inferior, and the new one is stored, if there is one.
+/// The call finishes: the output gets a word of an inferior, and the new one is stored, if there is
+/// one.
 fn set_word(job: &Job, ask: &Ask, inferior: u8, at: u32, word: Word) -> Decision
     ensures { result ≡ Ends (record { items = set_word inferior at (input ask.now 2) (has_input ask.now 2) }) (record { items = out ask.now.outputs.items word }) (exit_of (with_advance 2 job.now)) }
 {

@@ -17,8 +17,9 @@ use its_records::{Ask, Job};
 use its_word::{SLOTS, Slot, Word};
 use its_world::World;
 
-/// OPEN channel, USR, user name, job name: the caller's inferior with these names. Errors 4, 22; 13 if they are those of another job,
-/// 12 for input if no job has them, 14 if all slots below the limit have jobs.
+/// OPEN channel, USR, user name, job name: the caller's inferior with these names. Errors 4, 22; 13
+/// if they are those of another job, 12 for input if no job has them, 14 if all slots below the
+/// limit have jobs.
 #[tactic(auto, using(call_basic::proofs::ChannelLaws::free), unfolding(its_plain::specs::CallUsr::opens_usr, its_plain::specs::View::view, its_world::specs::World::state_of))]
 pub fn open_usr(w: &World, slot: Slot, job: &Job, ask: &Ask) -> Decision
     ensures { result ≡ opens_usr (seen_by w.now slot job.now ask.now) ask.now }

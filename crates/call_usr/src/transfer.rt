@@ -29,7 +29,8 @@ fn at_end(at: u32) -> bool
     at >= ADDRESSES
 }
 
-/// `.IOT` through a channel on an inferior: into it, if the channel has leave to write, else from it.
+/// `.IOT` through a channel on an inferior: into it, if the channel has leave to write, else from
+/// it.
 pub fn iot_through(
     w: &World,
     slot: Slot,
@@ -49,8 +50,8 @@ pub fn iot_through(
     }
 }
 
-/// `.IOT` from an inferior: the word at the channel's position, which is then one more; 777777000003 at the end. MPV or WRO by the word
-/// at E; IOC if the inferior's word is absent.
+/// `.IOT` from an inferior: the word at the channel's position, which is then one more;
+/// 777777000003 at the end. MPV or WRO by the word at E; IOC if the inferior's word is absent.
 #[tactic(auto, using(crate::proofs::OtherLaws::other_here), unfolding(its_plain::specs::View::view, its_world::specs::World::state_of))]
 fn iot_from(w: &World, slot: Slot, job: &Job, ask: &Ask, inferior: u8, at: u32) -> Decision
     requires targets { Targets w.now slot job.now ask.now inferior }
@@ -75,8 +76,8 @@ fn iot_from(w: &World, slot: Slot, job: &Job, ask: &Ask, inferior: u8, at: u32) 
     }
 }
 
-/// `.IOT` into an inferior: the word at E is stored at the channel's position, which is then one more. MPV by the word at E; IOC at the
-/// end, and if the inferior's word cannot be stored.
+/// `.IOT` into an inferior: the word at E is stored at the channel's position, which is then one
+/// more. MPV by the word at E; IOC at the end, and if the inferior's word cannot be stored.
 #[tactic(auto, using(crate::proofs::OtherLaws::other_here), unfolding(its_plain::specs::View::view, its_world::specs::World::state_of))]
 fn iot_into(w: &World, slot: Slot, job: &Job, ask: &Ask, inferior: u8, at: u32) -> Decision
     requires targets { Targets w.now slot job.now ask.now inferior }
@@ -134,7 +135,8 @@ pub fn siot_through(
     }
 }
 
-/// SIOT from an inferior: the word at the channel's position is held, and stored by the next step. Error 16 if it is absent.
+/// SIOT from an inferior: the word at the channel's position is held, and stored by the next step.
+/// Error 16 if it is absent.
 fn siot_from(w: &World, slot: Slot, job: &Job, ask: &Ask, inferior: u8, at: u32) -> Decision
     requires targets { Targets w.now slot job.now ask.now inferior }
     ensures { result ≡ siot_from (seen_by w.now slot job.now ask.now) ask.now (input ask.now 0) at }
@@ -145,7 +147,8 @@ fn siot_from(w: &World, slot: Slot, job: &Job, ask: &Ask, inferior: u8, at: u32)
     }
 }
 
-/// The same if no test of its arguments stops it.
+/// SIOT from an inferior once no test of its arguments stops it: its word is held. Error 16 if it
+/// is absent.
 #[tactic(auto, unfolding(its_plain::specs::View::view, its_world::specs::World::state_of))]
 fn siot_peeks(w: &World, slot: Slot, job: &Job, ask: &Ask, at: u32, word: Option<Word>) -> Decision
     requires number { input ask.now 0 < 16 }
@@ -180,7 +183,8 @@ fn siot_into(w: &World, slot: Slot, job: &Job, ask: &Ask, inferior: u8, at: u32)
     }
 }
 
-/// The same if no test of its arguments stops it.
+/// SIOT into an inferior once no test of its arguments stops it: the word is stored. Error 16 if it
+/// cannot be.
 #[tactic(auto, using(its_machine::proofs::StopLaws::loaded_fits, crate::proofs::OtherLaws::other_here), unfolding(its_plain::specs::View::view, its_world::specs::World::state_of))]
 fn siot_pokes(w: &World, slot: Slot, job: &Job, ask: &Ask, inferior: u8, at: u32) -> Decision
     requires below { at < 2 ^ 18 }

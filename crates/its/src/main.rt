@@ -1,7 +1,9 @@
-//! The program `its`: hands its words, standard input and standard output to the top call, and makes
-//! an exit status of the answer.
+//! The program: its words, standard input and output go to the top call. An exit status is made of
+//! the answer.
 //!
 //! Proved: `exit_status` is the status of each answer. No clause says which words `main` passes on.
+//!
+//! Tests: its/args, its/stdin, its/stdout.
 #![tactic(auto)]
 
 ghost use Rattle.std.specs.Prelude.{◌≡◌};

@@ -3,7 +3,8 @@ use Rattle.std.proofs.Common.{◌≡◌, ℕ, Bool, true, false, Option, Some, N
 use Rattle.its_chart.specs.Text.{cut, cut_at, is_mark}
 use Rattle.its_asm.specs.Text.{pieces}
 
--- what is before and after the first mark is the first run and the others; the mark is the first one
+-- what is before and after the first mark is the first run and the others; the mark is the first
+-- one
 abbrev Split : List ℕ → List ℕ → List ℕ × ℕ × List ℕ → Type 0
 Split marks text q = (pieces marks text ≡ q.0 ∷ pieces marks q.2) × (filter (is_mark marks) text ≡ q.1 ∷ filter (is_mark marks) q.2)
 

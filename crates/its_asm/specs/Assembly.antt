@@ -102,7 +102,8 @@ is_undefined (Gives (Err reason)) = true
 is_undefined (Go (Err reason)) = true
 is_undefined other = false
 
--- TWICE: a symbol that is defined already; a location, or that of a literal at GO, that has a word already
+-- TWICE: a symbol that is defined already; a location, or that of a literal at GO, that has a word
+-- already
 abbrev pub any_defined : List (ℕ × ℕ) → ℕ → List ℕ → Bool
 any_defined symbols value [] = false
 any_defined symbols value (name ∷ names) = is_defined symbols name || any_defined (defined symbols name value) value names

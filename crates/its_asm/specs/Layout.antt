@@ -17,7 +17,8 @@ use Rattle.its_asm.specs.declared.statements.Statement.TheVariants.{Nothing, Job
 abbrev pub before_all : Layout
 before_all = record { stage = Begin; location = 0; symbols = [] }
 
--- the statement of a line's words at a stage, with its labels' number; a line without words may occur anywhere
+-- the statement of a line's words at a stage, with its labels' number; a line without words may
+-- occur anywhere
 abbrev pub statement_at : Stage → Scope → Scope → ℕ → List (List ℕ) → Option Statement
 statement_at stage earlier s k [] = Some Nothing
 statement_at Begin earlier s k (w ∷ ws) = job (w ∷ ws)
@@ -38,7 +39,8 @@ earlier_at l = record { symbols = l.symbols; here = here_of l }
 abbrev pub scope_at : Layout → List (ℕ × ℕ) → Scope
 scope_at l symbols = record { symbols = symbols; here = here_of l }
 
--- what a line of at most 255 bytes says after these lines, when these symbols are defined; None if it is no statement there
+-- what a line of at most 255 bytes says after these lines, when these symbols are defined; None if
+-- it is no statement there
 unfoldable pub read : Layout → List (ℕ × ℕ) → List ℕ → Option Line
 read l symbols line =
     if is_printable line then

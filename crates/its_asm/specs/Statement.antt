@@ -61,7 +61,8 @@ abbrev pub operation : Scope → List ℕ → Option ℕ → Option Statement
 operation s text None = None
 operation s text (Some op) = gives (instruction s op text)
 
--- `LOC e`, `GO e`, `WORD w`, `SIXBIT name`, or `op` with its address; LOC asks for symbols of earlier lines
+-- `LOC e`, `GO e`, `WORD w`, `SIXBIT name`, or `op` with its address; LOC asks for symbols of
+-- earlier lines
 unfoldable pub with_one : Scope → Scope → List ℕ → List ℕ → Option Statement
 with_one earlier s first text =
     if bytes_eq first (codes "LOC") then formed (λ v. Loc v) (expression earlier text)

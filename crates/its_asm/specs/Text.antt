@@ -1,4 +1,5 @@
--- The runs of a text between marks, the words of a line, and symbols (docs/ASM.md). Characters are their ASCII codes.
+-- The runs of a text between marks, the words of a line, and symbols (docs/ASM.md). Characters are
+-- their ASCII codes.
 -- A promise rests on this.
 use Rattle.std.specs.Prelude.{if◌then◌else◌, ℕ, ◌-◌, Bool, false, ◌&&◌, ◌||◌, ◌==◌, Option, Some, None, List, [], ◌∷◌, length, take, slice_index, nat_le, codes}
 use Rattle.std.specs.List.{list_all, slice_split}

@@ -278,8 +278,8 @@ fn assemble_lines(whole: &Layout, a: &mut Assembly, text: &[u8]) -> Result<u32, 
     Ok(n)
 }
 
-/// Assembles a text; its image, or the first refused line with its reason. The text has at most 2^28 bytes, which a
-/// text of 1048576 lines has at most.
+/// Assembles a text; its image, or the first refused line with its reason. The text has at most
+/// 2^28 bytes, which a text of 1048576 lines has at most.
 #[tactic(auto, unfolding(crate::specs::Assembly::assembly))]
 pub fn assemble(alloc: Global, text: &[u8]) -> Result<Image, AsmFault>
     requires { length text.now ≤ 2 ^ 28 }

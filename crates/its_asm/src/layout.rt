@@ -108,7 +108,8 @@ impl Layout {
         }
     }
 
-    /// What a line of at most 255 bytes says here, when these symbols are defined; None if it is no statement.
+    /// What a line of at most 255 bytes says here, when these symbols are defined; None if it is no
+    /// statement.
     #[tactic(auto, unfolding(crate::specs::Layout::read))]
     pub fn read(&self, standing: &Symbols, line: &[u8]) -> Option<Line>
         requires { length line.now ≤ 255 }

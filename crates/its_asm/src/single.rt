@@ -23,8 +23,8 @@ fn word_of(statement: Option<Statement>) -> Option<Word>
     }
 }
 
-/// The word of a line without symbols, literals and the term `.`; None exactly if the line is not such a line of one
-/// word.
+/// The word of a line without symbols, literals and the term `.`; None exactly if the line is not
+/// such a line of one word.
 #[tactic(auto, unfolding(crate::specs::Statement::statement_of))]
 pub fn statement(line: &[u8]) -> Option<Word>
     ensures { result ≡ statement_of line.now }
@@ -39,8 +39,8 @@ pub fn statement(line: &[u8]) -> Option<Word>
     word_of(body(names, names, statement_words(line).as_slice()))
 }
 
-/// Writes a word as a line from which `statement` makes it again: the name of its opcode and its operand; `WORD` and
-/// its halves if its opcode has no name.
+/// Writes a word as a line from which `statement` makes it again: the name of its opcode and its
+/// operand; `WORD` and its halves if its opcode has no name.
 #[tactic(auto, using(crate::proofs::TypeLaws::read_back))]
 pub fn type_out(w: Word, out: &mut ArrayVec<u8, 64>)
     requires { array_vec_len out.old ≡ 0 }

@@ -175,8 +175,8 @@ fn with_one(earlier: Names, names: Names, first: &[u8], text: &[u8]) -> Option<S
     }
 }
 
-/// The statement of the words after a line's labels, between JOB and GO; None if they are none. `earlier` has the
-/// symbols of earlier lines, for what asks only for these.
+/// The statement of the words after a line's labels, between JOB and GO; None if they are none.
+/// `earlier` has the symbols of earlier lines, for what asks only for these.
 #[tactic(auto, unfolding(crate::specs::Statement::body))]
 pub fn body(earlier: Names, names: Names, words: &[&[u8]]) -> Option<Statement>
     ensures { result ≡ body (scope_of earlier.entry) (scope_of names.entry) (map (λ w. w.now) words.now) }

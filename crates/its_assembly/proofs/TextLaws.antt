@@ -1,4 +1,5 @@
--- The lines of a text are those that a reader of lines finds, and lines with their LF have these lines.
+-- The lines of a text are those that a reader of lines finds, and lines with their LF have these
+-- lines.
 use Rattle.std.specs.Prelude.{◌≡◌, ◌≤◌, ◌==◌, ℕ, length, nat_le, Bool, true, false, not, ◌&&◌, List, [], ◌∷◌, ◌++◌, refl}
 use Rattle.std.proofs.Common.{sym, ◌∙◌, ap, append_assoc, append-nil, arith, inl, inr}
 use Rattle.std.specs.List.{list_all}

@@ -23,8 +23,8 @@ on_page k c = nat_le 16 c.0 && nat_eq k (c.0 / 1024)
 abbrev pub has_page : List (ℕ × ℕ) → ℕ → Bool
 has_page cells k = list_any (on_page k) cells
 
--- the contents of a core at an address: the word that was given there, and else 0 in an accumulator and on a page on which words were
--- given
+-- the contents of a core at an address: the word that was given there, and else 0 in an accumulator
+-- and on a page on which words were given
 abbrev pub word_by : Option ℕ → Bool → Option ℕ
 word_by (Some w) b = Some w
 word_by None true = Some 0
@@ -41,8 +41,8 @@ pub record Loads (i : Image) (m : Machine) : Type 0 where
   pub registers : job.job ≡ after_go i.start (fresh_job i.u i.j i.console)
   pub symbols : m.symbols 0 ≡ i.symbols
 
--- the grammar reads the session of an image whole; its transcript is that slot 0 got the job, and after its GO the plain machine
--- has that job
+-- the grammar reads the session of an image whole; its transcript is that slot 0 got the job, and
+-- after its GO the plain machine has that job
 pub record IsWhole (i : Image) : Type 0 where
   pub read : events_of (lines_text (image_events i)) ≡ map Read (image_events i)
   pub transcript : Transcript (map Read (image_events i)) (printed.Loaded 0 ∷ []) Ended

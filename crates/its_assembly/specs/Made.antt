@@ -38,13 +38,15 @@ pub record RowFits (row : Row) : Type 0 where
   pub few : length row.words.items ≤ 16
   pub within : row.start + length row.words.items ≤ 2 ^ 18
 
--- of the words after those of a first row all but these were added, of which some are in the row that is open
+-- of the words after those of a first row all but these were added, of which some are in the row
+-- that is open
 pub record RowsSo (first : Row) (all cells : List (ℕ × ℕ)) (row : Row) (old now : List ℕ) : Type 0 where
   pub done : List Event
   pub adds : Adds done old now
   pub whole : rows_from first.start first.words.items all ≡ done ++ rows_from row.start row.words.items cells
 
--- a word was added to the row that is open, which was added to the text if the word begins another one
+-- a word was added to the row that is open, which was added to the text if the word begins another
+-- one
 pub record AddsRow (row r : Row) (a w : ℕ) (old new : List ℕ) : Type 0 where
   pub done : List Event
   pub adds : Adds done old new

@@ -1,4 +1,5 @@
--- What is kept of the text of a source: its lines up to its end, or to a line of more than 255 bytes (docs/ASM.md, "The command").
+-- What is kept of the text of a source: its lines up to its end, or to a line of more than 255
+-- bytes (docs/ASM.md, "The command").
 -- No promise rests on this.
 use Rattle.std.specs.Prelude.{◌≡◌, ◌≤◌, ◌*◌, ℕ, Bool, true, false, Option, IfSome, Result, Ok, Err, List, [], ◌++◌, ◌∷◌, length, flat_map}
 use Rattle.std.specs.List.{list_all}
@@ -39,8 +40,9 @@ abbrev pub read_whole : Bool → Result (Unit {0}) Unread
 read_whole true = Ok tt
 read_whole false = Err unreads.NoMemory
 
--- the text that was kept is assembled as the bytes of the source are; if the result is an image, all bytes were read.
--- If the source failed, what was read decides nothing. Want of memory does not hide that there are too many lines
+-- the text that was kept is assembled as the bytes of the source are; if the result is an image,
+-- all bytes were read. If the source failed, what was read decides nothing. Want of memory does not
+-- hide that there are too many lines
 abbrev pub StandsFor : Result (Unit {0}) Unread → List ℕ → List ℕ → List ℕ → Type 0
 StandsFor (Ok x) bytes text read = (runs_past bytes ≡ false) × (assembly text ≡ assembly bytes) × (Assembles (assembly bytes) → read ≡ bytes)
 StandsFor (Err unreads.TooLong) bytes text read = runs_past bytes ≡ true

@@ -1,4 +1,5 @@
--- What is written of an assembled text: the session of its image, or the line that is refused (docs/ASM.md, "The command").
+-- What is written of an assembled text: the session of its image, or the line that is refused
+-- (docs/ASM.md, "The command").
 -- A promise rests on this.
 use Rattle.std.specs.Prelude.{if◌then◌else◌, ◌==◌, ◌&&◌, ℕ, Bool, ◌+◌, Result, Ok, Err, List, [], ◌∷◌, ◌++◌, length, map, flat_map, nat_lt, codes}
 use Rattle.its_word.specs.Text.{digits_of, spaced}
@@ -11,8 +12,8 @@ use Rattle.its_asm.specs.declared.reason.AsmFault.TheVariants.{Line, NoMemory}
 use Rattle.its_asm.specs.declared.reason.AsmReason.{AsmReason}
 use Rattle.its_asm.specs.declared.reason.AsmReason.TheVariants as reasons
 
--- the `a/` lines of words at rising addresses: each is as long as consecutive words allow, at most 16. Here the words ws from address a
--- on are in the line that is open
+-- the `a/` lines of words at rising addresses: each is as long as consecutive words allow, at most
+-- 16. Here the words ws from address a on are in the line that is open
 abbrev pub goes_on : ℕ → List ℕ → ℕ → Bool
 goes_on a ws b = b == a + length ws && nat_lt (length ws) 16
 
@@ -30,7 +31,8 @@ rows (c ∷ cells) = rows_from c.0 (c.1 ∷ []) cells
 abbrev pub symbol_lines : List (ℕ × ℕ) → List Event
 symbol_lines symbols = map (λ s. events.Symbol s.0 s.1) symbols
 
--- the session of an image, of version 2: one job, its words in rising order of address, and its symbols in order of definition
+-- the session of an image, of version 2: one job, its words in rising order of address, and its
+-- symbols in order of definition
 abbrev pub image_events : Image → List Event
 image_events i =
     events.Version 2 ∷ events.Load i.u i.j i.console ∷ (rows i.words ++ (symbol_lines i.symbols ++ (events.Go i.start ∷ events.End ∷ [])))

@@ -23,7 +23,8 @@ impl Row {
         Row { start, words }
     }
 
-    /// Whether a word at this address goes on in the row: it is right after, and there is room for it.
+    /// Whether a word at this address goes on in the row: it is right after, and there is room for
+    /// it.
     pub fn goes_on(&self, a: u32) -> bool
         ensures { result ≡ goes_on self.now.start self.now.words.items a }
     {

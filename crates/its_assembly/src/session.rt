@@ -60,7 +60,8 @@ fn add_rows(text: &mut Vec<u8>, first: Row, cells: &[(u32, Word)]) -> Result<(),
     add_row(text, row)
 }
 
-/// Adds a word to the row that is open. If it does not go on there, the row is added, and the word begins another one.
+/// Adds a word to the row that is open. If it does not go on there, the row is added, and the word
+/// begins another one.
 #[tactic(auto, using(crate::proofs::RowLaws::goes_on_here, crate::proofs::RowLaws::begins_row))]
 fn add_word(text: &mut Vec<u8>, row: Row, a: u32, w: Word) -> Result<Row, AllocError>
     requires fits { RowFits row }

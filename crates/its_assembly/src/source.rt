@@ -27,13 +27,15 @@ pub enum Made {
 pub enum Unmade {
     /// The source failed.
     Failed,
-    /// A line past the most that a text may have begins, and no line before it has more than 255 bytes.
+    /// A line past the most that a text may have begins, and no line before it has more than 255
+    /// bytes.
     TooLong,
     /// Memory was refused.
     NoMemory,
 }
 
-/// Assembles the text that the source gives: it is read to its end, or to a line of more than 255 bytes.
+/// Assembles the text that the source gives: it is read to its end, or to a line of more than 255
+/// bytes.
 #[tactic(auto, using(crate::proofs::MadeLaws::ends_made, crate::proofs::MadeLaws::ends_failed, crate::proofs::MadeLaws::ends_beyond, crate::proofs::MadeLaws::ends_refused))]
 pub fn assemble_source<S: Source>(alloc: Global, src: &mut S) -> Result<Made, Unmade>
     ensures ends { MadeFrom result (S.left src.old) (S.left src.new) }

@@ -20,8 +20,9 @@ pub enum Unread {
     NoMemory,
 }
 
-/// Reads a text to its end, or to a line of more than 255 bytes: what is then kept is assembled as the text is. If
-/// memory is refused, the text is still read on, because it may have too many lines.
+/// Reads a text to its end, or to a line of more than 255 bytes: what is then kept is assembled as
+/// the text is. If memory is refused, the text is still read on, because it may have too many
+/// lines.
 #[tactic(auto, using(crate::proofs::GatherLaws::gather_start, crate::proofs::GatherLaws::gather_next, crate::proofs::GatherLaws::gather_end, crate::proofs::GatherLaws::gather_blanks, crate::proofs::GatherLaws::gather_beyond, crate::proofs::GatherLaws::gather_failed, crate::proofs::GatherLaws::few_read, crate::proofs::GatherLaws::few_blanks))]
 pub fn read_text<S: Source>(text: &mut Vec<u8>, src: &mut S) -> Result<(), Unread>
     requires empty { text.old.items ≡ [] }
@@ -67,7 +68,8 @@ fn keep_line(kept: bool, text: &mut Vec<u8>, line: &[u8]) -> bool
     true
 }
 
-/// Adds 256 blanks for a line of more than 255 bytes, if all before it is kept; whether they are also kept.
+/// Adds 256 blanks for a line of more than 255 bytes, if all before it is kept; whether they are
+/// also kept.
 fn keep_long(kept: bool, text: &mut Vec<u8>) -> bool
     ensures before { result ≡ true → kept ≡ true }
     ensures kept { result ≡ true → text.new.items ≡ text.old.items ++ replicate 256 32 }

@@ -1,7 +1,9 @@
-//! Byte pointers of the PDP-10: P in bits 0 to 5, S in bits 6 to 11, an address word in bits 13 to 35
-//! (processor reference manual, "Byte manipulation").
+//! Byte pointers of the PDP-10 (processor reference manual, "Byte manipulation"). P is in bits 0 to
+//! 5, S in bits 6 to 11, and an address word in bits 13 to 35.
 //!
 //! Proved: each function is exactly the definition of byte pointers.
+//!
+//! Tests: test_pdp/src/pointers.rt.
 #![tactic(auto)]
 
 ghost use Rattle.std.specs.Prelude.{◌≡◌, ◌<◌, ◌≤◌, ◌+◌, ◌*◌, ◌/◌, ◌%◌, ◌^◌, IsTrue};
@@ -32,8 +34,8 @@ pub fn has_size(p: Word) -> bool
     (1..=36).contains(&size(p))
 }
 
-/// The pointer to the next byte, at the right in the same word, or leftmost in the next word; Y wraps within 18 bits.
-/// None exactly if S is 0 or above 36.
+/// The pointer to the next byte, at the right in the same word, or leftmost in the next word; Y
+/// wraps within 18 bits. None exactly if S is 0 or above 36.
 #[tactic(auto, unfolding(its_word::specs::Byte::increment_of))]
 pub fn increment(p: Word) -> Option<Word>
     ensures { result ≡ increment_of p }
@@ -50,8 +52,8 @@ pub fn increment(p: Word) -> Option<Word>
     Some(next)
 }
 
-/// The byte that the pointer shows in a word: S bits, of which the lowest has value 2^P. Bits left of
-/// bit 0 read as 0.
+/// The byte that the pointer shows in a word: S bits, of which the lowest has value 2^P. Bits left
+/// of bit 0 read as 0.
 #[tactic(auto, unfolding(its_word::specs::Byte::load_of))]
 pub fn load(p: Word, w: Word) -> u64
     requires { IsTrue (has_size p) }

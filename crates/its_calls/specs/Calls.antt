@@ -41,7 +41,8 @@ frame_seen (views.Waiting s a n) = Some (waiting s.now a.now n)
 frame_seen (views.Moving s a place byte) = Some (moving s.now a.now (held_at place byte))
 frame_seen (views.Ending s a os) = Some (ending s.now a.now os.now.items)
 
--- the site of a frame whose block is not read yet, and a frame whose block is read, but whose arguments are not found
+-- the site of a frame whose block is not read yet, and a frame whose block is read, but whose
+-- arguments are not found
 abbrev pub entered_in : Option Frame → Option Site
 entered_in (Some (frames.Entered f)) = Some f.site
 entered_in _ = None

@@ -1,3 +1,6 @@
+//! The call in progress of a slot: the stage at which it is, with what it holds. A byte of SIOT in
+//! the hand is in `Stage::Moving`.
+
 ghost use Rattle.std.specs.Prelude.{◌≡◌, ◌<◌, ◌≤◌, ◌^◌, ◌∷◌, [], ℕ, true, Some, None, is_some, IfSome, length, slice_index_or, drop};
 ghost use Rattle.its_core.specs.Cores.{core_at};
 ghost use Rattle.its_plain.specs.Arguments.{with_new_values};
@@ -19,10 +22,11 @@ use its_records::{Ask, Block, Owed, Site};
 use its_word::{Fault, Slot, Word};
 use std::marker::Model;
 
-/// How far a job is inside a call: in user mode; it has entered the monitor at a site; its block is read; its arguments are found; it
-/// is ready to be tried, with so many clear quarters of a reserved page, and so many of its last arguments whose values are not yet
-/// in core; it was found not ready; a byte or word is taken, and not yet stored in the word at a place; or it is decided, and steps
-/// are pending.
+/// How far a job is inside a call: in user mode; it has entered the monitor at a site; its block is
+/// read; its arguments are found; it is ready to be tried, with so many clear quarters of a
+/// reserved page, and so many of its last arguments whose values are not yet in core; it was found
+/// not ready; a byte or word is taken, and not yet stored in the word at a place; or it is decided,
+/// and steps are pending.
 #[derive(Clone, Copy)]
 enum Stage {
     User,
@@ -74,8 +78,8 @@ pub enum View<'a> {
     },
 }
 
-/// The next stage of a call whose arguments are found: back to be prepared; to be tried, with a reserved page or none; to wait; or to
-/// store a byte or word that it has taken.
+/// The next stage of a call whose arguments are found: back to be prepared; to be tried, with a
+/// reserved page or none; to wait; or to store a byte or word that it has taken.
 #[derive(Clone, Copy)]
 pub enum Next {
     Asked,
@@ -84,7 +88,8 @@ pub enum Next {
     Moving(Held),
 }
 
-/// The call in progress of a slot, if it is in one. What a call keeps is written once, and is not moved after that.
+/// The call in progress of a slot, if it is in one. What a call keeps is written once, and is not
+/// moved after that.
 #[derive(Drop)]
 pub struct Call {
     stage: Stage,
@@ -197,7 +202,8 @@ impl Call {
         self.stage = Stage::Entered;
     }
 
-    /// The job enters the monitor at a PC; no other word was read on the way, and nothing of the budget is used.
+    /// The job enters the monitor at a PC; no other word was read on the way, and nothing of the
+    /// budget is used.
     pub fn enter_near(&mut self, pc: u32, e: u32, channel: Option<u8>)
         ensures { self.new ≡ Some (entered (record { pc = pc; e = e; channel = channel; used = 0; decode = record { items = pc ∷ [] } })) }
     {
@@ -231,7 +237,8 @@ impl Call {
         }
     }
 
-    /// The arguments of the call are found, and their values are taken. At a fault the job is in user mode again.
+    /// The arguments of the call are found, and their values are taken. At a fault the job is in
+    /// user mode again.
     pub fn fetch(&mut self, core: &Core, slot: Slot) -> Result<(), Fault>
         requires parsed { is_some (parsed_in self.old) ≡ true }
         requires fits { IfSome (parsed_in self.old) (λ f. SiteFits f.site) }
@@ -286,8 +293,8 @@ impl Call {
         self.stage = Stage::Ending;
     }
 
-    /// Takes the first pending step of a call that has ended. File steps at the head are passed over if the close that is marked is not
-    /// the call's own (`mine`).
+    /// Takes the first pending step of a call that has ended. File steps at the head are passed
+    /// over if the close that is marked is not the call's own (`mine`).
     pub fn next_step(&mut self, mine: bool) -> Owed
         requires some { IfSome (ending_in self.old) (λ f. 0 < length (due mine f.owed.items)) }
         requires ending { is_some (ending_in self.old) ≡ true }
@@ -297,7 +304,8 @@ impl Call {
         next_step(&mut self.owed, mine)
     }
 
-    /// The number of unwinding steps to user mode, at most 4. `marked` says that the file steps of this call are still pending.
+    /// The number of unwinding steps to user mode, at most 4. `marked` says that the file steps of
+    /// this call are still pending.
     pub fn left(&self, marked: bool) -> u8
         requires few { IfSome self.now Few }
         ensures value { result ≡ left_by marked self.now }

@@ -7,7 +7,8 @@ ghost use Rattle.its_calls.specs.Steps.{begins_with_file};
 use arrayvec::ArrayVec;
 use its_records::Owed;
 
-/// Takes the first pending step. File steps at the head are passed over if the close that is marked is not the call's own (`mine`).
+/// Takes the first pending step. File steps at the head are passed over if the close that is marked
+/// is not the call's own (`mine`).
 #[tactic(auto, using(crate::proofs::StepLaws::due_whole))]
 pub fn next_step(owed: &mut ArrayVec<Owed, 4>, mine: bool) -> Owed
     requires { 0 < length (due mine owed.old.items) }

@@ -1,4 +1,5 @@
--- The names of opcodes, a rule for each family (docs/ASM.md, "Mnemonics"; processor reference manual, "User operations").
+-- The names of opcodes, a rule for each family (docs/ASM.md, "Mnemonics"; processor reference
+-- manual, "User operations").
 -- A promise rests on this.
 use Rattle.std.specs.Prelude.{ℕ, ◌+◌, ◌/◌, ◌%◌, Bool, false, Option, Some, None, List, [], ◌∷◌, ◌++◌, position, bytes_eq, codes}
 use Rattle.its_word.specs.Opcode.{entry_or, instruction_of}
@@ -28,7 +29,8 @@ use Rattle.its_word.specs.declared.instruction.ByteOp.TheVariants.{Ibp, Ildb, Ld
 abbrev pub text_at : List (List ℕ) → ℕ → List ℕ
 text_at texts k = entry_or [] texts k
 
--- the letter of a mode. The last mode has S (self) in moves and half words, and B (both) in arithmetic and Boolean functions
+-- the letter of a mode. The last mode has S (self) in moves and half words, and B (both) in
+-- arithmetic and Boolean functions
 abbrev pub mode_letter : List ℕ → Mode → List ℕ
 mode_letter last Basic = []
 mode_letter last Immediate = codes "I"
@@ -69,8 +71,9 @@ half_letter k = text_at (codes "L" ∷ codes "R" ∷ []) (k % 2)
 abbrev pub rest_letter : ℕ → List ℕ
 rest_letter k = text_at ([] ∷ codes "Z" ∷ codes "O" ∷ codes "E" ∷ []) k
 
--- the sixteen half words, in the order of their opcodes: H, the half that is moved, the half that it goes to, and what
--- becomes of the other half. The first eight go to the left half, and the even ones come from the half that they go to
+-- the sixteen half words, in the order of their opcodes: H, the half that is moved, the half that
+-- it goes to, and what becomes of the other half. The first eight go to the left half, and the even
+-- ones come from the half that they go to
 abbrev pub half_name : ℕ → List ℕ
 half_name k =
     codes "H" ++ half_letter (k / 8 + k) ++ half_letter (k / 8) ++ rest_letter (k / 2 % 4)
@@ -111,7 +114,8 @@ compare_name Aos = codes "AOS"
 compare_name Soj = codes "SOJ"
 compare_name Sos = codes "SOS"
 
--- the eight conditions: never, less, equal, less or equal, always, greater or equal, not equal, greater
+-- the eight conditions: never, less, equal, less or equal, always, greater or equal, not equal,
+-- greater
 abbrev pub condition : ℕ → List ℕ
 condition c =
     text_at ([] ∷ codes "L" ∷ codes "E" ∷ codes "LE" ∷ codes "A" ∷ codes "GE" ∷ codes "N" ∷ codes "G" ∷ []) c

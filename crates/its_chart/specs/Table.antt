@@ -1,4 +1,5 @@
--- The names against the table of opcodes that decodes (processor reference manual, "User operations").
+-- The names against the table of opcodes that decodes (processor reference manual, "User
+-- operations").
 -- No promise rests on this.
 use Rattle.std.specs.Prelude.{◌≡◌, ℕ, Bool, true, false, Some, IfSome, is_some}
 use Rattle.its_word.specs.Opcode.{instruction_of}

@@ -14,11 +14,11 @@ const CHARTED: u32 = 0o700;
 /// How many bytes each opcode has in the chart.
 const CELL: usize = 7;
 
-/// The names of the opcodes from 000 to 677, eight opcodes a row; `-` if an opcode has none. Moves and half words
-/// have four modes in a row, basic, immediate, memory and self; arithmetic and Boolean functions basic, immediate,
-/// memory and both. Comparisons have the eight conditions in a row: never, less, equal, less or equal, always,
-/// greater or equal, not equal, greater. Tests have the masks right and left, then direct and swapped, under the
-/// skips never, equal, always and not.
+/// The names of the opcodes from 000 to 677, eight opcodes a row; `-` if an opcode has none. Moves
+/// and half words have four modes in a row, basic, immediate, memory and self; arithmetic and
+/// Boolean functions basic, immediate, memory and both. Comparisons have the eight conditions in a
+/// row: never, less, equal, less or equal, always, greater or equal, not equal, greater. Tests have
+/// the masks right and left, then direct and swapped, under the skips never, equal, always and not.
 #[rattlefmt::skip]
 const CHART: &[u8; 3136] = b"\
     -      -      -      -      -      -      -      -      \

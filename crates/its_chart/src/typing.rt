@@ -67,7 +67,8 @@ fn put_operand(out: &mut ArrayVec<u8, 64>, w: Word)
     put_index(out, (w.value() >> 18 & 0o17) as u32);
 }
 
-/// Writes a word as a line: the name of its opcode and its operand; `WORD` and its halves if its opcode has no name.
+/// Writes a word as a line: the name of its opcode and its operand; `WORD` and its halves if its
+/// opcode has no name.
 #[tactic(auto, unfolding(crate::specs::TypeOut::typed))]
 pub fn type_out(w: Word, out: &mut ArrayVec<u8, 64>)
     requires { array_vec_len out.old ≡ 0 }

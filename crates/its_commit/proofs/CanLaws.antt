@@ -1,5 +1,6 @@
--- What calls decide can be made on the stepped machine, if it can be made on its raw jobs: no close is half made if a
--- call is one on files, the page that it makes is clear, and the jobs that it removes are in user mode.
+-- What calls decide can be made on the stepped machine, if it can be made on its raw jobs: no close
+-- is half made if a call is one on files, the page that it makes is clear, and the jobs that it
+-- removes are in user mode.
 use Rattle.std.specs.Prelude.{◌≡◌, ℕ, true, Option, None, Some, is_some, List, [], ◌∷◌, refl}
 use Rattle.std.proofs.Common.{sym, subst}
 use Rattle.its_frame.specs.declared.change.Change.{Change}

@@ -35,7 +35,8 @@ use Rattle.its_world.proofs.StateLaws.{kept_slot}
 use Rattle.its_world.proofs.StorageLaws.{raw_has}
 use Rattle.its_stepped.proofs.ForestLaws.{left_some}
 
--- changes that can be made leave the caller there, with its frame; it reserves no page beside the one that it has
+-- changes that can be made leave the caller there, with its frame; it reserves no page beside the
+-- one that it has
 pub record Mild (old new : State) (j : ℕ) : Type 0 where
   pub job : is_some (old.raw.jobs j) ≡ true → is_some (new.raw.jobs j) ≡ true
   pub frame : new.frames j ≡ old.frames j
@@ -93,7 +94,7 @@ all_mild (c ∷ cs) j w b =
       page = let first = a.page in let later = d.page in omega arith;
     }
 
--- the same of worlds
+-- two worlds of which one follows from the other by changes: the job of the slot is still there
 pub job_kept : (old mid : World) (s : ℕ) (cs : List Change) → state_of mid ≡ effects_on cs s (state_of old) → CanMakeAll cs s (state_of old) → is_some (job_at old.jobs s) ≡ true
     → is_some (job_at mid.jobs s) ≡ true
 job_kept old mid s cs e b some =

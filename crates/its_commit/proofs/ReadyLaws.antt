@@ -1,5 +1,5 @@
--- What the tick of a slot finds whose call is tried: the jobs that the call reaches are unwound, it is decided on raw
--- jobs there, and its decision can be carried out.
+-- What the tick of a slot finds whose call is tried: the jobs that the call reaches are unwound, it
+-- is decided on raw jobs there, and its decision can be carried out.
 use Rattle.std.specs.Prelude.{if◌then◌else◌, ◌||◌, ◌==◌, ◌≡◌, ◌≢◌, ◌<◌, ◌≤◌, ℕ, Bool, true, false, Option, Some, None, IfSome, List, [], ◌∷◌, ◌++◌, length, refl}
 use Rattle.std.proofs.Common.{sym, ◌∙◌, ap, subst, inl, inr, arith}
 use Rattle.std.proofs.lemmas.Bool.{cases_eq, eq-eqb, ne_eqb}
@@ -41,8 +41,8 @@ use Rattle.its_machine.proofs.CanLaws.{Beside}
 use Rattle.its_machine.proofs.CallCanLaws.{decision_can as plain_can}
 use Rattle.its_stepped.proofs.GivenLaws.{below_itself}
 
--- the state in which the call of slot j's job is carried out: it is sound, the jobs that the call reaches are in user mode,
--- and all quarters of the page that it reserves are clear
+-- the state in which the call of slot j's job is carried out: it is sound, the jobs that the call
+-- reaches are in user mode, and all quarters of the page that it reserves are clear
 pub record Prepared (v : State) (j : ℕ) (q : Whole) (a : Ask) : Type 0 where
   pub job : v.raw.jobs j ≡ Some q
   pub forest : Forest v.raw
@@ -51,7 +51,8 @@ pub record Prepared (v : State) (j : ℕ) (q : Whole) (a : Ask) : Type 0 where
   pub free : (k : ℕ) → among k (reach v.raw j q a) ≡ true → v.frames k ≡ None
   pub full : reserves a ≡ true → v.reserved j ≡ Some quarters
 
--- UCLOSE removes an inferior with all below it, which are in user mode; the caller is not below its inferior
+-- UCLOSE removes an inferior with all below it, which are in user mode; the caller is not below its
+-- inferior
 module _ (v : State) (j s at : ℕ) (q : Whole) (a : Ask) (write : Bool) (c : Prepared v j q a) (z : a.fail ≡ 0) (e : call_named a.name ≡ Some Uclose)
     (is : channel_at q.channels (input a 0) ≡ On s write at) where
   removal_reach : reach v.raw j q a ≡ slots_below (superiors v.raw) s ++ s ∷ []
@@ -131,8 +132,8 @@ or_true false = refl
 below_gone : (sup : ℕ → Option ℕ) (j k : ℕ) → is_below sup j k ≡ true → is_gone sup j k ≡ true
 below_gone sup j k h = ap (λ (b : Bool). (k == j) || b) h ∙ or_true (k == j)
 
--- the pending parts of a slot's close after some changes are at most those of these changes, if none were pending
--- before
+-- the pending parts of a slot's close after some changes are at most those of these changes, if
+-- none were pending before
 no_parts : (o : Option Frame) (h : Holding) → standing_of o ≡ Some h → parts_in_frame o ≡ []
 no_parts (Some (frames.Ending f)) h e = cc
 no_parts _ h e = refl

@@ -435,8 +435,8 @@ module _ (old mid : World) (r : ℕ) (low : r < slots) (tree : IsTree old.jobs.j
     job_left : (k : ℕ) → is_gone (superiors (state_of old).raw) r k ≡ false → job_at new.jobs k ≡ job_at mid.jobs k
     job_left k g = job.each k ∙ ap (λ (b : Bool). if b then None else job_at mid.jobs k) (ap (λ (f : ℕ → Bool). f k) gone_same ∙ g)
 
-    -- the jobs that are gone have no frame; so if consoles have other holders, and links other ends, all slots that wait
-    -- are put on the lists to which they belong
+    -- the jobs that are gone have no frame; so if consoles have other holders, and links other
+    -- ends, all slots that wait are put on the lists to which they belong
     frame_gone : (k : ℕ) → is_gone (superiors (state_of old).raw) r k ≡ true → frame_at mid.frames.items k ≡ None
     frame_gone k g = sym (frame_is mid k) ∙ (all_swept k).frame ∙ ap (λ (b : Bool). if b then None else (state_of old).frames k) g
 
@@ -448,7 +448,8 @@ module _ (old mid : World) (r : ℕ) (low : r < slots) (tree : IsTree old.jobs.j
           | inr g ↦ inl (ap (λ t. job_at t k) (sym jobs) ∙ job_left k g)
         ]) frames consoles clock rings settled
 
-    -- and their symbols with them: what is left of those of a slot, by whether it is gone, and by what job it has
+    -- and their symbols with them: what is left of those of a slot, by whether it is gone, and by
+    -- what job it has
     symbols_by : (k : ℕ) (b : Bool) (o : Option Job) → is_gone (superiors (state_of old).raw) r k ≡ b → job_at new.jobs k ≡ o → Tidy mid
         → symbols_after_removal (is_none o) (symbols_at mid.symbols.items k) ≡ symbols_after_removal b (symbols_at mid.symbols.items k)
     symbols_by k true None g is tidy = refl

@@ -77,7 +77,7 @@ goes_row old new s a k vs h x (Some (frames.Waiting f)) is e b =
     (ap (λ (y : Next). gone_to y (request f.site (with_new_values f.ask vs))) e ∙ goes_to a (with_new_values f.ask vs) f.site (length vs) h (ap (λ (y : Ask). y.name) is.0 ∙ same_name f.ask vs)) b
 goes_row old new s a k vs h x _ is e b = tt
 
--- the same of a call that is not SLEEP
+-- if the call is not SLEEP, the next of it after a decision is that of any call
 awake_is : (a : Ask) (n : ℕ) (h : Option Held) → sleeps (call_named a.name) ≡ false → awake_next n h ≡ next_of a n h
 awake_is a n (Some h) e = refl
 awake_is a n None e = sym (ap (λ (b : Bool). next_stays b n) e)

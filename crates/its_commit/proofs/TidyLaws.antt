@@ -1,4 +1,5 @@
--- What holds of a world whatever its state is, through one change: its pages in their frames, and what is tidy.
+-- What holds of a world whatever its state is, through one change: its pages in their frames, and
+-- what is tidy.
 use Rattle.std.specs.Prelude.{◌≡◌, ◌<◌, ℕ, true, Option, Some, None, is_some, slice_index_or, refl}
 use Rattle.std.proofs.Common.{◌∙◌, sym, ap, subst, inl, inr}
 use Rattle.std.proofs.lemmas.Bool.{cases_eq}
@@ -35,7 +36,8 @@ link_pages old new l p b = ap (λ k. k.frames) (core_as b.rest)
 pub holder_pages : (old new : World) (c : ℕ) (h : Option ℕ) → HolderBecomes old new c h → new.core.frames ≡ old.core.frames
 holder_pages old new c h b = ap (λ k. k.frames) (core_as b.rest)
 
--- one slot is written, whose job keeps its channels; if it has no job then, its core is that of none
+-- one slot is written, whose job keeps its channels; if it has no job then, its core is that of
+-- none
 pub tidy_becomes : (old new : World) (s : ℕ) (c : Core) (o : Option Job) (f : Option Frame) (r : Option ℕ) → Becomes old new s c o f r
     → (o ≡ None → c ≡ no_core) → (o ≡ None → job_at old.jobs s ≡ None) → ((n : ℕ) → channel_by o n ≡ channel_at old.jobs s n) → Tidy old → Tidy new
 tidy_becomes old new s c o f r b bare empty kept tidy = record {

@@ -1,5 +1,5 @@
--- A call that is tried: its decision on the raw machine is that on the plain one, it can be carried out, and then the
--- tick is done.
+-- A call that is tried: its decision on the raw machine is that on the plain one, it can be carried
+-- out, and then the tick is done.
 use Rattle.std.specs.Prelude.{◌≡◌, ◌<◌, ℕ, Bool, true, false, Option, Some, None, IfSome, is_some, List, refl}
 use Rattle.std.proofs.Common.{sym, ◌∙◌, ap, subst}
 use Rattle.its_word.specs.Core.{Core}
@@ -83,8 +83,8 @@ record Stood (w : State) (j : ℕ) (q : Whole) (h : Holding) : Type 0 where
   meets : Meets w j (seen (w.frames j) q) h.site h.ask h.owes
   row : tick_in w j q (w.frames j) ≡ tried_by w j (seen (w.frames j) q) h.site h.ask h.owes
 
--- the jobs that the call of a slot reaches are unwound, a half made close is helped if it is one on files, and its own
--- slot is as it was
+-- the jobs that the call of a slot reaches are unwound, a half made close is helped if it is one on
+-- files, and its own slot is as it was
 pub record Cleared (w v : State) (j : ℕ) (q : Whole) (h : Holding) : Type 0 where
   pub job : v.raw.jobs j ≡ Some q
   pub frame : v.frames j ≡ w.frames j
@@ -118,7 +118,8 @@ found_cleared w j q h sound is s =
       shows = shows;
     }
 
--- the result of the tick of a slot whose call is tried: v is the state in which it is carried out, and d its decision
+-- the result of the tick of a slot whose call is tried: v is the state in which it is carried out,
+-- and d its decision
 pub record Tries (w v : State) (j : ℕ) (q : Whole) (h : Holding) (d : Decision) : Type 0 where
   pub cleared : Cleared w v j q h
   pub decides : decision (plain w) j (seen (w.frames j) q) h.ask ≡ d
@@ -227,8 +228,8 @@ tries w v j q h d sound forest is housed stands tried e f =
     let t = found_tries w j q h sound forest is housed (stood_at w j q h (w.frames j) sound forest is tried refl stands) in
     subst (Tries w v j q h) (sym f) (subst (λ (x : State). Tries w x j q h (decision x.raw j q h.ask)) (sym e) t)
 
--- the same of worlds: the job of the slot is there, its call is decided by its raw job, it can be carried out, and then
--- the tick is done
+-- a call that is tried, on worlds: the job of the slot is there, its call is decided by its raw
+-- job, it can be carried out, and then the tick is done
 some_job : (s : Store) (c : Core) (o : Option ℕ) (a : Option (ℕ × ℕ)) (j : Option Job) (q : Whole) → raw_of s c o a j ≡ Some q → is_some j ≡ true
 some_job s c o a (Some x) q e = refl
 some_job s c o a None q e = cc

@@ -23,8 +23,8 @@ use Rattle.its_stepped.specs.Sound.{Sound}
 use Rattle.its_stepped.specs.State.{State}
 use Rattle.its_world.specs.Storage.{HasJob, chan_in, IsDraft, Unread, HasRoom, CanClose}
 
--- a closed channel of slot j's job can be opened: on a console or on another job, or, if no close is half made, on a file that exists
--- or on a new draft
+-- a closed channel of slot j's job can be opened: on a console or on another job, or, if no close
+-- is half made, on a file that exists or on a new draft
 abbrev pub CanOpen : Opened → State → Type 0
 CanOpen opened.TtyIn w = Unit {0}
 CanOpen opened.TtyOut w = Unit {0}
@@ -32,13 +32,15 @@ CanOpen (opened.Reading d x y) w = (has_file (names_of d x y) w.raw.files ≡ tr
 CanOpen (opened.Writing d x y) w = w.mark ≡ None
 CanOpen (opened.Usr s write) w = Unit {0}
 
--- the job of slot s can be removed with all below it: those are in user mode, and it has reserved no page
+-- the job of slot s can be removed with all below it: those are in user mode, and it has reserved
+-- no page
 pub record Removable (w : State) (s : ℕ) : Type 0 where
   pub sound : Sound w
   pub unwound : (k : ℕ) → is_below (superiors w.raw) s k ≡ true → w.frames k ≡ None
   pub page : w.reserved s ≡ None
 
--- the page that slot j has reserved, of which four quarters are clear, can be mapped: it is not there yet, and there is room
+-- the page that slot j has reserved, of which four quarters are clear, can be mapped: it is not
+-- there yet, and there is room
 pub record Maps (w : State) (j s k : ℕ) : Type 0 where
   pub slot : s < slots
   pub job : HasJob w s
@@ -46,10 +48,11 @@ pub record Maps (w : State) (j s k : ℕ) : Type 0 where
   pub absent : page_of (core_of (w.raw.jobs s)) k ≡ None
   pub room : mapped w.raw < most_pages
 
--- a change of slot j's call is possible: its channel, its console and its link are numbers that exist, a byte that is put out or a word
--- that is appended or sent has room, an end of a link is opened at a closed channel, and closed with the channel that is on it, and no
--- close is half made if it looks at the directory; a job is made in the least empty slot; a removed one and those below it are in user
--- mode and are not the caller; and a page exists, or is possible
+-- a change of slot j's call is possible: its channel, its console and its link are numbers that
+-- exist, a byte that is put out or a word that is appended or sent has room, an end of a link is
+-- opened at a closed channel, and closed with the channel that is on it, and no close is half made
+-- if it looks at the directory; a job is made in the least empty slot; a removed one and those
+-- below it are in user mode and are not the caller; and a page exists, or is possible
 abbrev pub CanMake : Change → ℕ → State → Type 0
 CanMake (changes.Open n on) j w = (n < 16) × HasJob w j × (chan_in w j n ≡ Shut) × CanOpen on w
 CanMake (changes.Shut n) j w = n < 16

@@ -11,13 +11,14 @@ use Rattle.its_plain.specs.Change.{superiors, is_gone}
 use Rattle.its_stepped.specs.Commit.{effect_on}
 use Rattle.its_stepped.specs.State.{State}
 
--- the jobs of some slots below n are removed: the frames of each become the last of the free ones, slot after slot
+-- the jobs of some slots below n are removed: the frames of each become the last of the free ones,
+-- slot after slot
 unfoldable pub pages_swept : (ℕ → Bool) → ℕ → Frames → Frames
 pages_swept gone zero f = f
 pages_swept gone (suc n) f = if gone n then frames_drop_all n (pages_swept gone n f) else pages_swept gone n f
 
--- after a change of slot j's call: a page that is made has the frame of the one that slot j has reserved; the frames of pages that
--- are dropped become free
+-- after a change of slot j's call: a page that is made has the frame of the one that slot j has
+-- reserved; the frames of pages that are dropped become free
 abbrev pub pages_changed : Change → ℕ → State → Frames → Frames
 pages_changed (changes.Map s k) j w f = frames_map j s k f
 pages_changed (changes.Unmap s k) j w f = frames_unmap s k f

@@ -42,7 +42,8 @@ pub record Closes (old new : State) (s m : ℕ) : Type 0 where
   pub frame : new.frames s ≡ old.frames s
   pub closed : (n : ℕ) → n < m → chan_in new s n ≡ Shut
 
--- the slot of a job that is to go: no page is left, no channel is open, it has no alarm and no frame. The frames of its pages are free
+-- the slot of a job that is to go: no page is left, no channel is open, it has no alarm and no
+-- frame. The frames of its pages are free
 pub record Bare (w : World) (k : ℕ) : Type 0 where
   pub core : core_at w.core k ≡ no_core
   pub channels : (n : ℕ) → channel_at w.jobs k n ≡ channels.Closed

@@ -1,3 +1,5 @@
+//! What is pending after a decision, as steps of the frame: stores, held bytes, parts of a close.
+
 ghost use Rattle.std.specs.Prelude.{◌≡◌, ◌<◌, ◌≤◌, ◌+◌, ◌-◌, ◌∷◌, ◌++◌, [], ℕ, Bool, true, false, Some, None, is_some, length, map, if◌then◌else◌};
 ghost use Rattle.its_records.specs.declared.calls.Owed.TheVariants.{GiveBack, Leave};
 ghost use Rattle.its_plain.specs.Arguments.{debts};
@@ -9,8 +11,8 @@ use arrayvec::ArrayVec;
 use its_records::{Ask, Exit, Owed};
 use its_word::Store;
 
-/// The pending steps of a call that has ended: the parts of its close; its reserved page, if it has one; the last
-/// `owes` of its arguments; its own stores; and its registers.
+/// The pending steps of a call that has ended: the parts of its close; its reserved page, if it has
+/// one; the last `owes` of its arguments; its own stores; and its registers.
 pub fn owed_steps(
     parts: &[Owed],
     reserved: bool,

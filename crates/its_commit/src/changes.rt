@@ -1,3 +1,5 @@
+//! The changes of a call, each performed on the world.
+
 ghost use Rattle.std.specs.Prelude.{◌≡◌, ◌<◌, ◌^◌, true, None, Some, [], ◌∷◌, is_some, length, option_map};
 ghost use Rattle.its_word.specs.Console.{most_waiting};
 ghost use Rattle.its_records.specs.Links.{most_links, most_linked};
@@ -252,7 +254,8 @@ fn poke(w: &mut World, slot: Slot, at: u32, word: Word)
     w.store(slot, at, word);
 }
 
-/// Makes an inferior of a slot's job in the least free slot, with these names and the console of its superior.
+/// Makes an inferior of a slot's job in the least free slot, with these names and the console of
+/// its superior.
 fn make(w: &mut World, maker: Slot, slot: u8, u: Word, j: Word)
     requires job { HasJob (state_of w.old) maker }
     requires free { least_free (limit (state_of w.old).raw) (state_of w.old).raw.jobs ≡ Some slot }
@@ -330,7 +333,8 @@ fn set(w: &mut World, slot: u8, variable: Variable, value: Word)
     }
 }
 
-/// Registers with a variable set; of UPC the flags are taken too, and a value of USTP other than 0 stops.
+/// Registers with a variable set; of UPC the flags are taken too, and a value of USTP other than 0
+/// stops.
 #[tactic(auto, unfolding(its_plain::specs::Own::with_variable))]
 fn with_variable(job: Job, variable: Variable, value: Word) -> Job
     ensures { result ≡ with_variable variable value job }

@@ -24,8 +24,8 @@ use its_records::{Ask, Exit, Owed};
 use its_word::{Slot, Store, Word};
 use its_world::World;
 
-/// Carries out the decision of the call of a slot's job, which is in its frame: the changes at once, and the rest as
-/// the frame that it leaves.
+/// Carries out the decision of the call of a slot's job, which is in its frame: the changes at
+/// once, and the rest as the frame that it leaves.
 pub fn carry_out(w: &mut World, slot: Slot, decision: Decision)
     requires job { is_some (job_at w.old.jobs slot) ≡ true }
     requires stands { is_some (standing_of (call_in w.old slot)) ≡ true }
@@ -60,8 +60,8 @@ pub fn carry_out(w: &mut World, slot: Slot, decision: Decision)
     }
 }
 
-/// Carries out the decision that a part of the call of a slot's job is done: one change at once, then the new values of its last two
-/// arguments. The call is not SLEEP.
+/// Carries out the decision that a part of the call of a slot's job is done: one change at once,
+/// then the new values of its last two arguments. The call is not SLEEP.
 #[inline(always)]
 pub fn carry_part(
     w: &mut World,
@@ -84,7 +84,8 @@ pub fn carry_part(
     go_on_awake(w, slot, held, next, left);
 }
 
-/// The call of a slot that can be committed: what it asks for, and how many of its last arguments are pending.
+/// The call of a slot that can be committed: what it asks for, and how many of its last arguments
+/// are pending.
 #[tactic(auto, using(crate::proofs::StandingLaws::stands_holding, crate::proofs::StandingLaws::stands_waiting))]
 pub fn standing(w: &World, slot: Slot) -> (&Ask, u8)
     requires stands { is_some (standing_of (call_in w.now slot)) ≡ true }
@@ -125,7 +126,8 @@ fn go_on(w: &mut World, slot: Slot, held: Option<Held>, values: &[Word])
     w.go_on(slot, values, next);
 }
 
-/// A part of a call that is not SLEEP is done: its last two arguments have new values, whose stores are pending.
+/// A part of a call that is not SLEEP is done: its last two arguments have new values, whose stores
+/// are pending.
 #[inline(always)]
 fn go_on_awake(w: &mut World, slot: Slot, held: Option<Held>, next: Word, left: Word)
     requires stands { is_some (standing_of (call_in w.old slot)) ≡ true }
@@ -139,7 +141,8 @@ fn go_on_awake(w: &mut World, slot: Slot, held: Option<Held>, next: Word, left: 
     w.go_on(slot, &[next, left], stage);
 }
 
-/// The next stage of a call that is not SLEEP and of which a part is done; the new values of two arguments are pending.
+/// The next stage of a call that is not SLEEP and of which a part is done; the new values of two
+/// arguments are pending.
 fn awake_next(held: Option<Held>) -> Next
     ensures { result ≡ awake_next 2 held }
 {
@@ -172,7 +175,8 @@ fn is_sleep(ask: &Ask) -> bool
     matches!(CallName::named(ask.name), Some(CallName::Sleep))
 }
 
-/// The call ends: the parts of its close, its reserved page, its arguments, its stores and its registers are pending.
+/// The call ends: the parts of its close, its reserved page, its arguments, its stores and its
+/// registers are pending.
 #[tactic(auto, using(crate::proofs::CommittingLaws::page_reserved, crate::proofs::TidyLaws::becomes_pages))]
 fn end(w: &mut World, slot: Slot, stores: &[Store], exit: Exit)
     requires stands { is_some (standing_of (call_in w.old slot)) ≡ true }

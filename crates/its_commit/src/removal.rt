@@ -22,10 +22,12 @@ use its_world::{World, forget_removed};
 /// How many channels a job has.
 const CHANNELS: u8 = 16;
 
-/// Removes the job of a slot and all jobs below it: their drafts are dropped, their channels closed, and their pages and symbols given
-/// up; every channel on one of them is closed, and so is each end of a link at one of them. A console that one of them holds passes to
-/// the superior of the job, if it has one, else to nobody. No INF is set. The jobs below have been unwound; what is left of a call of
-/// the job itself is dropped, but a page that it has reserved is given back before.
+/// Removes the job of a slot and all jobs below it: their drafts are dropped, their channels
+/// closed, and their pages and symbols given up; every channel on one of them is closed, and so is
+/// each end of a link at one of them. A console that one of them holds passes to the superior of
+/// the job, if it has one, else to nobody. No INF is set. The jobs below have been unwound; what is
+/// left of a call of the job itself is dropped, but a page that it has reserved is given back
+/// before.
 pub fn remove_tree(w: &mut World, slot: Slot)
     requires job { is_some (job_at w.old.jobs slot) ≡ true }
     requires sound { Sound (state_of w.old) }
@@ -61,7 +63,8 @@ fn sweep(w: &mut World, root: Slot)
     }
 }
 
-/// The same in one slot.
+/// Gives up what the job of this slot has if it is in the tree, and else closes its channels on
+/// jobs of the tree.
 fn sweep_slot(w: &mut World, root: Slot, slot: Slot)
     requires tidy { Tidy w.old }
     ensures swept { Sweeps (is_gone (superiors (state_of w.old).raw) root) w.old w.new slot }

@@ -1,7 +1,10 @@
-//! The bytes that wait at a console: those that were typed, and those that a job has put out.
+//! The bytes that wait at a console, those typed and those that a job has put out.
 //!
-//! Proved: the input and the output are two lists of bytes, in the order in which they arrived. `type_in` and `put` are
-//! false exactly if 64 bytes wait, and then nothing changes; `take` and `drain` are None exactly if none waits.
+//! Proved: the input and the output are two lists of bytes, in the order in which they arrived.
+//! `type_in` and `put` are false exactly if 64 bytes wait, and then nothing changes; `take` and
+//! `drain` are None exactly if none waits.
+//!
+//! Tests: test_stores/src/consoles.rt.
 #![tactic(auto)]
 
 ghost use Rattle.std.specs.Prelude.{◌≡◌, ◌<◌, ◌≤◌, ◌↔◌, ℕ, [], ◌∷◌, ◌++◌, length, drop, slice_get, false, IsTrue, IfOk};

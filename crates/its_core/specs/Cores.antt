@@ -1,5 +1,5 @@
--- What contracts see of the pages of all jobs: for each slot its core, and the page that it has reserved; and the page frames of the
--- pages.
+-- What contracts see of the pages of all jobs: for each slot its core, and the page that it has
+-- reserved; and the page frames of the pages.
 -- No promise rests on this.
 use Rattle.std.specs.Prelude.{if◌then◌else◌, ◌≡◌, ℕ, ◌+◌, ◌*◌, ◌==◌, Bool, Option, None, List, ◌++◌, take, drop, replicate, slice_index_or, option_map}
 use Rattle.its_word.specs.Core.{Core, Page, no_core}

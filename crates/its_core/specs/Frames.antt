@@ -1,5 +1,6 @@
--- Which page frame each page has, and the lists of the frames: one of the free frames, and one for each slot of the
--- frames of its pages, in the order in which they were mapped; and how many of their words are ready.
+-- Which page frame each page has, and the lists of the frames: one of the free frames, and one for
+-- each slot of the frames of its pages, in the order in which they were mapped; and how many of
+-- their words are ready.
 -- No promise rests on this.
 use Rattle.std.specs.Prelude.{◌≡◌, ◌<◌, ◌≤◌, ℕ, ◌+◌, ◌*◌, Option, Some, None, List, [], ◌∷◌, ◌++◌, max, take, drop, replicate, slice_set, slice_index_or}
 use Rattle.std.specs.List.{range_with_len}
@@ -10,8 +11,8 @@ use Rattle.its_word.specs.Limits.{slots, most_pages}
 abbrev pub all_frames : ℕ
 all_frames = most_pages + slots
 
--- the lists, the free frames first; the frame of page k of slot s, at 256s + k; the frame of the page that slot s has
--- reserved; and how many words of frames are ready, from the first on
+-- the lists, the free frames first; the frame of page k of slot s, at 256s + k; the frame of the
+-- page that slot s has reserved; and how many words of frames are ready, from the first on
 pub record Frames : Type 0 where
   pub lists : List (List ℕ)
   pub pages : List (Option ℕ)
@@ -43,8 +44,8 @@ standing x (o ∷ os) = is_frame x o + standing x os
 unfoldable pub row : {X : Type 0} → List (Option X) → ℕ → List (Option X)
 row places s = take 256 (drop (256 * s) places)
 
--- the list of a slot has the page frames of its pages, each once; each page frame occurs once, in one of the lists or as that of a
--- reserved page, and nothing else does
+-- the list of a slot has the page frames of its pages, each once; each page frame occurs once, in
+-- one of the lists or as that of a reserved page, and nothing else does
 pub record Listed (f : Frames) : Type 0 where
   pub mapped : (s x : ℕ) → s < slots → count x (mapped_by f s) ≡ standing x (row f.pages s)
   pub each : (x : ℕ) → x < all_frames → times x f.lists + standing x f.reserved ≡ 1
@@ -63,7 +64,8 @@ without_frame (Some x) xs = without x xs
 unfoldable pub emptied : {X : Type 0} → ℕ → ℕ → List (Option X) → List (Option X)
 emptied i n os = take i os ++ replicate n None ++ drop (i + n) os
 
--- how many words are ready once those of a frame are: the 1024 words of a frame, and all words before them
+-- how many words are ready once those of a frame are: the 1024 words of a frame, and all words
+-- before them
 abbrev pub ready_with : ℕ → Option ℕ → ℕ
 ready_with n None = n
 ready_with n (Some x) = max n (1024 * x + 1024)

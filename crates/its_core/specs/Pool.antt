@@ -1,6 +1,7 @@
--- How the cores of all slots are kept: a pool of page frames of 1024 words, a map from each page of each slot to its
--- page frame, the page frames of reserved pages, and the lists of the page frames. The words of a page frame are made
--- ready, up to its last, when it is first reserved. Until then it is a free page frame.
+-- How the cores of all slots are kept: a pool of page frames of 1024 words, a map from each page of
+-- each slot to its page frame, the page frames of reserved pages, and the lists of the page frames.
+-- The words of a page frame are made ready, up to its last, when it is first reserved. Until then
+-- it is a free page frame.
 -- No promise rests on this.
 use Rattle.std.specs.Prelude.{◌≡◌, ◌<◌, ◌≤◌, ℕ, ◌+◌, ◌*◌, Option, Some, None, List, ◌++◌, length, map, take, drop, slice_index_or, option_map, is_some, count_by}
 use Rattle.its_word.specs.Core.{Core, Page, pages_mapped}
@@ -12,7 +13,8 @@ use Rattle.its_core.specs.declared.cores.Mapped.{Mapped}
 use Rattle.its_core.specs.declared.cores.Held.{Held}
 use Rattle.its_word.specs.Table.{table}
 
--- how many accumulators all slots have, how many places for pages, and how many words all frames have
+-- how many accumulators all slots have, how many places for pages, and how many words all frames
+-- have
 abbrev pub all_accs : ℕ
 all_accs = 16 * slots
 

@@ -1,3 +1,5 @@
+//! The effective address of an address word: index registers, indirect words, and the budget.
+
 ghost use Rattle.std.specs.Prelude.{◌≡◌, ◌<◌, ◌≤◌, ◌+◌, ◌-◌, ◌*◌, ◌^◌, ◌++◌, length, IfOk};
 ghost use Rattle.its_word.specs.Address.{address as address_of, indexed, index_of, index_places, is_indirect, last_used};
 ghost use Rattle.its_word.specs.Limits.{budget};
@@ -51,9 +53,10 @@ impl Core {
         ((w.right() + v.right()) & 0o777777, Some(v))
     }
 
-    /// The effective address of an address word. `used` is how much of the budget of 64 indirect words and XCT
-    /// targets is used, and `reads` gets the places that are read, in their order. Mpv if an indirect word is absent,
-    /// Ilo if the budget is at its end before an indirect word, which is then not read.
+    /// The effective address of an address word. `used` is how much of the budget of 64 indirect
+    /// words and XCT targets is used, and `reads` gets the places that are read, in their order.
+    /// Mpv if an indirect word is absent, Ilo if the budget is at its end before an indirect word,
+    /// which is then not read.
     pub fn address(
         &self,
         slot: Slot,
@@ -91,8 +94,8 @@ impl Core {
         }
     }
 
-    /// The effective address as `address` has it, for one who does not need the places that are read.
-    /// Nearly all address words have I = 0: nothing but an index register is looked at then.
+    /// The effective address as `address` has it, for one who does not need the places that are
+    /// read. Nearly all address words have I = 0: nothing but an index register is looked at then.
     #[inline(always)]
     #[tactic(auto, using(its_word::proofs::AddressLaws::direct_answer, its_word::proofs::AddressLaws::direct_used))]
     pub fn effective(&self, slot: Slot, w: Word, used: &mut u32) -> Result<Address, Fault>
@@ -109,7 +112,7 @@ impl Core {
         Ok(Address { e, flags_word })
     }
 
-    /// The same, with the places that are read thrown away.
+    /// The effective address of any address word; the places that are read are not noted.
     #[inline(never)]
     fn indirect(&self, slot: Slot, w: Word, used: &mut u32) -> Result<Address, Fault>
         requires used { used.old ≤ budget }

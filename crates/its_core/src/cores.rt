@@ -1,3 +1,5 @@
+//! The cores: pages and page frames, mapped, reserved, cleared, protected and given up.
+
 ghost use Rattle.std.specs.Prelude.{◌≡◌, ◌<◌, ◌≤◌, ◌+◌, ◌-◌, ◌*◌, ◌/◌, ◌^◌, ℕ, List, length, is_some, slice_set, true, false, Some, None, IsSome, IsErr, OnOk, OnErr, IfOk, IfErr, IsOk, Ok, Err, count_by, slice_index_or, option_map, ◌↔◌, IfSome};
 ghost use Rattle.its_word.specs.Core.{IsWhole, acc_at, get as got_at, put as put_at, word_at, can_store, store, page_of, pages_present, with_page, zero_page, marked, no_core, pages_mapped};
 ghost use Rattle.its_word.specs.Limits.{slots, most_pages};
@@ -43,8 +45,8 @@ struct Held {
     clear: u8,
 }
 
-/// The cores of all slots. Contracts see for each slot its core and its reserved page; and which page frame each page
-/// has, and the lists of the page frames.
+/// The cores of all slots. Contracts see for each slot its core and its reserved page; and which
+/// page frame each page has, and the lists of the page frames.
 #[derive(Drop)]
 pub struct Core {
     accs: Vec<Word>,
@@ -339,8 +341,8 @@ impl Core {
         self.mapped
     }
 
-    /// Reserves a page for a slot, in the first of the free frames, whose words are made ready. None of
-    /// its quarters counts as clear.
+    /// Reserves a page for a slot, in the first of the free frames, whose words are made ready.
+    /// None of its quarters counts as clear.
     pub fn reserve(&mut self, slot: Slot)
         requires none { reserved_at self.old slot ≡ None }
         ensures reserved { (words : List ℕ) × Only (reserved_at self.old) (reserved_at self.new) slot (Some (record { clear = 0; words = words })) }
@@ -382,9 +384,9 @@ impl Core {
         });
     }
 
-    /// Makes the page that a slot has reserved, whose four quarters are clear, a writable page of zeros of the
-    /// target; its page frame becomes the last in the target's list. Full if 1024 pages are mapped already; the
-    /// reservation is then unchanged.
+    /// Makes the page that a slot has reserved, whose four quarters are clear, a writable page of
+    /// zeros of the target; its page frame becomes the last in the target's list. Full if 1024
+    /// pages are mapped already; the reservation is then unchanged.
     pub fn map(&mut self, slot: Slot, target: Slot, page: u8) -> Result<(), Full>
         requires clear { clear_at self.old slot ≡ Some 4 }
         requires absent { page_of (core_at self.old target) page ≡ None }

@@ -1,4 +1,5 @@
--- Whether a channel reads a file, and why a file is neither deleted nor renamed, in the forms that code answers.
+-- Whether a channel reads a file, and why a file is neither deleted nor renamed, in the forms that
+-- code answers.
 -- No promise rests on this.
 use Rattle.std.specs.Prelude.{if◌then◌else◌, ◌==◌, ℕ, Bool, false, not, Option, Some, None, nat_lt}
 use Rattle.its_records.specs.declared.calls.Ask.{Ask}

@@ -15,8 +15,8 @@ abbrev pub OnJob : Table → Channel → Type 0
 OnJob t (Usr s write at) = is_some (job_at t s) ≡ true
 OnJob t _ = Unit {0}
 
--- the numbers in channels fit the files and drafts, of which none is being closed, and the jobs, which have slots; a
--- slot without a job has no page; and the limit of jobs is that of the version
+-- the numbers in channels fit the files and drafts, of which none is being closed, and the jobs,
+-- which have slots; a slot without a job has no page; and the limit of jobs is that of the version
 pub record SeenFits (s : Seen) : Type 0 where
   pub across : Across s.files.now s.jobs.now
   pub unmarked : s.files.now.mark ≡ None

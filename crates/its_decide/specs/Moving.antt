@@ -61,8 +61,8 @@ shift_of (changes.Send l w) = Some (shifts.Send l w)
 shift_of (changes.Receive l) = Some (shifts.Receive l)
 shift_of _ = None
 
--- what a decision moves: a call that goes on moves something if it makes one such change and gives two arguments new
--- values. No other decision moves anything
+-- what a decision moves: a call that goes on moves something if it makes one such change and gives
+-- two arguments new values. No other decision moves anything
 abbrev pub moved_of : List Change → Option Held → List ℕ → Option NextMove
 moved_of (c ∷ []) h (next ∷ left ∷ []) = option_map (λ s. record { next = next; left = left; held = h; shift = s }) (shift_of c)
 moved_of _ h _ = None
@@ -71,12 +71,14 @@ abbrev pub moved_by : Decision → Option NextMove
 moved_by (decisions.Goes cs h vs) = moved_of cs.items h vs.items
 moved_by _ = None
 
--- what SIOT moves through a channel: what its decision moves, but nothing if the channel is on an inferior
+-- what SIOT moves through a channel: what its decision moves, but nothing if the channel is on an
+-- inferior
 abbrev pub moved_on : Channel → Decision → Option NextMove
 moved_on (Usr s write at) d = None
 moved_on _ d = moved_by d
 
--- what a call moves next: what its decision moves, if it is SIOT, its decoding gave no error, and it reaches no other job
+-- what a call moves next: what its decision moves, if it is SIOT, its decoding gave no error, and
+-- it reaches no other job
 abbrev pub moved_alone : List ℕ → Decision → Option NextMove
 moved_alone [] d = moved_by d
 moved_alone (k ∷ ks) d = None

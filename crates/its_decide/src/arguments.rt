@@ -51,7 +51,8 @@ impl Caller<'_> {
         channel(self.job, number)
     }
 
-    /// Whether the word of an input is none of its own: it is immediate, or a decode word, or that of another argument.
+    /// Whether the word of an input is none of its own: it is immediate, or a decode word, or that
+    /// of another argument.
     #[inline(always)]
     #[tactic(auto, unfolding(its_plain::specs::Footprint::is_shared, its_plain::specs::Footprint::times))]
     pub(crate) fn is_shared(&self, k: usize) -> bool
@@ -77,7 +78,8 @@ impl Caller<'_> {
         }
     }
 
-    /// Whether a place is that of a decode word, or of the word of an input or of the control argument.
+    /// Whether a place is that of a decode word, or of the word of an input or of the control
+    /// argument.
     #[inline(always)]
     #[tactic(auto, unfolding(its_plain::specs::Footprint::in_footprint))]
     pub(crate) fn is_used(&self, place: u32) -> bool

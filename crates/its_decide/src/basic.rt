@@ -21,8 +21,8 @@ const WORDS: u64 = 0o1000000000000;
 const BIT_0: u64 = 0o400000000000;
 
 impl Caller<'_> {
-    /// SLEEP n: for n above 0 its argument becomes minus the time of waking; for n below 0 it waits for that time. Errors 22 if n is
-    /// too long, 17 if n is no word of its own, and WRO.
+    /// SLEEP n: for n above 0 its argument becomes minus the time of waking; for n below 0 it waits
+    /// for that time. Errors 22 if n is too long, 17 if n is no word of its own, and WRO.
     #[tactic(auto, unfolding(its_plain::specs::CallBasic::sleep, its_plain::specs::View::view))]
     pub(crate) fn sleep(&self) -> Decision
         ensures { result ≡ sleep (looks self.now) self.now.ask.now }
@@ -50,8 +50,8 @@ impl Caller<'_> {
         goes_on(Word::new(left))
     }
 
-    /// REALT n: the job has an alarm from now on, of period n, whose next time is n thirtieths from now; with 0 it has none. Error 22
-    /// if n is below 0 or longer than 2^34.
+    /// REALT n: the job has an alarm from now on, of period n, whose next time is n thirtieths from
+    /// now; with 0 it has none. Error 22 if n is below 0 or longer than 2^34.
     #[tactic(auto, unfolding(its_plain::specs::CallBasic::realt, its_plain::specs::View::view))]
     pub(crate) fn realt(&self) -> Decision
         requires clock { self.now.seen.now.clock < clock_end }
@@ -69,8 +69,9 @@ impl Caller<'_> {
         self.finishes_with(Change::Arm { alarm })
     }
 
-    /// DISMIS p: PC, flags and deferrals come from the words that a delivery pushed, and 5 is taken from each half of the stack pointer
-    /// word at p. Error 17 if p is immediate; MPV if one of the words is absent, else WRO if p is read only.
+    /// DISMIS p: PC, flags and deferrals come from the words that a delivery pushed, and 5 is taken
+    /// from each half of the stack pointer word at p. Error 17 if p is immediate; MPV if one of the
+    /// words is absent, else WRO if p is read only.
     #[tactic(auto, using(its_machine::proofs::BareLaws::dismissed_bare), unfolding(its_plain::specs::CallBasic::dismiss, its_plain::specs::View::view))]
     pub(crate) fn dismiss(&self) -> Decision
         ensures { result ≡ dismiss (looks self.now) self.now.ask.now }

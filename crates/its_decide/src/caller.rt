@@ -13,9 +13,10 @@ use its_pipes::Pipes;
 use its_records::{Ask, Job};
 use its_word::Slot;
 
-/// The parts of a machine, borrowed: cores, jobs, the consoles and for each of them the slot of the job that holds it, files and
-/// drafts, the clock in thirtieths, for each slot the alarm of its job if it has one (its period and its next time), the version of the
-/// session text, for each slot the symbols of its job, and the links between jobs with their words.
+/// The parts of a machine, borrowed: cores, jobs, the consoles and for each of them the slot of the
+/// job that holds it, files and drafts, the clock in thirtieths, for each slot the alarm of its job
+/// if it has one (its period and its next time), the version of the session text, for each slot the
+/// symbols of its job, and the links between jobs with their words.
 #[derive(Clone, Copy, Drop)]
 pub struct Seen<'a> {
     pub core: &'a Core,
@@ -30,8 +31,8 @@ pub struct Seen<'a> {
     pub pipes: &'a Pipes,
 }
 
-/// A job at a call: the machine that it looks at, its slot, its registers, what it asks for, and the slot of the job into which
-/// the call reaches, through an open channel on it.
+/// A job at a call: the machine that it looks at, its slot, its registers, what it asks for, and
+/// the slot of the job into which the call reaches, through an open channel on it.
 #[derive(Drop)]
 pub struct Caller<'a> {
     pub seen: &'a Seen<'a>,

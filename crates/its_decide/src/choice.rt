@@ -1,4 +1,5 @@
-//! Which call decides: by its name, and for the calls that devices share by the device, or by what the channel is on.
+//! Which call decides: by its name, and for the calls that devices share by the device, or by what
+//! the channel is on.
 ghost use Rattle.std.specs.Prelude.{◌≡◌, ◌<◌, ◌∷◌, [], Some};
 ghost use Rattle.its_frame.specs.declared.change.Change.TheVariants.{Shut};
 ghost use Rattle.its_frame.specs.declared.decision.Decision.TheVariants.{Ends};
@@ -134,8 +135,8 @@ impl Caller<'_> {
         }
     }
 
-    /// CLOSE by what the channel is on: a draft becomes a file, an end of a link is closed, any other channel is closed alone. Error 4,
-    /// and those of a draft.
+    /// CLOSE by what the channel is on: a draft becomes a file, an end of a link is closed, any
+    /// other channel is closed alone. Error 4, and those of a draft.
     #[tactic(auto, using(its_machine::proofs::NumberLaws::under, its_machine::proofs::NumberLaws::numbers), unfolding(its_plain::specs::CallDevice::close_call, its_plain::specs::View::view))]
     fn close(&self) -> Decision
         requires { SeenFits self.now.seen.now }

@@ -28,7 +28,8 @@ const RING_BYTES: u32 = 64;
 const SHOWN: u64 = 0o177;
 
 impl Caller<'_> {
-    /// The number of the caller's console. A channel on a console is opened only if its job has one.
+    /// The number of the caller's console. A channel on a console is opened only if its job has
+    /// one.
     #[inline(always)]
     fn console(&self) -> u8
         ensures { result ≡ unwrap_or self.now.job.now.console 0 }
@@ -149,8 +150,9 @@ impl Caller<'_> {
         self.finishes(self.output(Word::new(u64::from(self.waiting().0))))
     }
 
-    /// TTYLND job: the job becomes the holder of the caller's console. Errors 4, 5; 5 if the caller has no console; for oneself 13 if a
-    /// stranger holds it; for an inferior 5 if the caller does not hold it.
+    /// TTYLND job: the job becomes the holder of the caller's console. Errors 4, 5; 5 if the caller
+    /// has no console; for oneself 13 if a stranger holds it; for an inferior 5 if the caller does
+    /// not hold it.
     #[tactic(auto, using(its_machine::proofs::NumberLaws::under), unfolding(its_plain::specs::CallTty::ttylnd, its_plain::specs::View::view))]
     pub(crate) fn ttylnd(&self) -> Decision
         ensures { result ≡ ttylnd (looks self.now) self.now.ask.now }
@@ -166,7 +168,8 @@ impl Caller<'_> {
         }
     }
 
-    /// Whether the caller can take its console for itself: nobody holds it, or the caller, or one of its inferiors.
+    /// Whether the caller can take its console for itself: nobody holds it, or the caller, or one
+    /// of its inferiors.
     #[tactic(auto, unfolding(its_plain::specs::View::view))]
     fn can_take(&self) -> bool
         ensures { result ≡ can_take (looks self.now) ((looks self.now).holders (view_console (looks self.now))) }
@@ -216,7 +219,8 @@ impl Caller<'_> {
         })
     }
 
-    /// OPEN channel, TTY: input, or output with control 1. Errors 4, 5 if the device is not TTY, 22, and 5 if the job has no console.
+    /// OPEN channel, TTY: input, or output with control 1. Errors 4, 5 if the device is not TTY,
+    /// 22, and 5 if the job has no console.
     #[tactic(auto, unfolding(its_plain::specs::CallTty::opens, its_plain::specs::View::view))]
     pub(crate) fn open_tty(&self) -> Decision
         ensures { result ≡ opens (looks self.now) self.now.ask.now }
@@ -242,7 +246,8 @@ impl Caller<'_> {
         })
     }
 
-    /// `.IOT` from a console: its first byte becomes the word at E, right-justified. MPV or WRO by the word.
+    /// `.IOT` from a console: its first byte becomes the word at E, right-justified. MPV or WRO by
+    /// the word.
     #[tactic(auto, unfolding(its_plain::specs::View::view))]
     pub(crate) fn iot_in(&self) -> Decision
         ensures { result ≡ iot_in (looks self.now) (slice_index_or self.now.ask.now.outputs.items 0 0) (view_console (looks self.now)) }
@@ -282,7 +287,8 @@ impl Caller<'_> {
         )
     }
 
-    /// SIOT from a console: one byte, which is held and stored by the next step; pointer and count become those of the rest.
+    /// SIOT from a console: one byte, which is held and stored by the next step; pointer and count
+    /// become those of the rest.
     #[inline(always)]
     pub(crate) fn siot_in(&self) -> Result<NextMove, Halt>
         ensures { outcome (looks self.now) self.now.ask.now result ≡ siot_by (looks self.now) self.now.ask.now false false (siot_in (looks self.now) self.now.ask.now (next_pointer (input self.now.ask.now 1)) (input self.now.ask.now 2) (view_console (looks self.now))) }

@@ -1,5 +1,5 @@
-//! The directory as a call sees it: which file has some names, and whether a channel reads it. CLOSE of a draft, DELETE and
-//! RENAME.
+//! The directory as a call sees it: which file has some names, and whether a channel reads it.
+//! CLOSE of a draft, DELETE and RENAME.
 ghost use Rattle.std.specs.Prelude.{◌≡◌, ◌<◌};
 ghost use Rattle.its_files.specs.Files.{directory, file_at, found};
 ghost use Rattle.its_plain.specs.Arguments.{input};
@@ -22,7 +22,8 @@ pub(crate) const DSK: u64 = 0o446353000000;
 const FILES: u32 = 256;
 
 impl Caller<'_> {
-    /// The directory, name 1 and name 2 of a file, of which the two names and the directory are the inputs from k on.
+    /// The directory, name 1 and name 2 of a file, of which the two names and the directory are the
+    /// inputs from k on.
     pub(crate) fn names_from(&self, k: usize) -> [Word; 3]
         requires { k < 8 }
         ensures { result ≡ names_from self.now.ask.now k }
@@ -66,8 +67,8 @@ impl Caller<'_> {
         }
     }
 
-    /// CLOSE of a draft, which becomes the last file, in place of the one with its names. Errors 11 if a channel reads that file, 7 if
-    /// there is none and there are 256 files.
+    /// CLOSE of a draft, which becomes the last file, in place of the one with its names. Errors 11
+    /// if a channel reads that file, 7 if there is none and there are 256 files.
     #[tactic(auto, using(its_files::proofs::EntryLaws::draft_stands, crate::proofs::FileLaws::writing, its_machine::proofs::SeenLaws::seen_count), unfolding(its_plain::specs::CallFile::closes_draft, its_plain::specs::View::view))]
     pub(crate) fn close_draft(&self, draft: u32) -> Decision
         requires on { channel_under self.now.job.now (input self.now.ask.now 0) ≡ Writing draft }
@@ -86,8 +87,8 @@ impl Caller<'_> {
         })
     }
 
-    /// Why a file is neither deleted nor renamed: error 5 if the device is not DSK, 6 if there is no such file, 11 if a channel reads
-    /// it.
+    /// Why a file is neither deleted nor renamed: error 5 if the device is not DSK, 6 if there is
+    /// no such file, 11 if a channel reads it.
     #[tactic(auto, unfolding(its_plain::specs::View::view))]
     fn error_of_file(&self, names: [Word; 3]) -> Option<u8>
         requires { SeenFits self.now.seen.now }
@@ -117,8 +118,8 @@ impl Caller<'_> {
         self.finishes_with(Change::Delete { d, x, y })
     }
 
-    /// RENAME device, name 1, name 2, directory, new name 1, new name 2. Errors 5, 6, 11, and 23 if a file of the directory has the new
-    /// names, itself included.
+    /// RENAME device, name 1, name 2, directory, new name 1, new name 2. Errors 5, 6, 11, and 23 if
+    /// a file of the directory has the new names, itself included.
     #[tactic(auto, unfolding(its_plain::specs::CallFile::rename, its_plain::specs::View::view))]
     pub(crate) fn rename(&self) -> Decision
         requires { SeenFits self.now.seen.now }

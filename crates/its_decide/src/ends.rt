@@ -28,7 +28,8 @@ impl Caller<'_> {
         }
     }
 
-    /// The registers of the caller whose call is over: PC some words further, first part done cleared.
+    /// The registers of the caller whose call is over: PC some words further, first part done
+    /// cleared.
     pub(crate) fn past(&self, words: u32) -> Exit
         requires { words < 2 ^ 18 }
         ensures { result ≡ exit_of (with_advance words self.now.job.now) }
@@ -61,7 +62,8 @@ impl Caller<'_> {
         ends(Some(change), ArrayVec::new(), self.past(2))
     }
 
-    /// The call fails: the number is stored at its error address, if it has one, and PC is past the call.
+    /// The call fails: the number is stored at its error address, if it has one, and PC is past the
+    /// call.
     pub(crate) fn fails(&self, number: u8) -> Decision
         ensures { result ≡ Ends (record { items = [] }) (record { items = number_at self.now.ask.now.error number }) (exit_of (with_advance 1 self.now.job.now)) }
     {
@@ -88,7 +90,8 @@ impl Caller<'_> {
     }
 }
 
-/// A part of the call is done: these changes, a byte or word may be held, and pointer and count become those of the rest.
+/// A part of the call is done: these changes, a byte or word may be held, and pointer and count
+/// become those of the rest.
 pub(crate) fn goes_with(
     changes: ArrayVec<Change, 2>,
     held: Option<Held>,
@@ -107,7 +110,8 @@ pub(crate) fn goes_with(
     }
 }
 
-/// A part of the call is done: nothing changes outside its job's words and registers, and the last argument becomes another.
+/// A part of the call is done: nothing changes outside its job's words and registers, and the last
+/// argument becomes another.
 pub(crate) fn goes_on(value: Word) -> Decision
     ensures { result ≡ goes [] None (value ∷ []) }
 {

@@ -1,4 +1,5 @@
-//! Files and drafts through a channel: OPEN of DSK, ACCESS, FILLEN, and `.IOT` and SIOT of whole words.
+//! Files and drafts through a channel: OPEN of DSK, ACCESS, FILLEN, and `.IOT` and SIOT of whole
+//! words.
 ghost use Rattle.std.specs.Prelude.{◌≡◌, ◌==◌, ◌<◌, ◌^◌, [], IfSome, true, length, slice_get, slice_index_or};
 ghost use Rattle.its_frame.specs.declared.change.Change.TheVariants.{Append};
 ghost use Rattle.its_frame.specs.declared.decision.Decision.TheVariants.{Ends};
@@ -26,7 +27,8 @@ use its_records::Channel;
 use its_word::{ADDRESSES, Fault, Word};
 
 impl Caller<'_> {
-    /// OPEN channel, DSK, name 1, name 2, directory: a file for input, or a new draft with control 1. Errors 4, 22, 6.
+    /// OPEN channel, DSK, name 1, name 2, directory: a file for input, or a new draft with control
+    /// 1. Errors 4, 22, 6.
     #[tactic(auto, unfolding(its_plain::specs::CallFile::opens_disk, its_plain::specs::View::view))]
     pub(crate) fn open_disk(&self) -> Decision
         ensures { result ≡ opens_disk (looks self.now) self.now.ask.now }
@@ -49,8 +51,8 @@ impl Caller<'_> {
         })
     }
 
-    /// ACCESS channel, position: the next word that a file gives, or that a channel on an inferior is at. Errors 4, 5, 22 if the
-    /// position is past the end.
+    /// ACCESS channel, position: the next word that a file gives, or that a channel on an inferior
+    /// is at. Errors 4, 5, 22 if the position is past the end.
     #[tactic(auto, using(its_machine::proofs::NumberLaws::under, crate::proofs::FileLaws::reading, its_machine::proofs::NumberLaws::usr_number), unfolding(its_plain::specs::CallFile::access, its_plain::specs::View::view))]
     pub(crate) fn access(&self) -> Decision
         requires { SeenFits self.now.seen.now }
@@ -119,8 +121,8 @@ impl Caller<'_> {
         self.seen.files.word_at(file, at)
     }
 
-    /// `.IOT` from a file: the word at its position, which is then one more; 777777000003 at its end. MPV or WRO by the word at
-    /// E.
+    /// `.IOT` from a file: the word at its position, which is then one more; 777777000003 at its
+    /// end. MPV or WRO by the word at E.
     #[tactic(auto, using(crate::proofs::FileLaws::reading), unfolding(its_plain::specs::View::view))]
     pub(crate) fn iot_reads(&self, file: u32, at: u32) -> Decision
         requires on { channel_under self.now.job.now (input self.now.ask.now 0) ≡ Reading file at }
@@ -182,7 +184,8 @@ impl Caller<'_> {
         }
     }
 
-    /// The same if no test of its arguments stops it.
+    /// SIOT to a draft once no test of its arguments stops it: the byte becomes a word at its end.
+    /// Error 10 if there is no room.
     #[inline(always)]
     #[tactic(auto, using(its_machine::proofs::StopLaws::loaded_fits, crate::proofs::FileLaws::writing, crate::proofs::FileLaws::seen_full, its_files::proofs::EntryLaws::draft_stands), unfolding(its_plain::specs::View::view))]
     fn siot_write(&self, next: Word, draft: u32) -> Result<NextMove, Halt>
@@ -217,7 +220,7 @@ impl Caller<'_> {
         }
     }
 
-    /// The same as what SIOT changes.
+    /// What SIOT changes outside the job if a word is added to the draft of its channel.
     #[inline(always)]
     fn shifts_by(&self, word: Word) -> Shift
         requires { input self.now.ask.now 0 < 16 }

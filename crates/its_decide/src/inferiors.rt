@@ -1,4 +1,5 @@
-//! Inferiors: OPEN of USR, `.IOT` and SIOT of whole words through a channel on one, USRMEM and UCLOSE.
+//! Inferiors: OPEN of USR, `.IOT` and SIOT of whole words through a channel on one, USRMEM and
+//! UCLOSE.
 ghost use Rattle.std.specs.Prelude.{◌≡◌, ◌<◌, ◌+◌, ◌^◌, ◌∷◌, ◌&&◌, [], Some, true, slice_index_or};
 ghost use Rattle.its_word.specs.Byte.{has_size};
 ghost use Rattle.its_records.specs.Tree.{least_free};
@@ -25,8 +26,9 @@ use its_records::Channel;
 use its_word::{ADDRESSES, Fault, SLOTS, Slot, Word};
 
 impl Caller<'_> {
-    /// OPEN channel, USR, user name, job name: the caller's inferior with these names, which is made with control 1 if there is none.
-    /// Errors 4, 22; 13 if they are those of another job, 12 for input if no job has them, 14 if all slots below the limit have jobs.
+    /// OPEN channel, USR, user name, job name: the caller's inferior with these names, which is
+    /// made with control 1 if there is none. Errors 4, 22; 13 if they are those of another job, 12
+    /// for input if no job has them, 14 if all slots below the limit have jobs.
     #[tactic(auto, unfolding(its_plain::specs::CallUsr::opens_usr, its_plain::specs::View::view))]
     pub(crate) fn open_usr(&self) -> Decision
         requires { SeenFits self.now.seen.now }
@@ -121,7 +123,8 @@ impl Caller<'_> {
         }
     }
 
-    /// `.IOT` through a channel on an inferior: into it, if the channel has leave to write, else from it.
+    /// `.IOT` through a channel on an inferior: into it, if the channel has leave to write, else
+    /// from it.
     #[tactic(auto, using(crate::proofs::InferiorLaws::targeted))]
     pub(crate) fn iot_through(&self, inferior: u8, write: bool, at: u32) -> Decision
         requires on { channel_under self.now.job.now (input self.now.ask.now 0) ≡ Usr inferior write at }
@@ -137,8 +140,8 @@ impl Caller<'_> {
         }
     }
 
-    /// `.IOT` from an inferior: the word at the channel's position, which is then one more; 777777000003 at the end. MPV or WRO by the
-    /// word at E; IOC if the inferior's word is absent.
+    /// `.IOT` from an inferior: the word at the channel's position, which is then one more;
+    /// 777777000003 at the end. MPV or WRO by the word at E; IOC if the inferior's word is absent.
     #[tactic(auto, using(crate::proofs::InferiorLaws::other_word), unfolding(its_plain::specs::View::view))]
     fn iot_from(&self, inferior: u8, at: u32) -> Decision
         requires { Targets self.now (input self.now.ask.now 0) inferior }
@@ -156,8 +159,8 @@ impl Caller<'_> {
         }
     }
 
-    /// `.IOT` into an inferior: the word at E is stored at the channel's position, which is then one more. MPV by the word at E; IOC at
-    /// the end, and if the inferior's word cannot be stored.
+    /// `.IOT` into an inferior: the word at E is stored at the channel's position, which is then
+    /// one more. MPV by the word at E; IOC at the end, and if the inferior's word cannot be stored.
     #[tactic(auto, using(crate::proofs::InferiorLaws::other_stored), unfolding(its_plain::specs::View::view))]
     fn iot_into(&self, inferior: u8, at: u32) -> Decision
         requires { Targets self.now (input self.now.ask.now 0) inferior }
@@ -190,7 +193,8 @@ impl Caller<'_> {
         ArrayVec::from([poke, self.moves_to(at + 1)])
     }
 
-    /// SIOT through a channel on an inferior: into it, if the channel has leave to write, else from it.
+    /// SIOT through a channel on an inferior: into it, if the channel has leave to write, else from
+    /// it.
     #[tactic(auto, using(crate::proofs::InferiorLaws::targeted))]
     pub(crate) fn siot_through(&self, inferior: u8, write: bool, at: u32) -> Decision
         requires on { channel_under self.now.job.now (input self.now.ask.now 0) ≡ Usr inferior write at }
@@ -206,7 +210,8 @@ impl Caller<'_> {
         }
     }
 
-    /// SIOT from an inferior: the word at the channel's position is held, and stored by the next step. Error 16 if it is absent.
+    /// SIOT from an inferior: the word at the channel's position is held, and stored by the next
+    /// step. Error 16 if it is absent.
     #[tactic(auto, using(crate::proofs::InferiorLaws::other_word), unfolding(its_plain::specs::View::view))]
     fn siot_from(&self, inferior: u8, at: u32) -> Decision
         requires { Targets self.now (input self.now.ask.now 0) inferior }
@@ -218,7 +223,8 @@ impl Caller<'_> {
         }
     }
 
-    /// The same if no test of its arguments stops it.
+    /// SIOT from an inferior once no test of its arguments stops it: its word is held. Error 16 if
+    /// it is absent.
     #[tactic(auto, unfolding(its_plain::specs::View::view))]
     fn siot_peeks(&self, next: Word, at: u32, word: Option<Word>) -> Decision
         requires number { input self.now.ask.now 0 < 16 }
@@ -234,7 +240,8 @@ impl Caller<'_> {
         }
     }
 
-    /// SIOT into an inferior: the word is stored at the channel's position. Error 16 if it cannot be.
+    /// SIOT into an inferior: the word is stored at the channel's position. Error 16 if it cannot
+    /// be.
     #[tactic(auto, unfolding(its_plain::specs::View::view))]
     fn siot_into(&self, inferior: u8, at: u32) -> Decision
         requires { Targets self.now (input self.now.ask.now 0) inferior }
@@ -246,7 +253,8 @@ impl Caller<'_> {
         }
     }
 
-    /// The same if no test of its arguments stops it.
+    /// SIOT into an inferior once no test of its arguments stops it: the word is stored. Error 16
+    /// if it cannot be.
     #[tactic(auto, using(crate::proofs::InferiorLaws::other_stored, its_machine::proofs::StopLaws::loaded_fits), unfolding(its_plain::specs::View::view))]
     fn siot_pokes(&self, next: Word, inferior: u8, at: u32) -> Decision
         requires targets { Targets self.now (input self.now.ask.now 0) inferior }
@@ -270,8 +278,9 @@ impl Caller<'_> {
         }
     }
 
-    /// USRMEM channel, address, optional new word: the output gets the word of the inferior, and then the new one is stored. Errors 4,
-    /// 5, 22; 5 if the channel has no leave to write, 16 if the word is absent or cannot be stored.
+    /// USRMEM channel, address, optional new word: the output gets the word of the inferior, and
+    /// then the new one is stored. Errors 4, 5, 22; 5 if the channel has no leave to write, 16 if
+    /// the word is absent or cannot be stored.
     #[tactic(auto, using(its_machine::proofs::NumberLaws::under, crate::proofs::InferiorLaws::targeted), unfolding(its_plain::specs::CallUsr::usrmem, its_plain::specs::View::view))]
     pub(crate) fn usrmem(&self) -> Decision
         requires fail { self.now.ask.now.fail ≡ 0 }
@@ -290,7 +299,7 @@ impl Caller<'_> {
         }
     }
 
-    /// The same on an inferior.
+    /// USRMEM on this inferior: the output gets its word, and then the new one is stored.
     #[tactic(auto, using(crate::proofs::InferiorLaws::other_word, crate::proofs::InferiorLaws::other_stored), unfolding(its_plain::specs::View::view))]
     fn usrmem_on(&self, inferior: u8, write: bool, at: u32) -> Decision
         requires { Targets self.now (input self.now.ask.now 0) inferior }

@@ -1,4 +1,5 @@
-//! Links between jobs: OPEN of LNK, CLOSE of an end, and `.IOT` and SIOT if their channel is on one.
+//! Links between jobs: OPEN of LNK, CLOSE of an end, and `.IOT` and SIOT if their channel is on
+//! one.
 ghost use Rattle.std.specs.Prelude.{◌≡◌, ◌<◌, ◌∷◌, [], true, false, slice_index_or};
 ghost use Rattle.its_word.specs.Byte.{has_size};
 ghost use Rattle.its_records.specs.Tree.{least_free};
@@ -25,8 +26,9 @@ use its_word::{Fault, Word};
 pub(crate) const LNK: u64 = 0o545653000000;
 
 impl Caller<'_> {
-    /// OPEN channel, LNK, name 1, name 2: the reading end, or with control 1 the writing end, of the link with these names. Errors 4,
-    /// 22; 24 if the end is open or was open, 25 if no link has the names and there are 16.
+    /// OPEN channel, LNK, name 1, name 2: the reading end, or with control 1 the writing end, of
+    /// the link with these names. Errors 4, 22; 24 if the end is open or was open, 25 if no link
+    /// has the names and there are 16.
     #[tactic(auto, unfolding(its_plain::specs::CallLink::opens_link, its_plain::specs::View::view))]
     pub(crate) fn open_link(&self) -> Decision
         ensures { result ≡ opens_link (looks self.now) self.now.ask.now }
@@ -42,7 +44,8 @@ impl Caller<'_> {
         self.opens_end(number.value() as u8, control == 1)
     }
 
-    /// The end with the names of OPEN is opened, if nobody has opened it before; without a link of these names one is made.
+    /// The end with the names of OPEN is opened, if nobody has opened it before; without a link of
+    /// these names one is made.
     #[tactic(auto, unfolding(its_plain::specs::View::view))]
     fn opens_end(&self, n: u8, write: bool) -> Decision
         ensures { result ≡ opens_end (looks self.now) self.now.ask.now n write (input self.now.ask.now 2) (input self.now.ask.now 3) (link_named (looks self.now).links (input self.now.ask.now 2) (input self.now.ask.now 3)) }
@@ -54,7 +57,8 @@ impl Caller<'_> {
         }
     }
 
-    /// A link with the names of OPEN is made under the least number that has none, and its end opened.
+    /// A link with the names of OPEN is made under the least number that has none, and its end
+    /// opened.
     #[tactic(auto, unfolding(its_plain::specs::View::view))]
     fn makes_link(&self, n: u8, write: bool) -> Decision
         ensures { result ≡ makes_link (looks self.now) self.now.ask.now n write (input self.now.ask.now 2) (input self.now.ask.now 3) (least_free most_links (looks self.now).links) }
@@ -138,7 +142,8 @@ impl Caller<'_> {
         ends(Some(change), ArrayVec::new(), self.past(1))
     }
 
-    /// SIOT from a link: its first word is held, and its low bits are stored by the next step. At its end the call finishes.
+    /// SIOT from a link: its first word is held, and its low bits are stored by the next step. At
+    /// its end the call finishes.
     #[inline(always)]
     #[tactic(auto, unfolding(its_plain::specs::View::view))]
     pub(crate) fn siot_receives(&self, link: u8) -> Result<NextMove, Halt>
@@ -168,7 +173,8 @@ impl Caller<'_> {
         Ok(one_moved(Shift::Receive { link }, Some(held), next, self.input(2)))
     }
 
-    /// SIOT to a link: the byte becomes a word, which is sent. Error 26 if the reading end is closed.
+    /// SIOT to a link: the byte becomes a word, which is sent. Error 26 if the reading end is
+    /// closed.
     #[inline(always)]
     #[tactic(auto, unfolding(its_plain::specs::View::view))]
     pub(crate) fn siot_sends(&self, link: u8) -> Result<NextMove, Halt>

@@ -21,8 +21,9 @@ use its_frame::{CallName, Change, Decision, Held, Wait};
 use its_records::{Ask, Channel, Job};
 use its_word::{Fault, Slot, Word};
 
-/// What changes outside the job's own words and registers if SIOT moves a byte or word: the position of a channel, the draft of a channel, the
-/// input or the output of a console, or the words of a link. Each is a `Change`; this type has no other, and is small.
+/// What changes outside the job's own words and registers if SIOT moves a byte or word: the
+/// position of a channel, the draft of a channel, the input or the output of a console, or the
+/// words of a link. Each is a `Change`; this type has no other, and is small.
 #[derive(Clone, Copy, Debug, PartialEq, Eq)]
 pub enum Shift {
     Move { channel: u8, at: u32 },
@@ -33,7 +34,8 @@ pub enum Shift {
     Receive { link: u8 },
 }
 
-/// A byte or word that SIOT moves: what changes, what is held until it is stored, and pointer and count of the rest.
+/// A byte or word that SIOT moves: what changes, what is held until it is stored, and pointer and
+/// count of the rest.
 #[derive(Clone, Copy, Debug, PartialEq, Eq)]
 pub struct NextMove {
     pub next: Word,
@@ -79,7 +81,7 @@ pub(crate) fn one_moved(shift: Shift, held: Option<Held>, next: Word, count: Wor
     }
 }
 
-/// The same as a decision.
+/// The decision that moves a byte or word by one change.
 fn moving(m: &NextMove) -> Decision
     ensures { result ≡ moving m.now }
 {
@@ -125,7 +127,8 @@ impl Caller<'_> {
         }
     }
 
-    /// What SIOT moves next, if its channel is on a console, a file, a draft or a link: exactly what its decision moves.
+    /// What SIOT moves next, if its channel is on a console, a file, a draft or a link: exactly
+    /// what its decision moves.
     #[inline(always)]
     #[tactic(auto, using(its_machine::proofs::NumberLaws::under), unfolding(its_plain::specs::CallDevice::siot_call, its_plain::specs::View::view))]
     fn next_move(&self) -> Option<NextMove>
@@ -146,9 +149,9 @@ impl Caller<'_> {
     }
 }
 
-/// What the call of a slot's job, which has these registers, moves next, if it is SIOT, its decoding gave no error, and it reaches no
-/// other job. Then its decision is this, and disturbs nobody. None says that one of the three does not hold, or that the decision moves
-/// nothing.
+/// What the call of a slot's job, which has these registers, moves next, if it is SIOT, its
+/// decoding gave no error, and it reaches no other job. Then its decision is this, and disturbs
+/// nobody. None says that one of the three does not hold, or that the decision moves nothing.
 #[inline(always)]
 #[tactic(auto, using(crate::proofs::SiotLaws::siot_target, crate::proofs::SiotLaws::moved_failed, crate::proofs::SiotLaws::moved_other, crate::proofs::SiotLaws::moved_reaching, crate::proofs::SiotLaws::moved_next), unfolding(its_plain::specs::CallStep::decision, its_plain::specs::Decide::decided, its_plain::specs::Decide::reach))]
 pub fn next_move(seen: &Seen<'_>, slot: Slot, job: &Job, ask: &Ask) -> Option<NextMove>

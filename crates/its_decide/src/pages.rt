@@ -32,8 +32,9 @@ const OPERATIONS: u64 = 3;
 const PAGES: u64 = 0o377;
 
 impl Caller<'_> {
-    /// CORBLK operation, job, page: drops a page (0), makes one of zeros (1), or makes it read only (2) or writable (3). Errors 22, 4,
-    /// 5; 22 by the page, 16 if it exists, for operation 1, or is absent, for any other; 15 if all jobs together have 1024 pages.
+    /// CORBLK operation, job, page: drops a page (0), makes one of zeros (1), or makes it read only
+    /// (2) or writable (3). Errors 22, 4, 5; 22 by the page, 16 if it exists, for operation 1, or
+    /// is absent, for any other; 15 if all jobs together have 1024 pages.
     #[tactic(auto, using(its_machine::proofs::NumberLaws::under, crate::proofs::InferiorLaws::targeted), unfolding(its_plain::specs::CallCore::corblk, its_plain::specs::View::view))]
     pub(crate) fn corblk(&self) -> Decision
         requires fail { self.now.ask.now.fail ≡ 0 }

@@ -14,8 +14,9 @@ use its_frame::CallName;
 use its_records::{Ask, Job};
 use its_word::Slot;
 
-/// The jobs that the commit of a call disturbs, beside its caller: the one into which it reaches, if there is one; for UCLOSE that one and
-/// all below it; for LOGOUT all below the caller, and its superior.
+/// The jobs that the commit of a call disturbs, beside its caller: the one into which it reaches,
+/// if there is one; for UCLOSE that one and all below it; for LOGOUT all below the caller, and its
+/// superior.
 #[derive(Clone, Copy, Debug, PartialEq, Eq)]
 pub enum Disturbed {
     Target(Option<u8>),

@@ -31,7 +31,8 @@ const WORD_BITS: u32 = 36;
 const BIT_0: u64 = 0o400000000000;
 
 impl Caller<'_> {
-    /// The pointer to the next byte of SIOT, if no test of its arguments stops it; or what the first test that holds says.
+    /// The pointer to the next byte of SIOT, if no test of its arguments stops it; or what the
+    /// first test that holds says.
     #[inline(always)]
     pub(crate) fn next_byte(&self, words: bool, at_end: bool) -> Result<Word, Halt>
         ensures next { IfOk result (λ p. (p ≡ next_pointer (input self.now.ask.now 1)) × (has_size p ≡ true)) }
@@ -45,8 +46,9 @@ impl Caller<'_> {
         }
     }
 
-    /// What the first of SIOT's tests says that holds: errors 17, WRO, 21, 22, the end with count 0 or if its channel is at its
-    /// end (of a file or of an inferior's core), and error 20. `words` says that the channel moves only whole words.
+    /// What the first of SIOT's tests says that holds: errors 17, WRO, 21, 22, the end with count 0
+    /// or if its channel is at its end (of a file or of an inferior's core), and error 20. `words`
+    /// says that the channel moves only whole words.
     #[tactic(auto, unfolding(its_plain::specs::View::view))]
     #[inline(always)]
     fn stop(&self, words: bool, at_end: bool) -> Option<Halt>

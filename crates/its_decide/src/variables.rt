@@ -15,9 +15,9 @@ use its_records::{Channel, Job};
 use its_word::{Slot, Word};
 
 impl Caller<'_> {
-    /// USRVAR job, name, optional new value: the output gets the value before, and then the new value is set. Errors 4 if the channel
-    /// is closed, 5 if it is on no job, 22 if no variable has the name, 5 if the channel has no leave to write, and 22 if the variable
-    /// cannot be set so.
+    /// USRVAR job, name, optional new value: the output gets the value before, and then the new
+    /// value is set. Errors 4 if the channel is closed, 5 if it is on no job, 22 if no variable has
+    /// the name, 5 if the channel has no leave to write, and 22 if the variable cannot be set so.
     #[tactic(auto, using(its_machine::proofs::NumberLaws::under), unfolding(its_plain::specs::CallBasic::usrvar, its_plain::specs::View::view))]
     pub(crate) fn usrvar(&self) -> Decision
         ensures { result ≡ usrvar (looks self.now) self.now.ask.now }
@@ -57,7 +57,8 @@ impl Caller<'_> {
         }
     }
 
-    /// The registers of the caller whose call finishes and sets a variable of its own; None if it may not set that itself.
+    /// The registers of the caller whose call finishes and sets a variable of its own; None if it
+    /// may not set that itself.
     #[tactic(auto, unfolding(its_plain::specs::Own::with_variable))]
     fn set(&self, variable: Variable, value: Word) -> Option<Exit>
         ensures { result ≡ (if by_oneself variable then Some (exit_of (with_variable variable value (with_advance 2 self.now.job.now))) else None) }

@@ -31,7 +31,7 @@ impl Caller<'_> {
         }
     }
 
-    /// The same as what SIOT changes.
+    /// What SIOT changes outside the job if the channel has another position.
     #[inline(always)]
     fn shifts_to(&self, at: u32) -> Shift
         requires { input self.now.ask.now 0 < 16 }
@@ -57,8 +57,9 @@ impl Caller<'_> {
         ends(change, store_at(Some(self.address()), word), self.past(1))
     }
 
-    /// SIOT gets a word, which is held and stored by the next step, at the next byte of its pointer; the position that it came
-    /// from is one more. MPV or WRO by the word that it will be stored in.
+    /// SIOT gets a word, which is held and stored by the next step, at the next byte of its
+    /// pointer; the position that it came from is one more. MPV or WRO by the word that it will be
+    /// stored in.
     #[inline(always)]
     #[tactic(auto, unfolding(its_plain::specs::View::view))]
     pub(crate) fn siot_gets(&self, next: Word, at: u32, word: Word) -> Result<NextMove, Halt>

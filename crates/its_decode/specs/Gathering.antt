@@ -1,4 +1,5 @@
--- How the arguments of a call are gathered: each is found, and what it gives goes to its place in what the call asks for.
+-- How the arguments of a call are gathered: each is found, and what it gives goes to its place in
+-- what the call asks for.
 -- No promise rests on this.
 use Rattle.std.specs.Prelude.{◌≡◌, ◌<◌, ℕ, ◌+◌, List, [], ◌∷◌, ◌++◌, length, Option, Some, None, Ok, slice_get}
 use Rattle.std.specs.List.{filter_map}

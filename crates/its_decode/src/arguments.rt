@@ -11,7 +11,8 @@ use its_core::Core;
 use its_records::{Ask, Kind, Operand};
 use its_word::{Address, Fault, Slot, Word};
 
-/// How much of the budget of indirect words is used, and how many error addresses and controls are found.
+/// How much of the budget of indirect words is used, and how many error addresses and controls are
+/// found.
 #[derive(Drop)]
 pub struct Progress {
     pub used: u32,
@@ -62,8 +63,8 @@ fn check_storable(core: &Core, slot: Slot, e: u32) -> Result<(), Fault>
     }
 }
 
-/// Adds the argument of a kind whose address is found to what a call asks for. The first error address counts, and the
-/// first control.
+/// Adds the argument of a kind whose address is found to what a call asks for. The first error
+/// address counts, and the first control.
 #[tactic(auto, unfolding(its_plain::specs::Decode::argument_at, its_plain::specs::Traced::also))]
 fn add_argument(
     core: &Core,
@@ -125,8 +126,8 @@ fn add_argument(
     }
 }
 
-/// Finds the argument of an argument word, and adds it to what a call asks for. The decode words get the places of the
-/// words that are read.
+/// Finds the argument of an argument word, and adds it to what a call asks for. The decode words
+/// get the places of the words that are read.
 #[tactic(auto, using(its_plain::proofs::TracedLaws::joined, its_plain::proofs::TracedLaws::ended, its_plain::proofs::ReadLaws::unread), unfolding(its_plain::specs::Decode::argument, its_plain::specs::Traced::also, its_plain::specs::Traced::located))]
 fn fetch_argument(
     core: &Core,
@@ -145,14 +146,15 @@ fn fetch_argument(
     ensures few { length ask.new.decode.items + 2 * progress.old.used ≤ length ask.old.decode.items + 2 * progress.new.used + 1 }
 {
     let Address { e, flags_word } = core.address(slot, w, &mut progress.used, &mut ask.decode)?;
-    // for the proof alone: if nothing names this type, rattle's plan of the borrows does not find `Option`
+    // for the proof alone: if nothing names this type, rattle's plan of the borrows does not find
+    // `Option`
     let _last: Option<Word> = flags_word;
     add_argument(core, slot, kind_of(w), e, ask, progress)?;
     Ok(())
 }
 
-/// Finds the arguments of argument words one by one, and adds them to what a call asks for; the first fault ends it.
-/// `used` is how much of the budget of 64 indirect words is used already.
+/// Finds the arguments of argument words one by one, and adds them to what a call asks for; the
+/// first fault ends it. `used` is how much of the budget of 64 indirect words is used already.
 pub fn fetch_arguments(
     core: &Core,
     slot: Slot,

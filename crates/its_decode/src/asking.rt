@@ -26,7 +26,8 @@ fn row_named(name: Word) -> Option<CallRow>
     }
 }
 
-/// The error of a call: 1 if no call has the name, 2 if there are too few arguments, 3 if there are too many, else 0.
+/// The error of a call: 1 if no call has the name, 2 if there are too few arguments, 3 if there are
+/// too many, else 0.
 #[tactic(auto, unfolding(its_plain::specs::Decode::error_by))]
 fn error_by(row: Option<CallRow>, inputs: usize, outputs: usize, excess: bool) -> u8
     ensures { result ≡ error_by row inputs outputs excess }
@@ -99,8 +100,9 @@ fn note_block(e: u32, words: u32, decode: &mut ArrayVec<u32, 160>)
     }
 }
 
-/// What a call by a block asks for, when its block is read. The decode words are those of the site, those of the block,
-/// and those of the arguments' addresses. The fault is that of the first argument that has one.
+/// What a call by a block asks for, when its block is read. The decode words are those of the site,
+/// those of the block, and those of the arguments' addresses. The fault is that of the first
+/// argument that has one.
 fn fetch_ask(
     core: &Core,
     slot: Slot,
@@ -139,8 +141,8 @@ fn ask_iot(site: &Site, channel: u8, ask: &mut Ask)
     ask.outputs.push(site.e);
 }
 
-/// The first part of a call's decoding: its block is read into `block`. `.IOT` has none. A fault of the first part is
-/// that of the decoding.
+/// The first part of a call's decoding: its block is read into `block`. `.IOT` has none. A fault of
+/// the first part is that of the decoding.
 #[tactic(auto, unfolding(its_stepped::specs::TwoParts::parse_of), using(crate::proofs::AskLaws::unparsed))]
 pub fn parse_site(core: &Core, slot: Slot, site: &Site, block: &mut Block) -> Result<(), Fault>
     requires address { site.now.e < 2 ^ 18 }
@@ -160,8 +162,9 @@ pub fn parse_site(core: &Core, slot: Slot, site: &Site, block: &mut Block) -> Re
     }
 }
 
-/// The second part: the arguments of a call whose block is read are found, and what it asks for is written to `ask`. Of
-/// the block that the first part has read this is the whole decoding. After a fault `ask` is unspecified.
+/// The second part: the arguments of a call whose block is read are found, and what it asks for is
+/// written to `ask`. Of the block that the first part has read this is the whole decoding. After a
+/// fault `ask` is unspecified.
 #[tactic(auto, unfolding(its_stepped::specs::TwoParts::fetch_of), using(crate::proofs::AskLaws::both_parts))]
 pub fn fetch_site(
     core: &Core,

@@ -50,8 +50,8 @@ fn read(core: &Core, slot: Slot, a: u32) -> Result<Word, Fault>
     core.get(slot, a % ADDRESSES).map_err(|_| Fault::Mpv)
 }
 
-/// Appends the argument words of a block, which begin at an address, up to the first with bit 0 on, at most 8. Mpv if
-/// one of them is absent.
+/// Appends the argument words of a block, which begin at an address, up to the first with bit 0 on,
+/// at most 8. Mpv if one of them is absent.
 #[tactic(auto, using(crate::proofs::BlockLaws::words_more, crate::proofs::BlockLaws::words_last, crate::proofs::BlockLaws::words_absent, crate::proofs::BlockLaws::words_over))]
 fn read_words(core: &Core, slot: Slot, a: u32, block: &mut Block) -> Result<(), Fault>
     requires address { a < 2 ^ 19 }
@@ -101,8 +101,9 @@ fn is_legal(block: &[Word]) -> bool
     has_bit_0(block[0]) && have_types(words_of(block))
 }
 
-/// Reads the block of a call at an address: its first word, its name, and argument words up to the first with bit 0 on,
-/// at most 8. Mpv if one of its words is absent; else Ilo if bit 0 of the first word is off, or an argument has no type.
+/// Reads the block of a call at an address: its first word, its name, and argument words up to the
+/// first with bit 0 on, at most 8. Mpv if one of its words is absent; else Ilo if bit 0 of the
+/// first word is off, or an argument has no type.
 #[tactic(auto, unfolding(its_plain::specs::Decode::parsed, its_plain::specs::Traced::also))]
 pub fn parse_block(core: &Core, slot: Slot, e: u32, block: &mut Block) -> Result<(), Fault>
     requires address { e < 2 ^ 18 }

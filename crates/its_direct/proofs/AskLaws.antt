@@ -1,4 +1,5 @@
--- The decoding of a call in one pass: what is left of it at each place of the code is what is left of the definition.
+-- The decoding of a call in one pass: what is left of it at each place of the code is what is left
+-- of the definition.
 use Rattle.std.specs.Prelude.{◌≡◌, ◌<◌, ◌≤◌, ◌%◌, ◌^◌, ℕ, suc, ◌+◌, ◌-◌, Bool, true, false, Option, Some, None, List, [], ◌∷◌, ◌++◌, Result, Ok, Err, drop, length, slice_get, refl}
 use Rattle.std.specs.List.{cons_option, filter_map}
 use Rattle.std.proofs.Common.{ap, sym, ◌∙◌, arith, get_or}

@@ -1,4 +1,5 @@
--- The whole step of a slot's job: what its call sees, its result, whom it touches, and what it leaves.
+-- The whole step of a slot's job: what its call sees, its result, whom it touches, and what it
+-- leaves.
 use Rattle.std.specs.Prelude.{◌≡◌, ◌≢◌, ◌<◌, ◌≤◌, ◌==◌, ◌^◌, ◌&&◌, ◌||◌, if◌then◌else◌, ℕ, ◌+◌, Bool, true, false, not, Option, Some, None, IfSome, is_some, option_map, List, [], ◌∷◌, ◌++◌, length, slice_index_or, slice_set, Result, Ok, Err, refl}
 use Rattle.std.specs.List.{range_with_len}
 use Rattle.std.proofs.Common.{sym, ap, ◌∙◌, subst, arith, inl, inr}
@@ -279,7 +280,7 @@ module _ (old mid new : Plain) (s : ℕ) (a : Ask) (ks : List ℕ) (d : Decision
         };
       }
 
--- the same of a decision that makes no job
+-- a decision that makes no job is carried out, and whom it touches is marked
 pub act_alone : (old mid new : Plain) (s : ℕ) (a : Ask) (ks : List ℕ) (d : Decision) (b : Bool) → makes_job d ≡ false → new ≡ record mid { touched = new.touched }
     → ((k : ℕ) → is_touched new k ≡ among k ks) → Acts b (acted (machine_of old) s a [] d) old mid → b ≡ true → Makes true (acted (machine_of old) s a ks d) old new
 act_alone old mid new s a ks d b none same touched h e = subst (λ (o : Option Transition). Makes true o old new) (sym (acted_reaches (machine_of old) s a ks d))

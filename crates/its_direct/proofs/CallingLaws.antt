@@ -1,5 +1,5 @@
--- The state in which a call of the plain machine is carried out, in the terms of the laws of decisions: no close is
--- half made, and the jobs that the call reaches are in no call.
+-- The state in which a call of the plain machine is carried out, in the terms of the laws of
+-- decisions: no close is half made, and the jobs that the call reaches are in no call.
 use Rattle.std.specs.Prelude.{◌≡◌, ℕ, Bool, true, false, Option, Some, None, IfSome, List, [], ◌∷◌, length, refl}
 use Rattle.std.proofs.Common.{sym, ap, subst, arith}
 use Rattle.its_word.specs.Core.{zero_page}
@@ -25,8 +25,8 @@ use Rattle.its_stepped.proofs.DebtLaws.{debts_none}
 use Rattle.its_stepped.proofs.DecodingLaws.{decoding}
 use Rattle.its_stepped.proofs.GivenLaws.{reach_apart}
 
--- the state in which slot j's call is carried out, with these other calls in progress: it has a clear page if it makes
--- one
+-- the state in which slot j's call is carried out, with these other calls in progress: it has a
+-- clear page if it makes one
 abbrev pub page_for : Bool → Option ℕ
 page_for true = Some quarters
 page_for false = None

@@ -1,5 +1,5 @@
--- A channel of a job is set, with the store that it is on; and the store alone: the machine after it, and what holds of
--- that machine.
+-- A channel of a job is set, with the store that it is on; and the store alone: the machine after
+-- it, and what holds of that machine.
 use Rattle.std.specs.Prelude.{◌≡◌, ◌≢◌, ◌<◌, ◌≤◌, ◌^◌, ℕ, ◌+◌, ◌-◌, Bool, true, false, Option, Some, None, is_some, option_map, Ok, Err, List, [], ◌∷◌, ◌++◌, length, slice_set, refl}
 use Rattle.std.proofs.Common.{sym, ◌∙◌, ap, subst, inl, inr}
 use Rattle.std.proofs.lemmas.Bool.{cases_eq}

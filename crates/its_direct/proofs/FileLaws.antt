@@ -50,8 +50,8 @@ use Rattle.its_direct.proofs.SlotLaws.{IsPlaced, touched_machine, touched_tidy}
 use Rattle.its_direct.proofs.TouchLaws.{none_touched}
 use Rattle.its_direct.proofs.ContentsLaws.{core_as, jobs_as, consoles_as, holders_as, files_as, clock_as, alarms_as, version_as, symbols_as, pipes_as}
 
--- what the channels are on is unchanged, if only the entry under one number is another: that is no draft, and a file
--- keeps its names
+-- what the channels are on is unchanged, if only the entry under one number is another: that is no
+-- draft, and a file keeps its names
 module _ (s u : Store) (t : Table) (across : Across s t) (id : ℕ) (entry : (k : ℕ) → k ≢ id → entry_at u k ≡ entry_at s k) (words : (k : ℕ) → k ≢ id → words_at u k ≡ words_at s k)
     (undrafted : is_draft (entry_at s id) ≡ false) (named : is_file (entry_at s id) ≡ true → names_at u id ≡ names_at s id) where
   names_stay : (f : ℕ) → is_file (entry_at s f) ≡ true → names_at u f ≡ names_at s f

@@ -1,4 +1,5 @@
--- The operator's lines on one job: the machine after each of them is what the line's definition says.
+-- The operator's lines on one job: the machine after each of them is what the line's definition
+-- says.
 use Rattle.std.specs.Prelude.{◌≡◌, ◌<◌, ◌^◌, ℕ, Bool, true, false, Option, Some, None, is_some, IsOk, List, [], ◌∷◌, Ok, Err, option_map, refl}
 use Rattle.std.proofs.Common.{ap, sym, subst, ◌∙◌, inl, inr}
 use Rattle.std.proofs.lemmas.Bool.{cases_eq, eq-eqb, ne_eqb}

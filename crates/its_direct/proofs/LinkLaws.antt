@@ -1,4 +1,5 @@
--- Ends of links opened and closed, and words sent and received: the machine after it, and what holds of that machine.
+-- Ends of links opened and closed, and words sent and received: the machine after it, and what
+-- holds of that machine.
 use Rattle.std.specs.Prelude.{◌≡◌, ◌<◌, ℕ, Bool, true, Option, Some, is_some, length, option_map}
 use Rattle.std.proofs.Common.{ap, sym, subst, ◌∙◌}
 use Rattle.its_records.specs.Links.{most_linked}

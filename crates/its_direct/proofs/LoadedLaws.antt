@@ -1,4 +1,5 @@
--- The words of a LOAD block: a word is stored; if its page is absent, a page of zeros is made first.
+-- The words of a LOAD block: a word is stored; if its page is absent, a page of zeros is made
+-- first.
 use Rattle.std.specs.Prelude.{◌≡◌, ◌<◌, ◌≤◌, ◌/◌, ◌+◌, ◌^◌, ℕ, Bool, true, false, Option, Some, None, is_some, option_map, List, [], ◌∷◌, drop, length, IsOk, Result, Ok, Err, nat_lt, slice_index_or, refl}
 use Rattle.std.proofs.Common.{sym, ◌∙◌, ap, subst, arith, get_or, inl, inr}
 use Rattle.std.proofs.Math.ListN.{drop_of_length-le}

@@ -1,4 +1,5 @@
--- A part of a call that is carried out: the byte that is held, and the new values of its last inputs.
+-- A part of a call that is carried out: the byte that is held, and the new values of its last
+-- inputs.
 use Rattle.std.specs.Prelude.{◌≡◌, ◌<◌, ◌≤◌, ℕ, zero, suc, ◌+◌, ◌-◌, true, Option, Some, None, IfSome, is_some, option_map, List, [], ◌∷◌, ◌++◌, length, take, slice_get, slice_index_or, unwrap_or, refl}
 use Rattle.std.proofs.Common.{sym, ap, ◌∙◌, subst, arith, drop, drop-cons, inl, inr}
 use Rattle.std.proofs.lemmas.Bool.{cases_eq}

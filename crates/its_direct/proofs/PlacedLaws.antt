@@ -31,7 +31,7 @@ Placed m b places.File = has_file b.file m.files ≡ true
 Placed m b places.First = Unit {0}
 Placed m b places.Plain = Unit {0}
 
--- the same after the result of a line
+-- the block of lines after the result of a line is that of a job, or of a file
 abbrev pub PlacedBy : Place → Lined → Type 0
 PlacedBy p (Done (Does n out touched c)) = Placed n c p
 PlacedBy p (Done (Refuses r)) = Unit {0}

@@ -1,4 +1,5 @@
--- What a call decides can be carried out: its changes can be made, and after them its stores and its registers.
+-- What a call decides can be carried out: its changes can be made, and after them its stores and
+-- its registers.
 use Rattle.std.specs.Prelude.{◌≡◌, ◌≤◌, ◌<◌, ◌-◌, ◌^◌, ℕ, suc, true, Option, Some, None, IfSome, is_some, List, [], ◌∷◌, Ok, drop, length, refl}
 use Rattle.std.proofs.Common.{sym, ◌∙◌, ap, subst, inl, inr, arith}
 use Rattle.std.proofs.lemmas.List.{length-drop}
@@ -151,7 +152,8 @@ ready m j q s a forest consoled here placed st =
     ready_by m r j q s a (decision m j q a) here (decision_can free m j q a forest here (granted q a) (console_few m j q here consoled))
     (decision_duty decoding m (beginning m nobody r) j q s a 0 (calling m j q s a nobody forest here st tt (λ k h. refl) (λ k h. refl))) (decision_leaves m j q a placed)
 
--- the same of the machine in running form, at the call to which its step comes
+-- what a step decides on the second machine, at the call to which its step comes, can be carried
+-- out
 placed_at : (p : Plain) (k : ℕ) (o : Option Job) → job_at p.jobs k ≡ o → IfSome o (λ i. i.pc < 2 ^ 18) → IfSome ((machine_of p).jobs k) (λ q. q.job.pc < 2 ^ 18)
 placed_at p k (Some i) e h = subst (λ (w : Option Whole). IfSome w (λ q. q.job.pc < 2 ^ 18)) (sym (own_is p k i e)) h
 placed_at p k None e h = subst (λ (w : Option Whole). IfSome w (λ q. q.job.pc < 2 ^ 18)) (sym (nobody_is p k e)) tt

@@ -132,7 +132,8 @@ bares_sweep gone old new s g b = record {
 pub sweeps_gone : (old new : Plain) (r s : ℕ) (b : Bool) → b ≡ in_tree (superior_at old.jobs) r s → b ≡ true → Bares old new s → Sweeps (in_tree (superior_at old.jobs) r) old new s
 sweeps_gone old new r s b is is_so h = bares_sweep (in_tree (superior_at old.jobs) r) old new s (sym is ∙ is_so) h
 
--- what is left of an equation of contents, if cores, jobs, alarms and symbols are those of a new machine
+-- what is left of an equation of contents, if cores, jobs, alarms and symbols are those of a new
+-- machine
 shared : (new : Plain) {p q : Contents} → p ≡ q
     → record p { core = new.core; jobs = new.jobs; alarms = new.alarms; symbols = new.symbols } ≡ record q { core = new.core; jobs = new.jobs; alarms = new.alarms; symbols = new.symbols }
 shared new e = λ t. record (e t) { core = new.core; jobs = new.jobs; alarms = new.alarms; symbols = new.symbols }

@@ -16,7 +16,8 @@ use Rattle.its_plain.specs.OperatorJobs.{with_core, with_stored_in, with_stored,
 use Rattle.its_machine.proofs.PartLaws.{changed_only}
 use Rattle.its_direct.specs.Lines.{one_unless, pages_absent, pages_made_if, pages_made}
 
--- a line is obeyed if what it needs is at most what there can be, or it is refused as Full if it needs more
+-- a line is obeyed if what it needs is at most what there can be, or it is refused as Full if it
+-- needs more
 abbrev pub Within : ℕ → ℕ → Result Machine Reason → Type 0
 Within most needed (Ok m) = needed ≤ most
 Within most needed (Err r) = (r ≡ Full) × (most < needed)

@@ -1,4 +1,5 @@
--- What EXAM, LIST and STATE show of a job: its words, one by one, and the symbol that is nearest to its PC.
+-- What EXAM, LIST and STATE show of a job: its words, one by one, and the symbol that is nearest to
+-- its PC.
 use Rattle.std.specs.Prelude.{◌≡◌, ◌≤◌, ◌<◌, ◌+◌, ◌-◌, ◌%◌, ◌^◌, ℕ, suc, Option, Some, None, List, [], ◌∷◌, ◌++◌, Ok, Err, option_map, length, refl}
 use Rattle.std.proofs.Common.{sym, ◌∙◌, ap, arith}
 use Rattle.std.proofs.lemmas.List.{append-nil, length-append, append_assoc}

@@ -1,4 +1,5 @@
--- The core and the registers of one slot are written: the machine after it, and what holds of that machine.
+-- The core and the registers of one slot are written: the machine after it, and what holds of that
+-- machine.
 use Rattle.std.specs.Prelude.{◌≡◌, ◌≢◌, ◌<◌, ◌≤◌, ◌^◌, ℕ, Bool, Option, Some, None, IfSome, List, option_map, slice_index_or, vec_len, refl}
 use Rattle.std.proofs.Common.{ap, sym, subst, ◌∙◌, inl, inr}
 use Rattle.std.proofs.lemmas.Bool.{cases_eq}

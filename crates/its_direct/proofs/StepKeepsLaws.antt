@@ -1,4 +1,5 @@
--- No slot loses its job by a step, except the slot that takes the step and those that the step disturbs.
+-- No slot loses its job by a step, except the slot that takes the step and those that the step
+-- disturbs.
 use Rattle.std.specs.Prelude.{if◌then◌else◌, ◌==◌, ◌≡◌, ◌≢◌, ◌⊎◌, ℕ, Bool, true, false, Option, Some, None, is_some, List, [], ◌∷◌, Result, Ok, Err, refl}
 use Rattle.std.proofs.Common.{sym, ◌∙◌, ap, subst, inl, inr}
 use Rattle.std.proofs.lemmas.Bool.{cases_Bool, cases_eq}
@@ -32,8 +33,8 @@ use Rattle.its_stepped.proofs.GivenLaws.{decision_duty}
 use Rattle.its_direct.proofs.CallingLaws.{all_alike, beginning, calling, page_for}
 use Rattle.its_direct.proofs.TouchLaws.{slot_some}
 
--- a call does its duty wherever other jobs are in calls, except for those that it reaches. Here all the others are: so
--- it removes none of them
+-- a call does its duty wherever other jobs are in calls, except for those that it reaches. Here all
+-- the others are: so it removes none of them
 abbrev crowd_by : Site → Bool → Option Whole → Option Frame
 crowd_by s false (Some q) = Some (entered s)
 crowd_by s false None = None

@@ -1,4 +1,5 @@
--- What an event that was obeyed leaves: what holds between two events, the place of the next line, and the jobs that there were.
+-- What an event that was obeyed leaves: what holds between two events, the place of the next line,
+-- and the jobs that there were.
 use Rattle.std.specs.Prelude.{◌≡◌, Option, Some, None, IfOk, OnErr, Result, Ok, Err, refl}
 use Rattle.std.proofs.Common.{ap, sym, subst, ◌∙◌}
 use Rattle.its_records.specs.declared.session.Event.{Event}

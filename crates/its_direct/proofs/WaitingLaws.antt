@@ -52,7 +52,8 @@ stores c a w b has is = is ∙ can_by (can_store c a) ∙ sym (ap (λ (o : Optio
 pub stores_not : (c : Core) (a : ℕ) → word_at c a ≡ None → false ≡ is_none (bar_of c a)
 stores_not c a none = sym (ap (λ (o : Option ℕ). is_none (if not (is_some o) then Some Mpv else (if not (can_store c a) then Some Wro else None))) none)
 
--- channel n of slot s's job, with these registers, is for input of its console, the word at E can be stored, and the console gives no byte
+-- channel n of slot s's job, with these registers, is for input of its console, the word at E can
+-- be stored, and the console gives no byte
 record Lacks (p : Plain) (s : ℕ) (j : Job) (e n : ℕ) : Type 0 where
   pub on : channel_under j n ≡ InChannel
   pub clear : bar_of (core_at p.core s) e ≡ None

@@ -1,4 +1,5 @@
--- The decoding of a call in one pass: what each part reads is noted as it is read, and the arguments are sorted as they are found.
+-- The decoding of a call in one pass: what each part reads is noted as it is read, and the
+-- arguments are sorted as they are found.
 -- No promise rests on this.
 use Rattle.std.specs.Prelude.{◌≡◌, ℕ, ◌+◌, ◌++◌, [], ◌∷◌, List, Option, Some, None, Result, Ok, Err, length, slice_get}
 use Rattle.std.specs.List.{cons_option, filter_map}
@@ -13,13 +14,14 @@ use Rattle.its_plain.specs.Decode.{input_of, output_of, error_at_of, control_of,
 use Rattle.its_plain.specs.Traced.{Traced}
 use Rattle.its_direct.specs.declared.sorting.Parts.{Parts}
 
--- a part of a decoding has this answer, and the places that it reads are noted after those noted before
+-- a part of a decoding has this answer, and the places that it reads are noted after those noted
+-- before
 pub record Reads {X : Type 0} (t : Traced X) (r : Result X Fault) (old new : List ℕ) : Type 0 where
   pub answer : r ≡ t.answer
   pub places : new ≡ old ++ t.reads
 
--- arguments by what they are: inputs, outputs, how many error addresses and the first, how many controls and the first, and the places of
--- the words of inputs and controls
+-- arguments by what they are: inputs, outputs, how many error addresses and the first, how many
+-- controls and the first, and the places of the words of inputs and controls
 unfoldable pub parts_of : Core → List Arg → Parts
 parts_of c xs = record {
   inputs = record { items = filter_map (input_of c) xs };

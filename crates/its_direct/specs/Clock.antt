@@ -1,4 +1,4 @@
--- The effect of CLOCK on the machine in running form, whose alarms go slot after slot.
+-- The effect of CLOCK on the second machine, whose alarms go slot after slot.
 -- No promise rests on this.
 use Rattle.std.specs.Prelude.{◌≡◌, ◌==◌, ◌+◌, ◌&&◌, ◌||◌, ℕ, Bool, false, Option, IfSome, Result, Ok, nat_lt}
 use Rattle.its_word.specs.Only.{Only}
@@ -27,8 +27,8 @@ pub record AlarmBecomes (old new : Plain) (s : ℕ) (a : Option (ℕ × ℕ)) : 
   pub alarms : Only (alarm_at old.alarms.items) (alarm_at new.alarms.items) s a
   pub rest : contents new ≡ record (contents old) { alarms = new.alarms }
 
--- the alarms that are due at clock c of the slots that pass a test have gone, these slots are also touched, and nothing else has
--- changed
+-- the alarms that are due at clock c of the slots that pass a test have gone, these slots are also
+-- touched, and nothing else has changed
 pub record Rang (c : ℕ) (test : ℕ → Bool) (old new : Plain) : Type 0 where
   pub jobs : (k : ℕ) → (machine_of new).jobs k ≡ after_alarm_if c (test k && is_due c (alarm_at old.alarms.items k)) ((machine_of old).jobs k)
   pub rest : machine_of new ≡ record (machine_of old) { jobs = (machine_of new).jobs }

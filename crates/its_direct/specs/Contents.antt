@@ -1,5 +1,6 @@
--- What a machine in running form holds, without the facts that its type promises. What a change leaves as it was is one equation of
--- contents: by contents new ≡ record (contents old) { clock = new.clock } all but the clock is as it was.
+-- What a second machine holds, without the facts that its type promises. What a change
+-- leaves as it was is one equation of contents: by contents new ≡ record (contents old) { clock =
+-- new.clock } all but the clock is as it was.
 -- No promise rests on this.
 use Rattle.std.specs.Prelude.{ℕ, Bool, Option, List}
 use Rattle.std.specs.Global.{Vec}

@@ -1,4 +1,4 @@
--- The effect of a change of a call on the machine in running form.
+-- The effect of a change of a call on the second machine.
 -- No promise rests on this.
 use Rattle.std.specs.Prelude.{◌≡◌, ℕ, Option, Some, None}
 use Rattle.its_word.specs.Only.{Only, Same}
@@ -13,7 +13,8 @@ use Rattle.its_direct.specs.Contents.{contents}
 use Rattle.its_direct.specs.Plain.{machine_of, Tidy}
 use Rattle.its_direct.specs.declared.plain.Plain.{Plain}
 
--- the machine is this one now; the place, and the slots that are marked as touched, are as they were
+-- the machine is this one now; the place, and the slots that are marked as touched, are as they
+-- were
 pub record Becomes (old new : Plain) (m : Machine) : Type 0 where
   pub machine : machine_of new ≡ m
   pub place : new.place ≡ old.place

@@ -1,4 +1,4 @@
--- The effect of an event on the machine in running form: the operator's line exactly.
+-- The effect of an event on the second machine: the operator's line exactly.
 -- No promise rests on this.
 use Rattle.std.specs.Prelude.{◌≡◌, ◌<◌, ℕ, false, None, List, [], ◌∷◌, Result, Ok, Err, is_some, true}
 use Rattle.its_plain.specs.CallFile.{has_file}
@@ -26,15 +26,16 @@ use Rattle.its_direct.specs.declared.plain.Spot.TheVariants as spots
 use Rattle.its_direct.specs.declared.events.Answer.{Answer}
 use Rattle.its_direct.specs.declared.events.Answer.TheVariants.{Nothing, Slot, Dropped, Drained}
 
--- a LOAD block is that of a job of the machine, in a slot that there is, and a FILE block that of a file
+-- a LOAD block is that of a job of the machine, in a slot that there is, and a FILE block that of a
+-- file
 abbrev pub SpotFits : Machine → Spot → Type 0
 SpotFits m (spots.Load s) = (s < slots) × (is_some (m.jobs s) ≡ true)
 SpotFits m spots.Plain = Unit {0}
 SpotFits m (spots.File names) = has_file names m.files ≡ true
 
--- what holds between two events, and between two steps: the machine is tidy, its jobs are a forest, the next time of
--- each alarm is after the clock, the console of each job is one of eight, and the open block of lines is that of a job
--- or of a file
+-- what holds between two events, and between two steps: the machine is tidy, its jobs are a forest,
+-- the next time of each alarm is after the clock, the console of each job is one of eight, and the
+-- open block of lines is that of a job or of a file
 pub record Kept (p : Plain) : Type 0 where
   pub tidy : Tidy p
   pub forest : Forest (machine_of p)
@@ -53,8 +54,8 @@ Speaks spots.Plain b = Unit {0}
 Speaks (spots.Load s) b = b.slot ≡ s
 Speaks (spots.File names) b = b.file ≡ names
 
--- the events that the machine performs; the others are ticks and the turns of RUN, which are steps, and END, which
--- ends all
+-- the events that the machine performs; the others are ticks and the turns of RUN, which are steps,
+-- and END, which ends all
 abbrev pub IsTold : Event → Type 0
 IsTold (events.Tick s n) = ⊥
 IsTold (events.Run n q) = ⊥
@@ -67,7 +68,8 @@ MayStand place events.Nothing = Unit {0}
 MayStand place (events.Version v) = place ≡ places.Plain
 MayStand place e = place ≡ event_place e
 
--- what an answer says of the lines that are shown; what EXAM, LIST, STATE, DIR and SHOW show is read from the machine
+-- what an answer says of the lines that are shown; what EXAM, LIST, STATE, DIR and SHOW show is
+-- read from the machine
 abbrev pub Says : Event → Answer → List Line → Type 0
 Says (events.Load u j c) (Slot s) out = out ≡ printed.Loaded s ∷ []
 Says (events.TypeIn c bytes) (Dropped n) out = out ≡ printed.Typed c n ∷ []

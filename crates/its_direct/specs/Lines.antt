@@ -1,4 +1,4 @@
--- The effect of a line of the operator on the machine in running form.
+-- The effect of a line of the operator on the second machine.
 -- No promise rests on this.
 use Rattle.std.specs.Prelude.{◌≡◌, ℕ, zero, suc, ◌+◌, ◌-◌, ◌/◌, Bool, true, false, List, IsOk, is_some, nat_lt, Result, Ok, slice_set}
 use Rattle.its_word.specs.Core.{Core, page_of}
@@ -39,7 +39,8 @@ pub record Rewritten (old new : Plain) (s : ℕ) (j : Job) : Type 0 where
   pub touched : (k : ℕ) → is_touched new k ≡ only s k
   pub place : new.place ≡ old.place
 
--- LOAD: a line that changes the machine and answers a slot, which it touches and whose LOAD block begins
+-- LOAD: a line that changes the machine and answers a slot, which it touches and whose LOAD block
+-- begins
 pub record Loads (old new : Plain) (s : ℕ) (r : Result (Machine × ℕ) Reason) : Type 0 where
   pub is : r ≡ Ok (machine_of new, s)
   pub touched : (k : ℕ) → is_touched new k ≡ only s k
@@ -51,7 +52,7 @@ pub record Stands (old new : Plain) (m : Machine) : Type 0 where
   pub touched : (k : ℕ) → is_touched new k ≡ nobody k
   pub place : new.place ≡ old.place
 
--- the same of a line that may be refused
+-- a line that touches nobody, and that may be refused
 pub record Keeps (old new : Plain) (r : Result Machine Reason) : Type 0 where
   pub is : r ≡ Ok (machine_of new)
   pub touched : (k : ℕ) → is_touched new k ≡ nobody k
@@ -82,8 +83,8 @@ unfoldable pub pages_absent : Core → ℕ → ℕ → ℕ
 pages_absent c k zero = 0
 pages_absent c k (suc n) = one_unless (is_some (page_of c k)) + pages_absent c (k + 1) n
 
--- how many pages an a/ line makes for n words from address a on: the absent ones from that of its first word to that
--- of its last; none if all of them are accumulators
+-- how many pages an a/ line makes for n words from address a on: the absent ones from that of its
+-- first word to that of its last; none if all of them are accumulators
 abbrev pub pages_made_if : Core → ℕ → ℕ → Bool → ℕ
 pages_made_if c first last true = 0
 pages_made_if c first last false = pages_absent c (first / 1024) (last / 1024 + 1 - first / 1024)

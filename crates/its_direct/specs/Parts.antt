@@ -24,7 +24,8 @@ no_input = record { value = 0; place = None }
 abbrev pub with_input : Ask → ℕ → ℕ → Ask
 with_input a k v = record a { inputs = record { items = slice_set a.inputs.items k (record (slice_index_or a.inputs.items k no_input) { value = v }) } }
 
--- whether the word after the one to which the word at a PC points names SIOT. No other call has parts
+-- whether the word after the one to which the word at a PC points names SIOT. No other call has
+-- parts
 abbrev pub is_name : Option ℕ → Bool
 is_name (Some n) = is_siot (call_named n)
 is_name None = false
@@ -36,7 +37,8 @@ named_after c None = false
 abbrev pub names_siot : Core → ℕ → Bool
 names_siot c pc = named_after c (word_at c pc)
 
--- the same of a job, if there is one
+-- whether the word after the one to which the word at the PC of a job points names SIOT; false if
+-- there is no job
 abbrev pub siot_of : Core → Option Job → Bool
 siot_of c (Some j) = names_siot c j.pc
 siot_of c None = false
@@ -57,7 +59,8 @@ pub record Decides (m : Machine) (j : ℕ) (a : Ask) (d : Decision) : Type 0 whe
   pub is : decision m j own a ≡ d
   pub alone : reach m j own a ≡ []
 
--- a step of slot j's job leads from machine m to machine o. It is a part of a call that goes on, disturbs nobody, and makes no job
+-- a step of slot j's job leads from machine m to machine o. It is a part of a call that goes on,
+-- disturbs nobody, and makes no job
 pub record OnePart (m : Machine) (j : ℕ) (o : Machine) : Type 0 where
   pub step : Transition
   pub is : transition m j ≡ Some step

@@ -1,4 +1,4 @@
--- The plain machine of a machine in running form, and what holds of it at any time.
+-- The plain machine of a second machine, and what holds of it at any time.
 -- No promise rests on this.
 use Rattle.std.specs.Prelude.{◌≡◌, ◌<◌, ◌^◌, ℕ, Bool, false, Option, Some, None, IfSome, List, [], slice_index_or, replicate}
 use Rattle.its_word.specs.Core.{Core, no_core}
@@ -26,8 +26,9 @@ is_touched p k = slice_index_or p.touched k false
 unfoldable pub no_slots : List Bool
 no_slots = replicate slots false
 
--- no call is in progress: no page is reserved and no close is half made; the channels fit the files and drafts that exist; a slot
--- without a job has no page, no alarm and no symbol; the PC of each job is an address; and the clock is below its end
+-- no call is in progress: no page is reserved and no close is half made; the channels fit the files
+-- and drafts that exist; a slot without a job has no page, no alarm and no symbol; the PC of each
+-- job is an address; and the clock is below its end
 pub record Tidy (p : Plain) : Type 0 where
   pub unreserved : (k : ℕ) → clear_at p.core k ≡ None
   pub unmarked : p.files.mark ≡ None

@@ -1,4 +1,5 @@
--- What a decision promises of the rest of its call: its changes, its stores and its registers can be carried out.
+-- What a decision promises of the rest of its call: its changes, its stores and its registers can
+-- be carried out.
 -- No promise rests on this.
 use Rattle.std.specs.Prelude.{◌≡◌, ◌≤◌, ◌<◌, ◌^◌, ℕ, true, Option, Some, None, IfSome, List, [], ◌∷◌, length}
 use Rattle.its_word.specs.Byte.{has_size}
@@ -16,8 +17,8 @@ use Rattle.its_plain.specs.Change.{effect, effects}
 use Rattle.its_plain.specs.Machine.{Machine, core_of}
 use Rattle.its_machine.specs.Can.{CanMakeAll, HasJob}
 
--- a byte that a call holds can be stored: its word can be written, and its pointer, input 1 of the call with its new values,
--- shows a byte of some size
+-- a byte that a call holds can be stored: its word can be written, and its pointer, input 1 of the
+-- call with its new values, shows a byte of some size
 pub record HeldFits (c : Core) (a : Ask) (h : Held) : Type 0 where
   pub many : 1 < length a.inputs.items
   pub below : h.place < 2 ^ 18
@@ -29,7 +30,8 @@ abbrev pub held_in : Core → Ask → Option Held → Core
 held_in c a (Some h) = stored c (deposited c (input a 1) h ∷ [])
 held_in c a None = c
 
--- a part of a call can be made in a core: first a byte that it holds is stored, then its last arguments, all of which are words
+-- a part of a call can be made in a core: first a byte that it holds is stored, then its last
+-- arguments, all of which are words
 pub record GoesOn (c : Core) (a : Ask) (h : Option Held) (vs : List ℕ) : Type 0 where
   pub few : length vs ≤ 2
   pub held : IfSome h (HeldFits c (with_new_values a vs))
@@ -45,7 +47,8 @@ pub record Carries (m : Machine) (j : ℕ) (cs : List Change) : Type 0 where
 abbrev pub core_behind : Machine → ℕ → List Change → Core
 core_behind m j cs = core_of ((effects cs j m).jobs j)
 
--- the decision of slot j's call can be carried out: its changes, and after them its stores and its registers
+-- the decision of slot j's call can be carried out: its changes, and after them its stores and its
+-- registers
 abbrev pub CanCarryOut : Machine → ℕ → Ask → Decision → Type 0
 CanCarryOut m j a (Waits r) = Unit {0}
 CanCarryOut m j a (Goes cs h vs) = Carries m j cs.items × GoesOn (core_behind m j cs.items) a h vs.items

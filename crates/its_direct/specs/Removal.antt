@@ -1,4 +1,4 @@
--- What a removal does to each part of the machine in running form.
+-- What a removal does to each part of the second machine.
 -- No promise rests on this.
 use Rattle.std.specs.Prelude.{if◌then◌else◌, ◌≡◌, ◌≢◌, ◌≤◌, ◌<◌, ℕ, Bool, true, false, Option, None, [], option_map}
 use Rattle.its_word.specs.Core.{no_core}
@@ -14,7 +14,8 @@ use Rattle.its_direct.specs.Contents.{contents}
 use Rattle.its_direct.specs.Plain.{machine_of}
 use Rattle.its_direct.specs.declared.plain.Plain.{Plain}
 
--- the channels of slot s below m are closed: of the machine all jobs but its job, and all but jobs, is as it was
+-- the channels of slot s below m are closed: of the machine all jobs but its job, and all but jobs,
+-- is as it was
 pub record Closes (old new : Plain) (s m : ℕ) : Type 0 where
   pub jobs : (k : ℕ) → k ≢ s → (machine_of new).jobs k ≡ (machine_of old).jobs k
   pub rest : machine_of new ≡ record (machine_of old) { jobs = (machine_of new).jobs }
@@ -23,7 +24,7 @@ pub record Closes (old new : Plain) (s m : ℕ) : Type 0 where
   pub touched : new.touched ≡ old.touched
   pub closed : (i : ℕ) → i < m → chan_in (machine_of new) s i ≡ Shut
 
--- the same of all jobs that are to go, of the slots below n
+-- the channels of all jobs that are to go, of the slots below n, are closed
 pub record ClosesTree (gone : ℕ → Bool) (old new : Plain) (n : ℕ) : Type 0 where
   pub jobs : (k : ℕ) → gone k ≡ false → (machine_of new).jobs k ≡ (machine_of old).jobs k
   pub rest : machine_of new ≡ record (machine_of old) { jobs = (machine_of new).jobs }

@@ -5,8 +5,8 @@ use Rattle.its_plain.specs.CallStep.{quiet_step, transition}
 use Rattle.its_plain.specs.Machine.{Whole, Machine}
 use Rattle.pdp_exec.specs.Units.{after_unit, left}
 
--- n steps of slot j's job lead from machine m to machine o, each of which moves no byte, disturbs nobody, and makes and
--- removes no job
+-- n steps of slot j's job lead from machine m to machine o, each of which moves no byte, disturbs
+-- nobody, and makes and removes no job
 abbrev pub Series : ℕ → Machine → ℕ → Machine → Type 0
 Series zero m j o = o ≡ m
 Series (suc n) m j o =

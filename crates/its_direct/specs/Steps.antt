@@ -1,4 +1,4 @@
--- The effect of a step of a slot's job on the machine in running form.
+-- The effect of a step of a slot's job on the second machine.
 -- No promise rests on this.
 use Rattle.std.specs.Prelude.{◌≡◌, ◌⊎◌, ◌&&◌, ◌||◌, ℕ, Bool, true, false, not, Option, Some, None, List, is_some, slice_index_or}
 use Rattle.std.specs.List.{list_any}
@@ -44,8 +44,8 @@ pub record CallsAt (m : Machine) (j : ℕ) (s : Site) (o : Option Transition) : 
   pub unit : unit own.core own.job ≡ Called s
   pub is : o ≡ by_ask m j own (ask own.core s)
 
--- the step of slot j's job, as far as it is made before its call is decoded: there is none; it was made; or it is that of a
--- call, and nothing has changed
+-- the step of slot j's job, as far as it is made before its call is decoded: there is none; it was
+-- made; or it is that of a call, and nothing has changed
 abbrev pub StepBegins : Begun → Option Transition → Plain → Plain → ℕ → Type 0
 StepBegins Still o old new j = (o ≡ None) × (new ≡ old)
 StepBegins Stepped o old new j = SteppedBy old new o
@@ -74,14 +74,16 @@ pub record Lent (p : Plain) (s : Seen) : Type 0 where
   pub symbols : s.symbols.now ≡ p.symbols
   pub pipes : s.pipes.now ≡ p.pipes
 
--- the machine is that of a transition, before the slots that it touches are marked; or there is none, and nothing has changed
+-- the machine is that of a transition, before the slots that it touches are marked; or there is
+-- none, and nothing has changed
 abbrev pub Acts : Bool → Option Transition → Plain → Plain → Type 0
 Acts true (Some t) old new = Becomes old new t.machine
 Acts false None old new = new ≡ old
 Acts true None old new = ⊥
 Acts false (Some t) old new = ⊥
 
--- a slot is marked, if one list says that the step disturbs it, or if it has a job now and another says that it had none
+-- a slot is marked, if one list says that the step disturbs it, or if it has a job now and another
+-- says that it had none
 abbrev pub marked_by : List Bool → List Bool → Plain → ℕ → Bool
 marked_by disturbed stood p k =
     slice_index_or disturbed k false || (not (slice_index_or stood k false) && is_some (job_at p.jobs k))

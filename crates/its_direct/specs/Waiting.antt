@@ -16,7 +16,8 @@ use Rattle.pdp_exec.specs.Near.{near_call, near_site}
 use Rattle.pdp_exec.specs.declared.near.Near.{Near}
 use Rattle.its_direct.specs.declared.plain.Plain.{Plain}
 
--- the call at hand of a job that has this core, if it runs, no interrupt of it is deliverable, and the word at its PC is such a call
+-- the call at hand of a job that has this core, if it runs, no interrupt of it is deliverable, and
+-- the word at its PC is such a call
 abbrev pub call_of : Core → Option Job → Option Near
 call_of c (Some j) = if j.stopped || deliverable j then None else near_call c j.pc
 call_of c None = None
@@ -42,7 +43,8 @@ is_input _ = false
 abbrev pub is_silent : Plain → ℕ → ℕ → Bool
 is_silent p s c = length (console_at p.consoles.items c).input == 0 || is_other s (holder_at p.holders c)
 
--- whether channel n of slot s's job, with these registers, is for input of its console, the word at E can be stored, and the console gives no byte
+-- whether channel n of slot s's job, with these registers, is for input of its console, the word at
+-- E can be stored, and the console gives no byte
 abbrev pub lacks : Plain → ℕ → Job → ℕ → ℕ → Bool
 lacks p s j e n = is_input (channel_under j n) && (is_none (bar_of (core_at p.core s) e) && is_silent p s (unwrap_or j.console 0))
 

@@ -25,8 +25,9 @@ const ARGUMENTS: u32 = 8;
 type Places = ArrayVec<u32, 160>;
 
 impl Plain {
-    /// What a call at a site of a slot's core asks for, or the fault of its decoding: its block, then its arguments one by one; each
-    /// address and each value is taken when the definition takes it.
+    /// What a call at a site of a slot's core asks for, or the fault of its decoding: its block,
+    /// then its arguments one by one; each address and each value is taken when the definition
+    /// takes it.
     #[tactic(auto, unfolding(its_plain::specs::Decode::ask))]
     pub fn ask(&self, slot: Slot, site: &Site) -> Result<Ask, Fault>
         requires fits { SiteFits site.now }
@@ -86,7 +87,8 @@ fn note_pc(pc: u32, decode: &mut Places)
     decode.push(pc);
 }
 
-/// Makes an ask, in which the places of a site are noted, that of `.IOT` with this E and through a channel.
+/// Makes an ask, in which the places of a site are noted, that of `.IOT` with this E and through a
+/// channel.
 #[tactic(auto, unfolding(its_plain::specs::Decode::iot_ask))]
 fn put_iot(e: u32, channel: u8, asked: &mut Ask)
     ensures { asked.new ≡ iot_asked e channel asked.old.decode.items }
@@ -107,7 +109,8 @@ fn put_iot(e: u32, channel: u8, asked: &mut Ask)
     asked.operand = ArrayVec::new();
 }
 
-/// Makes an ask, in which no place is noted, that of the call that is at hand at a PC; or the fault of its decoding.
+/// Makes an ask, in which no place is noted, that of the call that is at hand at a PC; or the fault
+/// of its decoding.
 #[inline(always)]
 pub(crate) fn put_near(
     core: &Core,
@@ -144,8 +147,8 @@ fn block_ask(core: &Core, slot: Slot, site: &Site) -> Result<Ask, Fault>
     }
 }
 
-/// Makes an ask, in which the places of a site are noted, that of the call by the block at E, when so much of the budget of 64 indirect
-/// words is used; or the fault of its decoding.
+/// Makes an ask, in which the places of a site are noted, that of the call by the block at E, when
+/// so much of the budget of 64 indirect words is used; or the fault of its decoding.
 fn put_block(core: &Core, slot: Slot, e: u32, used: u32, asked: &mut Ask) -> Result<(), Fault>
     requires e { e < 2 ^ 18 }
     requires used { used ≤ budget }
@@ -208,7 +211,8 @@ fn argument_words(
     Ok(block)
 }
 
-/// The block at an address, whole; then Ilo if bit 0 of its first word is off, or an argument has no type.
+/// The block at an address, whole; then Ilo if bit 0 of its first word is off, or an argument has
+/// no type.
 fn legal_block(core: &Core, slot: Slot, e: u32, decode: &mut Places) -> Result<Block, Fault>
     requires address { e < 2 ^ 18 }
     requires room { length decode.old.items ≤ 148 }
@@ -417,7 +421,8 @@ fn row_named(name: Word) -> Option<CallRow>
     }
 }
 
-/// The error of a call: 1 if no call has the name, 2 if there are too few arguments, 3 if there are too many, else 0.
+/// The error of a call: 1 if no call has the name, 2 if there are too few arguments, 3 if there are
+/// too many, else 0.
 #[tactic(auto, unfolding(its_plain::specs::Decode::error_by))]
 fn error_by(row: Option<CallRow>, inputs: usize, outputs: usize, excess: bool) -> u8
     ensures { result ≡ error_by row inputs outputs excess }

@@ -18,8 +18,8 @@ use its_word::{SLOTS, Slot};
 const CLOCK_END: u64 = 0o200000000000;
 
 impl Plain {
-    /// CLOCK: the clock gains n thirtieths, and the alarms that are then due go: ALR is set in their jobs, once, and each alarm has its
-    /// next time. Range if the clock would reach 2^34.
+    /// CLOCK: the clock gains n thirtieths, and the alarms that are then due go: ALR is set in
+    /// their jobs, once, and each alarm has its next time. Range if the clock would reach 2^34.
     #[tactic(auto, using(crate::proofs::ClockLaws::clock_done, crate::proofs::ClockLaws::clock_refused))]
     pub fn advance(&mut self, n: u64) -> Result<(), Refusal>
         requires alarmed { Alarmed (machine_of self.old) }
@@ -85,7 +85,8 @@ impl Plain {
         self.alarms[slot.index()]
     }
 
-    /// The alarm of a slot's job goes: ALR is set in the job, the alarm gets its next time, and the slot is touched.
+    /// The alarm of a slot's job goes: ALR is set in the job, the alarm gets its next time, and the
+    /// slot is touched.
     fn go_off(&mut self, slot: Slot, period: u64, next: u64, clock: u64)
         requires alarm { Some (period, next) ≡ alarm_at self.old.alarms.items slot }
         requires below { clock < clock_end }

@@ -1,4 +1,5 @@
-//! What calls change in cores, registers, consoles and alarms: stores, registers left, bytes, holders, pages and variables.
+//! What calls change in cores, registers, consoles and alarms: stores, registers left, bytes,
+//! holders, pages and variables.
 ghost use Rattle.std.specs.Prelude.{◌≡◌, ◌<◌, ◌^◌, ◌∷◌, [], None, Some, length};
 ghost use Rattle.its_word.specs.Console.{most_waiting};
 ghost use Rattle.its_word.specs.Core.{page_of, pages_mapped, with_page, zero_page};
@@ -37,7 +38,7 @@ impl Plain {
         self.core.make_all(slot, stores);
     }
 
-    /// The same, of a slot that has a job.
+    /// Makes stores into the core of a slot that has a job: a change of the machine.
     #[tactic(auto, using(crate::proofs::EffectLaws::stores_made))]
     pub(crate) fn store(&mut self, slot: Slot, stores: &[Store])
         requires job { HasJob (machine_of self.old) slot }
@@ -103,7 +104,7 @@ impl Plain {
         let _ = self.consoles[c.index()].take();
     }
 
-    /// The same as a change.
+    /// Takes the first byte of a console's input: a change of the machine.
     #[tactic(auto, using(crate::proofs::EffectLaws::byte_taken, crate::proofs::ConsoleLaws::console_tidy))]
     pub(crate) fn take(&mut self, c: ConsoleNumber)
         requires tidy { Tidy self.old }
@@ -122,7 +123,7 @@ impl Plain {
         let _ = self.consoles[c.index()].put(byte);
     }
 
-    /// The same as a change.
+    /// Puts a byte at the end of a console's output: a change of the machine.
     #[tactic(auto, using(crate::proofs::EffectLaws::byte_put, crate::proofs::EffectLaws::console_room, crate::proofs::ConsoleLaws::console_tidy))]
     pub(crate) fn put(&mut self, c: ConsoleNumber, byte: u8)
         requires room { length ((machine_of self.old).consoles c).output < most_waiting }
@@ -162,7 +163,8 @@ impl Plain {
         self.alarms[slot.index()] = alarm;
     }
 
-    /// Makes an inferior of a slot's job in the least free slot, with these names and the console of its superior.
+    /// Makes an inferior of a slot's job in the least free slot, with these names and the console
+    /// of its superior.
     pub(crate) fn make_inferior(&mut self, maker: Slot, slot: u8, u: Word, j: Word)
         requires job { HasJob (machine_of self.old) maker }
         requires free { least_free (limit (machine_of self.old)) (machine_of self.old).jobs ≡ Some slot }
@@ -187,7 +189,8 @@ impl Plain {
         }
     }
 
-    /// Makes a page of zeros of a slot's job, which can be stored to: it is reserved, cleared and mapped in one piece.
+    /// Makes a page of zeros of a slot's job, which can be stored to: it is reserved, cleared and
+    /// mapped in one piece.
     #[tactic(auto, using(crate::proofs::EffectLaws::page_made, crate::proofs::EffectLaws::page_absent, crate::proofs::EffectLaws::page_room, crate::proofs::EffectLaws::made_tidied))]
     pub(crate) fn map(&mut self, slot: Slot, page: u8)
         requires can { Maps (machine_of self.old) slot page }

@@ -1,4 +1,5 @@
-//! What calls change in channels and files: channels opened, set and closed, words of drafts, and files.
+//! What calls change in channels and files: channels opened, set and closed, words of drafts, and
+//! files.
 ghost use Rattle.std.specs.Prelude.{◌≡◌, ◌<◌, true, false, is_some, slice_set};
 ghost use Rattle.its_files.specs.Files.{entry_at};
 ghost use Rattle.its_plain.specs.CallFile.{has_file};
@@ -216,7 +217,8 @@ impl Plain {
         }
     }
 
-    /// Gives the file with these names, which no channel reads, other names in its directory, which no file has.
+    /// Gives the file with these names, which no channel reads, other names in its directory, which
+    /// no file has.
     pub(crate) fn rename(&mut self, d: Word, x: Word, y: Word, new_x: Word, new_y: Word)
         requires file { has_file (names_of d x y) (machine_of self.old).files ≡ true }
         requires unread { Unread (machine_of self.old) (names_of d x y) }

@@ -15,7 +15,8 @@ use its_records::Channel;
 use its_word::{Slot, Word};
 
 impl Plain {
-    /// Opens an end of a link on a closed channel of a slot's job, which is made with these names if the number has none.
+    /// Opens an end of a link on a closed channel of a slot's job, which is made with these names
+    /// if the number has none.
     #[tactic(auto, using(crate::proofs::LinkLaws::still_closed, crate::proofs::LinkLaws::joined_row))]
     pub(crate) fn join(&mut self, slot: Slot, n: u8, link: u8, write: bool, x: Word, y: Word)
         requires channel { n < 16 }
@@ -70,7 +71,7 @@ impl Plain {
         self.pipes.send(link, word);
     }
 
-    /// The same as a change.
+    /// Puts a word at the end of a link: a change of the machine.
     #[tactic(auto, using(crate::proofs::LinkLaws::link_there, crate::proofs::LinkLaws::link_room, crate::proofs::LinkLaws::word_sent, crate::proofs::LinkLaws::link_tidy))]
     pub(crate) fn send(&mut self, link: u8, word: Word)
         requires link { link < most_links }
@@ -91,7 +92,7 @@ impl Plain {
         let _ = self.pipes.receive(link);
     }
 
-    /// The same as a change.
+    /// Takes the first word of a link: a change of the machine.
     #[tactic(auto, using(crate::proofs::LinkLaws::word_received, crate::proofs::LinkLaws::link_tidy))]
     pub(crate) fn receive(&mut self, link: u8)
         requires link { link < most_links }

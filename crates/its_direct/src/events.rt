@@ -27,8 +27,8 @@ pub enum Answer {
 }
 
 impl Plain {
-    /// An event of a session other than ticks, turns of RUN and END: the operator's line exactly. A line that is refused
-    /// changes nothing.
+    /// An event of a session other than ticks, turns of RUN and END: the operator's line exactly. A
+    /// line that is refused changes nothing.
     #[tactic(auto, using(crate::proofs::ToldLaws::told_kept, crate::proofs::ToldLaws::told_jobs))]
     pub fn event(&mut self, event: &Event) -> Result<Answer, Refusal>
         requires told { IsTold event.now }

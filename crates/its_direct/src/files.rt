@@ -17,8 +17,8 @@ use its_word::Word;
 const FILES: u32 = 256;
 
 impl Plain {
-    /// FILE: makes a file of no words, the last in order, whose FILE block begins. Exists if a file has these names; Full if there are
-    /// 256 files.
+    /// FILE: makes a file of no words, the last in order, whose FILE block begins. Exists if a file
+    /// has these names; Full if there are 256 files.
     #[tactic(auto, using(crate::proofs::FileLaws::file_exists, crate::proofs::FileLaws::file_full))]
     pub fn make_file(&mut self, d: Word, x: Word, y: Word) -> Result<(), Refusal>
         requires tidy { Tidy self.old }
@@ -39,8 +39,8 @@ impl Plain {
         Ok(())
     }
 
-    /// Words of a FILE block: more words at the end of the file with a directory and two names, if there is one. Full if they need more
-    /// blocks than are free; then none of them is added.
+    /// Words of a FILE block: more words at the end of the file with a directory and two names, if
+    /// there is one. Full if they need more blocks than are free; then none of them is added.
     #[tactic(auto, using(crate::proofs::FileLaws::appended_none))]
     pub fn append_words(&mut self, d: Word, x: Word, y: Word, words: &[Word]) -> Result<(), Refusal>
         requires tidy { Tidy self.old }
@@ -58,7 +58,8 @@ impl Plain {
         }
     }
 
-    /// The same of a file.
+    /// Adds words at the end of the file with this number. Full if they need more blocks than are
+    /// unused; then none of them is added.
     fn append_to(&mut self, id: u32, words: &[Word]) -> Result<(), Refusal>
         requires file { is_file (entry_at self.old.files id) ≡ true }
         requires tidy { Tidy self.old }

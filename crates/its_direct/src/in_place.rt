@@ -10,8 +10,8 @@ use its_word::Slot;
 use pdp_exec::run_units;
 
 impl Plain {
-    /// Executes up to n units of a slot's job, which runs, as long as no interrupt is deliverable and none is a call; how many were executed.
-    /// If none was, nothing changes.
+    /// Executes units of a job that runs, n at most, until an interrupt is deliverable or the next
+    /// unit is a call. Says how many it executed, and if any, marks that they touched nobody.
     pub(crate) fn units_made(&mut self, slot: Slot, n: u32) -> u32
         requires job { is_some (job_at self.old.jobs slot) ≡ true }
         requires runs { IfSome (job_at self.old.jobs slot) (λ j. j.stopped ≡ false) }
@@ -33,8 +33,7 @@ impl Plain {
         made
     }
 
-    /// Executes up to n units of a slot's job in place, as long as no interrupt is deliverable and none is a call; how many were executed. If
-    /// none was, nothing changes.
+    /// The loop of `units_made`, on the core and the registers of the job; marks are unchanged.
     fn units_in_place(&mut self, slot: Slot, n: u32) -> u32
         requires job { is_some (job_at self.old.jobs slot) ≡ true }
         requires pc { IfSome (job_at self.old.jobs slot) (λ j. j.pc < 2 ^ 18) }

@@ -66,7 +66,8 @@ impl Plain {
         Ok(())
     }
 
-    /// INT: bits are pending in the job of a slot, in addition to those that were. NoJob if the slot is empty.
+    /// INT: bits are pending in the job of a slot, in addition to those that were. NoJob if the
+    /// slot is empty.
     #[tactic(auto, using(crate::proofs::LineLaws::interrupt_done, crate::proofs::LineLaws::registers_refused, crate::proofs::LineLaws::kept_placed))]
     pub fn interrupt(&mut self, slot: Slot, v: Word, w: Word) -> Result<(), Refusal>
         requires tidy { Tidy self.old }
@@ -100,8 +101,8 @@ impl Plain {
         Ok(())
     }
 
-    /// EXAM and LIST: whether n words of a slot, from an address on, can be shown. NoJob if the slot is empty, NoPage if one of their
-    /// pages is absent.
+    /// EXAM and LIST: whether n words of a slot, from an address on, can be shown. NoJob if the
+    /// slot is empty, NoPage if one of their pages is absent.
     #[tactic(auto, using(crate::proofs::LineLaws::exam_done, crate::proofs::LineLaws::exam_absent, crate::proofs::LineLaws::exam_refused, crate::proofs::SlotLaws::touched_tidy))]
     pub fn exam(&mut self, slot: Slot, a: u32, n: u32) -> Result<(), Refusal>
         requires address { a < 2 ^ 18 }
@@ -124,8 +125,8 @@ impl Plain {
         }
     }
 
-    /// DEPOSIT: stores a word of a slot. NoJob if the slot is empty; NoPage if the page is absent, ReadOnly if it is
-    /// read only.
+    /// DEPOSIT: stores a word of a slot. NoJob if the slot is empty; NoPage if the page is absent,
+    /// ReadOnly if it is read only.
     #[tactic(auto, using(crate::proofs::LineLaws::deposit_done, crate::proofs::LineLaws::deposit_barred, crate::proofs::LineLaws::deposit_refused, crate::proofs::LineLaws::deposit_tidy, crate::proofs::SlotLaws::core_becomes))]
     pub fn deposit(&mut self, slot: Slot, a: u32, w: Word) -> Result<(), Refusal>
         requires address { a < 2 ^ 18 }

@@ -14,8 +14,9 @@ use its_records::Refusal;
 use its_word::{ConsoleNumber, Slot, Word, within};
 
 impl Plain {
-    /// LOAD: makes a stopped job with these names and this console in the least empty slot, which it answers and whose LOAD block
-    /// begins. It becomes the holder of its console, if that has none. Full if all slots below the limit have a job.
+    /// LOAD: makes a stopped job with these names and this console in the least empty slot, which
+    /// it answers and whose LOAD block begins. It becomes the holder of its console, if that has
+    /// none. Full if all slots below the limit have a job.
     #[tactic(auto, using(crate::proofs::LoadLaws::load_full))]
     pub fn load(
         &mut self,
@@ -69,7 +70,7 @@ impl Plain {
         }
     }
 
-    /// The same of this console.
+    /// Makes the job of a slot the holder of this console, if that has none.
     #[tactic(auto, using(crate::proofs::LoadLaws::held_keeps, crate::proofs::LoadLaws::held_given, crate::proofs::LoadLaws::holder_tidy))]
     fn hold(&mut self, slot: Slot, c: ConsoleNumber)
         requires tidy { Tidy self.old }

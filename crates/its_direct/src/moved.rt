@@ -1,4 +1,5 @@
-//! A byte or word of SIOT is moved: what changes, the byte that is held, and the new pointer and count.
+//! A byte or word of SIOT is moved: what changes, the byte that is held, and the new pointer and
+//! count.
 ghost use Rattle.std.specs.Prelude.{◌≡◌, ◌<◌, ◌∷◌, [], None, length};
 ghost use Rattle.its_word.specs.Stores.{first_fault};
 ghost use Rattle.its_plain.specs.Arguments.{debts, place_of_input, with_new_values};
@@ -19,7 +20,8 @@ use its_records::Ask;
 use its_word::{ConsoleNumber, Slot, Store, Word};
 
 impl Plain {
-    /// Carries out a part of a call of a slot's job that moves a byte or word, when the call has three inputs. The slots that are touched stay.
+    /// Carries out a part of a call of a slot's job that moves a byte or word, when the call has
+    /// three inputs. The slots that are touched stay.
     #[inline(always)]
     pub(crate) fn move_one(&mut self, slot: Slot, ask: &Ask, moved: &NextMove)
         requires inputs { length ask.now.inputs.items ≡ 3 }

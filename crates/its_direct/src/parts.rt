@@ -19,9 +19,10 @@ use its_word::{ADDRESSES, Slot, Word};
 use pdp_exec::Near;
 
 impl Plain {
-    /// Takes steps of a slot's job that are parts of the call at its PC, n at most, as long as each disturbs nobody and makes no job; how
-    /// many. If the call has no such part, or its word is not all that is read on the way to it, none is taken, and nothing changes. No
-    /// block of lines may be open.
+    /// Takes steps of a slot's job that are parts of the call at its PC, n at most, as long as each
+    /// disturbs nobody and makes no job; how many. If the call has no such part, or its word is not
+    /// all that is read on the way to it, none is taken, and nothing changes. No block of lines may
+    /// be open.
     #[tactic(auto, using(crate::proofs::PartLaws::no_parts))]
     pub fn parts(&mut self, slot: Slot, n: u32) -> u32
         requires outside { self.old.place ≡ Spot.Plain }
@@ -40,7 +41,8 @@ impl Plain {
         }
     }
 
-    /// Whether the word after the one to which the word at the PC of a slot's job points names SIOT. No other call has parts.
+    /// Whether the word after the one to which the word at the PC of a slot's job points names
+    /// SIOT. No other call has parts.
     fn names_siot(&self, slot: Slot) -> bool
         ensures { result ≡ siot_of (core_at self.now.core slot) (job_at self.now.jobs slot) }
     {
@@ -50,7 +52,7 @@ impl Plain {
         }
     }
 
-    /// The same, for a call that is at hand.
+    /// Takes as many parts of the call at hand as there are, n at most; how many.
     #[inline(never)]
     #[tactic(auto, using(crate::proofs::PartLaws::no_parts))]
     fn parts_near(&mut self, slot: Slot, near: Near, n: u32) -> u32
@@ -72,7 +74,7 @@ impl Plain {
         }
     }
 
-    /// The same, for a call that asks for this.
+    /// Takes as many parts of the call that asks for this as there are, n at most; how many.
     #[inline(never)]
     #[tactic(auto, using(crate::proofs::PartLaws::no_parts, crate::proofs::PartLaws::parts_more, crate::proofs::PartLaws::parts_at, crate::proofs::PartLaws::parts_end, crate::proofs::PartLaws::parts_all))]
     fn take_parts(&mut self, slot: Slot, ask: Ask, n: u32) -> u32
@@ -93,8 +95,9 @@ impl Plain {
         n
     }
 
-    /// Takes the next part of a call of a slot's job that asks for this, if it moves a byte or word, disturbs nobody and makes no job. Then
-    /// the call goes on, and asks for what it asks with its new values. Else nothing changes.
+    /// Takes the next part of a call of a slot's job that asks for this, if it moves a byte or
+    /// word, disturbs nobody and makes no job. Then the call goes on, and asks for what it asks
+    /// with its new values. Else nothing changes.
     #[inline(always)]
     fn next_part(&mut self, slot: Slot, ask: &mut Ask) -> bool
         requires outside { self.old.place ≡ Spot.Plain }

@@ -1,3 +1,5 @@
+//! The second machine, `Plain`: its parts, and its beginning.
+
 ghost use Rattle.std.specs.Prelude.{◌≡◌, ◌≤◌, true, false, None, Some, IfOk, vec_len, slice_set, is_some};
 ghost use Rattle.its_word.specs.Limits.{slots, limit_of};
 
@@ -14,8 +16,8 @@ use std::alloc::Global;
 /// How many consoles there are.
 const CONSOLES: usize = 8;
 
-/// The place of a line of a session: outside any block; in the LOAD block of the job of a slot; or in the FILE block of the file with a
-/// directory and two names.
+/// The place of a line of a session: outside any block; in the LOAD block of the job of a slot; or
+/// in the FILE block of the file with a directory and two names.
 #[derive(Clone, Copy, Debug, PartialEq, Eq)]
 pub enum Spot {
     Plain,
@@ -23,10 +25,11 @@ pub enum Spot {
     File { names: [Word; 3] },
 }
 
-/// The plain machine: cores, jobs, the consoles and for each of them the slot of the job that holds it, files and drafts, the clock in
-/// thirtieths, for each slot the alarm of its job if it has one (its period and its next time), the version of the session text, for
-/// each slot the symbols of its job, in the order in which they were given, the links between jobs with their words, the place of the
-/// next line, and the slots whose jobs the last step or line disturbed or made.
+/// The plain machine: cores, jobs, the consoles and for each of them the slot of the job that holds
+/// it, files and drafts, the clock in thirtieths, for each slot the alarm of its job if it has one
+/// (its period and its next time), the version of the session text, for each slot the symbols of
+/// its job, in the order in which they were given, the links between jobs with their words, the
+/// place of the next line, and the slots whose jobs the last step or line disturbed or made.
 #[derive(Drop)]
 pub struct Plain {
     pub core: Core,
@@ -54,8 +57,8 @@ impl Plain {
     ghost use Rattle.its_plain.specs.Machine.{no_machine};
     ghost use Rattle.its_direct.specs.Plain.{machine_of, no_slots, Tidy, JobBecomes};
 
-    /// The machine at the start of a session, at a place outside any block; no slot is touched. Takes all the memory that it
-    /// needs.
+    /// The machine at the start of a session, at a place outside any block; no slot is touched.
+    /// Takes all the memory that it needs.
     #[tactic(auto, using(its_records::proofs::FreeLaws::limit_first, crate::proofs::StartLaws::open_machine, crate::proofs::StartLaws::open_tidy), unfolding(crate::specs::Plain::no_slots))]
     pub fn open(alloc: Global) -> Result<Plain, NoMemory>
         ensures machine { IfOk result (λ p. machine_of p ≡ no_machine) }

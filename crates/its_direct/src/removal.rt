@@ -1,4 +1,5 @@
-//! The removal of a job with all jobs below it: their channels, ends of links, pages, alarms, symbols and consoles go with them.
+//! The removal of a job with all jobs below it: their channels, ends of links, pages, alarms,
+//! symbols and consoles go with them.
 ghost use Rattle.std.specs.Prelude.{◌≡◌, [], ℕ, true, false, None};
 ghost use Rattle.its_word.specs.Limits.{slots};
 ghost use Rattle.its_records.specs.declared.jobs.Channel.TheVariants.{Closed};
@@ -18,9 +19,9 @@ use its_word::{SLOTS, Slot, within};
 const CHANNELS: u8 = 16;
 
 impl Plain {
-    /// Removes the job of a slot with all jobs below it: their drafts are dropped, and every channel on one of them
-    /// is closed, and so is each end of a link at one of them. A console that one of them holds passes to the superior of the job, if
-    /// it has one, else to nobody.
+    /// Removes the job of a slot with all jobs below it: their drafts are dropped, and every
+    /// channel on one of them is closed, and so is each end of a link at one of them. A console
+    /// that one of them holds passes to the superior of the job, if it has one, else to nobody.
     pub(crate) fn remove(&mut self, root: Slot)
         requires tidy { Tidy self.old }
         ensures row { Becomes self.old self.new (after_removal (superiors (machine_of self.old)) root (machine_of self.old)) }
@@ -74,7 +75,8 @@ impl Plain {
         self.jobs.remove_tree(root);
     }
 
-    /// Gives up pages, alarms and symbols of the jobs of a tree, and closes the channels of others on them.
+    /// Gives up pages, alarms and symbols of the jobs of a tree, and closes the channels of others
+    /// on them.
     #[tactic(auto, using(crate::proofs::RemovalLaws::swept_start, crate::proofs::RemovalLaws::swept_end))]
     fn sweep(&mut self, root: Slot)
         ensures { Swept (in_tree (superior_at self.old.jobs) root) self.old self.new slots }
@@ -84,7 +86,8 @@ impl Plain {
         }
     }
 
-    /// The same in one slot.
+    /// Gives up pages, alarm and symbols of the job of this slot if it is in the tree, and else
+    /// closes its channels on jobs of the tree.
     #[tactic(auto, using(crate::proofs::RemovalLaws::sweeps_gone))]
     fn sweep_slot(&mut self, root: Slot, slot: Slot)
         ensures { Sweeps (in_tree (superior_at self.old.jobs) root) self.old self.new slot }

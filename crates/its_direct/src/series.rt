@@ -13,9 +13,10 @@ use its_word::Slot;
 use pdp_exec::run_units;
 
 impl Plain {
-    /// Executes units of a slot's job, n at most, as long as no interrupt is deliverable and none is a call, and gives
-    /// their number. Each is a step of the job alone, and if they are fewer than n, no other is due. None is executed
-    /// if the slot is empty or its job is stopped; then nothing changes. No block of lines may be open.
+    /// Executes units of a slot's job, n at most, as long as no interrupt is deliverable and none
+    /// is a call, and gives their number. Each is a step of the job alone, and if they are fewer
+    /// than n, no other is due. None is executed if the slot is empty or its job is stopped; then
+    /// nothing changes. No block of lines may be open.
     #[tactic(auto, using(crate::proofs::SlotLaws::placed_at, crate::proofs::SeriesLaws::series_kept, crate::proofs::SeriesLaws::due_absent, crate::proofs::SeriesLaws::due_stopped, crate::proofs::InPlaceLaws::runs_there))]
     pub fn steps(&mut self, slot: Slot, n: u32) -> u32
         requires outside { self.old.place ≡ Spot.Plain }
@@ -38,8 +39,9 @@ impl Plain {
         self.units_made(slot, n)
     }
 
-    /// Executes up to n units of the running job of a slot, whose registers these are, as long as no interrupt is deliverable and none
-    /// is a call; how many were executed. If none was, nothing changes.
+    /// Executes up to n units of the running job of a slot, whose registers these are, as long as
+    /// no interrupt is deliverable and none is a call; how many were executed. If none was, nothing
+    /// changes.
     pub(crate) fn units(&mut self, slot: Slot, job: Job, n: u32) -> u32
         requires job { job_at self.old.jobs slot ≡ Some job }
         requires runs { job.stopped ≡ false }

@@ -19,8 +19,8 @@ use its_records::Refusal;
 use its_word::{Slot, Word, within};
 
 impl Plain {
-    /// VERSION: if no slot has a job, the machine becomes one of this version, which can have 64 jobs, or 96 in version
-    /// 2; else it is unchanged.
+    /// VERSION: if no slot has a job, the machine becomes one of this version, which can have 64
+    /// jobs, or 96 in version 2; else it is unchanged.
     #[tactic(auto, using(crate::proofs::SettingLaws::version_tidy, crate::proofs::SlotLaws::touched_tidy))]
     pub fn version(&mut self, v: u8)
         requires known { (1 ≤ v) × (v ≤ 2) }
@@ -44,7 +44,8 @@ impl Plain {
         self.version = v;
     }
 
-    /// RO: a page of a slot's job becomes read only. NoJob if the slot is empty, NoPage if the page is absent.
+    /// RO: a page of a slot's job becomes read only. NoJob if the slot is empty, NoPage if the page
+    /// is absent.
     #[tactic(auto, using(crate::proofs::SettingLaws::read_only_refused, crate::proofs::SettingLaws::read_only_absent))]
     pub fn read_only(&mut self, slot: Slot, page: u8) -> Result<(), Refusal>
         requires tidy { Tidy self.old }
@@ -74,7 +75,8 @@ impl Plain {
         self.core.page(slot, page).is_some()
     }
 
-    /// SYM: a slot's job keeps a symbol, the last. NoJob if the slot is empty, Full if the job has 512. The job is not disturbed.
+    /// SYM: a slot's job keeps a symbol, the last. NoJob if the slot is empty, Full if the job has
+    /// 512. The job is not disturbed.
     #[tactic(auto, using(crate::proofs::SettingLaws::symbol_refused, crate::proofs::SettingLaws::symbol_full, crate::proofs::SettingLaws::symbol_tidy))]
     pub fn symbol(&mut self, slot: Slot, name: Word, a: u32) -> Result<(), Refusal>
         requires tidy { Tidy self.old }
@@ -111,8 +113,8 @@ impl Plain {
         self.symbols[slot.index()].push((name, a));
     }
 
-    /// PEEK: whether a slot has a job. Nobody is disturbed, and this machine does not know how far a job is inside a call. NoJob if the
-    /// slot is empty.
+    /// PEEK: whether a slot has a job. Nobody is disturbed, and this machine does not know how far
+    /// a job is inside a call. NoJob if the slot is empty.
     #[tactic(auto, using(crate::proofs::SettingLaws::peek_some, crate::proofs::SettingLaws::peek_none, crate::proofs::SlotLaws::touched_tidy))]
     pub fn peek(&mut self, slot: Slot) -> Result<(), Refusal>
         requires tidy { Tidy self.old }

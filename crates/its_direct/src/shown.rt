@@ -16,8 +16,8 @@ use its_records::{JobShow, Refusal};
 use its_word::{ADDRESSES, Slot, Word};
 
 impl Plain {
-    /// EXAM and LIST: up to eight words of a slot, from an address on. NoJob if the slot is empty, NoPage if one of their pages is
-    /// absent.
+    /// EXAM and LIST: up to eight words of a slot, from an address on. NoJob if the slot is empty,
+    /// NoPage if one of their pages is absent.
     #[tactic(auto, using(crate::proofs::LineLaws::exam_refused, crate::proofs::ShownLaws::words_missing))]
     pub fn words(&self, slot: Slot, a: u32, n: u32) -> Result<ArrayVec<Word, 8>, Refusal>
         requires address { a < 2 ^ 18 }

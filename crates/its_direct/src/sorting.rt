@@ -10,8 +10,8 @@ use its_core::Core;
 use its_records::{Arg, Operand, Source};
 use its_word::{Slot, Word};
 
-/// Arguments by what they are: inputs and outputs, how many error addresses and controls there are and the first of each, and
-/// the places of the words of inputs and controls.
+/// Arguments by what they are: inputs and outputs, how many error addresses and controls there are
+/// and the first of each, and the places of the words of inputs and controls.
 #[derive(Drop)]
 pub struct Parts {
     pub inputs: ArrayVec<Operand, 8>,

@@ -1,4 +1,5 @@
-//! What a call decides, carried out: its changes in their order, then its stores, then its registers.
+//! What a call decides, carried out: its changes in their order, then its stores, then its
+//! registers.
 ghost use Rattle.std.specs.Prelude.{◌≡◌, ◌<◌, ◌^◌, ◌∷◌, None};
 ghost use Rattle.its_word.specs.Stores.{first_fault};
 ghost use Rattle.its_frame.specs.declared.change.Change.TheVariants.{Remove};
@@ -88,7 +89,8 @@ impl Plain {
         }
     }
 
-    /// Carries out the end of a call of slot's job: its changes, then stores into its own core, then its registers.
+    /// Carries out the end of a call of slot's job: its changes, then stores into its own core,
+    /// then its registers.
     pub(crate) fn finish(&mut self, slot: Slot, changes: &[Change], stores: &[Store], exit: Exit)
         requires can { CanMakeAll changes.now slot (machine_of self.old) }
         requires job { HasJob (effects changes.now slot (machine_of self.old)) slot }

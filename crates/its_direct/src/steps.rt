@@ -1,4 +1,5 @@
-//! The step of a slot's job, whole: a delivery, a unit, or a call, which is decoded, decided and carried out at once.
+//! The step of a slot's job, whole: a delivery, a unit, or a call, which is decoded, decided and
+//! carried out at once.
 ghost use Rattle.std.specs.Prelude.{◌≡◌, ◌<◌, ◌≤◌, ◌+◌, ◌++◌, [], ℕ, false, Ok, Some, IfSome, IsTrue, is_some, length, slice_index_or};
 ghost use Rattle.std.specs.List.{list_any};
 ghost use Rattle.its_word.specs.Byte.{has_size};
@@ -49,9 +50,9 @@ impl Plain {
         }
     }
 
-    /// Performs the step of a slot's job: the delivery of an interrupt, a unit, or a whole call. If there is none,
-    /// because the slot is empty, its job is stopped, or its call waits, nothing changes. No block of lines may be
-    /// open.
+    /// Performs the step of a slot's job: the delivery of an interrupt, a unit, or a whole call. If
+    /// there is none, because the slot is empty, its job is stopped, or its call waits, nothing
+    /// changes. No block of lines may be open.
     #[tactic(auto, using(crate::proofs::CallStepLaws::loses_only, crate::proofs::CallStepLaws::place_stays, crate::proofs::CallStepLaws::kept_after))]
     pub fn step(&mut self, slot: Slot) -> bool
         requires outside { self.old.place ≡ Spot.Plain }
@@ -104,8 +105,8 @@ impl Plain {
         self.call_near(slot, near)
     }
 
-    /// The step of the call of a slot's job that is at hand: the fault of its decoding, or what it decides. What it asks for is decoded in its
-    /// place.
+    /// The step of the call of a slot's job that is at hand: the fault of its decoding, or what it
+    /// decides. What it asks for is decoded in its place.
     #[inline(never)]
     fn call_near(&mut self, slot: Slot, near: Near) -> bool
         requires hand { AtHand self.old slot near }
@@ -126,7 +127,8 @@ impl Plain {
         }
     }
 
-    /// The step of the call of a slot's job at a site: the fault of its decoding, or what it decides.
+    /// The step of the call of a slot's job at a site: the fault of its decoding, or what it
+    /// decides.
     #[inline(never)]
     fn call(&mut self, slot: Slot, site: &Site) -> bool
         requires calls { CallsAt (machine_of self.old) slot site.now (transition (machine_of self.old) slot) }
@@ -146,7 +148,8 @@ impl Plain {
         }
     }
 
-    /// The decoding of a call of a slot's job, which has these registers, faults: the bit of the fault is set in the job.
+    /// The decoding of a call of a slot's job, which has these registers, faults: the bit of the
+    /// fault is set in the job.
     fn fault(&mut self, slot: Slot, job: Job, fault: Fault)
         requires job { job_at self.old.jobs slot ≡ Some job }
         requires tidy { Tidy self.old }
@@ -161,7 +164,8 @@ impl Plain {
         self.touch_none();
     }
 
-    /// Decides what a call of a slot's job asks for, which has these registers, and carries it out. A call that waits takes no step.
+    /// Decides what a call of a slot's job asks for, which has these registers, and carries it out.
+    /// A call that waits takes no step.
     fn act(&mut self, slot: Slot, job: &Job, ask: &Ask) -> bool
         requires job { job_at self.old.jobs slot ≡ Some job.now }
         requires ready { CanCarryOut (machine_of self.old) slot ask.now (decision (machine_of self.old) slot (own_of self.old slot job.now) ask.now) }
@@ -194,7 +198,8 @@ impl Plain {
         made
     }
 
-    /// Carries out what a call of a slot's job has decided, and looks at each slot: whether its job is disturbed, or made.
+    /// Carries out what a call of a slot's job has decided, and looks at each slot: whether its job
+    /// is disturbed, or made.
     #[inline(never)]
     fn act_widely(
         &mut self,
@@ -273,7 +278,8 @@ impl Plain {
         marks
     }
 
-    /// Marks as touched the slots that a step disturbed, and those in which a job is and none was before.
+    /// Marks as touched the slots that a step disturbed, and those in which a job is and none was
+    /// before.
     fn mark(&mut self, disturbed: &Marks, stood: &Marks)
         ensures same { self.new ≡ record self.old { touched = self.new.touched } }
         ensures touched { (k : ℕ) → is_touched self.new k ≡ marked_by disturbed.now stood.now self.old k }
@@ -321,8 +327,8 @@ impl Plain {
         true
     }
 
-    /// Carries out a part of a call of slot's job: its changes, then the byte that it holds, and then the new values of its last
-    /// arguments.
+    /// Carries out a part of a call of slot's job: its changes, then the byte that it holds, and
+    /// then the new values of its last arguments.
     pub(crate) fn go_on(
         &mut self,
         slot: Slot,
@@ -342,7 +348,8 @@ impl Plain {
         self.store(slot, &new_values(ask, values));
     }
 
-    /// Deposits the byte that a call of slot's job holds in its word, by the pointer that the call then has.
+    /// Deposits the byte that a call of slot's job holds in its word, by the pointer that the call
+    /// then has.
     pub(crate) fn put_held(&mut self, slot: Slot, ask: &Ask, held: Option<Held>, values: &[Word])
         requires job { HasJob (machine_of self.old) slot }
         requires fits { IfSome held (HeldFits (core_of ((machine_of self.old).jobs slot)) (with_new_values ask.now values.now)) }
@@ -359,7 +366,8 @@ impl Plain {
     }
 }
 
-/// For each slot whether its job is one of those that a call of a slot's job disturbs, in a machine whose parts are lent.
+/// For each slot whether its job is one of those that a call of a slot's job disturbs, in a machine
+/// whose parts are lent.
 fn marks_of(seen: &Seen<'_>, slot: Slot, disturbed: Disturbed) -> Marks
     requires few { (k : ℕ) → slots ≤ k → among k (slots_of disturbed (machine_seen seen.now) slot (superior_at seen.now.jobs.now slot)) ≡ false }
     ensures { (k : ℕ) → slice_index_or result k false ≡ among k (slots_of disturbed (machine_seen seen.now) slot (superior_at seen.now.jobs.now slot)) }
@@ -409,7 +417,8 @@ fn deposited(core: &Core, slot: Slot, pointer: Word, held: Held) -> Store
     }
 }
 
-/// The value of an input of a call whose last inputs have these new values; 0 if there is no such input.
+/// The value of an input of a call whose last inputs have these new values; 0 if there is no such
+/// input.
 fn new_input(ask: &Ask, values: &[Word], k: usize) -> Word
     ensures { result ≡ input (with_new_values ask.now values.now) k }
 {

@@ -26,7 +26,8 @@ pub enum Begun {
 }
 
 impl Plain {
-    /// Performs the step of a slot's job, if that is a delivery or a unit. If it is a call, or if there is none, nothing changes.
+    /// Performs the step of a slot's job, if that is a delivery or a unit. If it is a call, or if
+    /// there is none, nothing changes.
     #[tactic(auto, using(crate::proofs::UserLaws::absent, crate::proofs::UserLaws::stopped, crate::proofs::SlotLaws::placed_at))]
     pub fn begin(&mut self, slot: Slot) -> Begun
         requires tidy { Tidy self.old }
@@ -64,8 +65,8 @@ impl Plain {
         }
     }
 
-    /// The delivery of an interrupt to a slot's job that has these registers. If a fatal bit stops the job, INF is set in its superior,
-    /// if it has one.
+    /// The delivery of an interrupt to a slot's job that has these registers. If a fatal bit stops
+    /// the job, INF is set in its superior, if it has one.
     fn deliver(&mut self, slot: Slot, job: Job)
         requires job { job_at self.old.jobs slot ≡ Some job }
         requires runs { job.stopped ≡ false }

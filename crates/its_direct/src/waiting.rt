@@ -1,5 +1,5 @@
-//! A job whose call is at hand; and one whose `.IOT` waits for input of its console: it has no step, and this shows without a decoding and a
-//! decision.
+//! A job whose call is at hand; and one whose `.IOT` waits for input of its console: it has no
+//! step, and this shows without a decoding and a decision.
 ghost use Rattle.std.specs.Prelude.{◌≡◌, true, None, IfSome, is_none, length};
 ghost use Rattle.its_core.specs.Cores.{core_at};
 ghost use Rattle.its_plain.specs.CallStep.{transition};
@@ -18,8 +18,9 @@ use its_word::Slot;
 use pdp_exec::{Near, call_at_hand};
 
 impl Plain {
-    /// The call of a slot's job that is at hand: the job runs, no interrupt of it is deliverable, and the word at its PC is `.IOT` or `.CALL` with
-    /// neither I nor X. Its step is then that call, and no other word is read on the way to it.
+    /// The call of a slot's job that is at hand: the job runs, no interrupt of it is deliverable,
+    /// and the word at its PC is `.IOT` or `.CALL` with neither I nor X. Its step is then that
+    /// call, and no other word is read on the way to it.
     #[inline(always)]
     #[tactic(auto, using(crate::proofs::SlotLaws::placed_at))]
     pub(crate) fn call_at_hand(&self, slot: Slot) -> Option<Near>
@@ -42,8 +43,9 @@ impl Plain {
         }
     }
 
-    /// Whether the call of a slot's job, which is at hand, waits for input: it is `.IOT` from the job's console into a word that can be stored, and
-    /// the console gives the job no byte. Then the job has no step.
+    /// Whether the call of a slot's job, which is at hand, waits for input: it is `.IOT` from the
+    /// job's console into a word that can be stored, and the console gives the job no byte. Then
+    /// the job has no step.
     #[inline(always)]
     pub(crate) fn lacks_input(&self, slot: Slot, near: Near) -> bool
         requires hand { AtHand self.now slot near }
@@ -66,7 +68,8 @@ impl Plain {
         }
     }
 
-    /// Whether `.IOT` of a slot's job with these registers, through a channel, waits for input that it stores at E.
+    /// Whether `.IOT` of a slot's job with these registers, through a channel, waits for input that
+    /// it stores at E.
     fn lacks_at(&self, slot: Slot, job: &Job, e: u32, channel: u8) -> bool
         ensures { result ≡ lacks self.now slot job.now e channel }
     {

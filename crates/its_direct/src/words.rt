@@ -16,9 +16,10 @@ use its_records::Refusal;
 use its_word::{MAPPED_PAGES, NoAccess, Slot, Word, within};
 
 impl Plain {
-    /// The words of an a/ line of the job of a slot, from an address on: absent pages are made, writable and of zeros. NoJob if the
-    /// slot is empty; ReadOnly if a word is on a read-only page; Full if more than 1024 pages would be mapped. A line that is refused
-    /// stores none of its words.
+    /// The words of an a/ line of the job of a slot, from an address on: absent pages are made,
+    /// writable and of zeros. NoJob if the slot is empty; ReadOnly if a word is on a read-only
+    /// page; Full if more than 1024 pages would be mapped. A line that is refused stores none of
+    /// its words.
     pub fn load_words(&mut self, slot: Slot, a: u32, words: &[Word]) -> Result<(), Refusal>
         requires some { 1 ≤ length words.now }
         requires end { a + length words.now ≤ 2 ^ 18 }
@@ -44,7 +45,8 @@ impl Plain {
         Ok(())
     }
 
-    /// Stores words of a slot that has a job, from an address on, in their order, if there is room for the pages that they make.
+    /// Stores words of a slot that has a job, from an address on, in their order, if there is room
+    /// for the pages that they make.
     #[tactic(auto, using(crate::proofs::LoadedLaws::storing_starts, crate::proofs::LoadedLaws::storing_ends))]
     fn store_words(&mut self, slot: Slot, a: u32, words: &[Word])
         requires end { a + length words.now ≤ 2 ^ 18 }
@@ -60,7 +62,8 @@ impl Plain {
         }
     }
 
-    /// One word of an a/ line of a slot that has a job, if there is room for it: an absent page is made, writable and of zeros.
+    /// One word of an a/ line of a slot that has a job, if there is room for it: an absent page is
+    /// made, writable and of zeros.
     fn load_word(&mut self, slot: Slot, a: u32, w: Word)
         requires address { a < 2 ^ 18 }
         requires job { is_some (job_at self.old.jobs slot) ≡ true }

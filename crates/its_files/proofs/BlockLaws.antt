@@ -251,7 +251,7 @@ module _ (words : List ℕ) (most : ℕ) (lengths lasts : List ℕ) (free : ℕ)
       ∙ ap (λ xs. with_growth (needs_block (length (text_at (stored_in words ls lengths).texts id))) xs id) (sym (chains_are words ls lengths)) in
       λ i. record { texts = appended_texts i; chains = c i }
 
--- the same, if the words of the block are made ready first
+-- a word that is stored in a block whose words are made ready first
 module _ (words vs : List ℕ) (most room : ℕ) (lengths lasts : List ℕ) (free : ℕ) (place : Option Place) (nodes knots : ℕ) (ls ms : List (List ℕ)) (id n b w : ℕ) (h : IsBlocks words most lengths lasts free place (record { nodes = nodes; lists = ls })) (room_is : room ≡ most) (knots_are : knots ≡ nodes) (lt : id < numbers) (n_is : n ≡ slice_index_or lengths id 0) (g : Grown ls ms id n b) (once : (x : ℕ) → times x ms ≤ 1) (vs_are : vs ≡ slice_set (block_ready words b) (128 * b + n % 128) w) where
   made_ready : 128 * b + 128 ≤ length (block_ready words b)
   made_ready =

@@ -361,7 +361,8 @@ module _ (s t : Store) (le : length t.entries ≡ length s.entries) (lt : length
     text = agree_set (λ (x : List ℕ). x) t.stored.texts s.stored.texts old k [] [] lt a.text;
   }
 
--- two stores of one order and one mark that show the same under all that the order or the mark names
+-- two stores of one order and one mark that show the same under all that the order or the mark
+-- names
 module _ (es fs : List (Option Entry)) (o : List ℕ) (st su : Stored) (le : length fs ≡ length es) (lt : length su.texts ≡ length st.texts) where
   abbrev of : Option Mark → List (Option Entry) → Stored → Store
   of m xs y = record { entries = xs; order = o; mark = m; stored = y }

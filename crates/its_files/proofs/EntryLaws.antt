@@ -376,7 +376,8 @@ module _ (es : List (Option Entry)) (order : List ℕ) (mark : Option Mark) (tex
   opened_files id names n f none e =
       file_changed id names n f (λ k nk g. ap (λ ns. same_names ns (names_by (entry_in es k))) e ∙ own_names id k f nk g) (subst (λ m. Marked (slice_set es id (Some (File names n))) m) (sym none) tt)
 
-  -- a file is read less: what holds of the mark is unchanged, because none of its files or drafts is read
+  -- a file is read less: what holds of the mark is unchanged, because none of its files or drafts
+  -- is read
   module _ (id : ℕ) (names : List ℕ) (n : ℕ) (read : 0 < readers_by (entry_in es id)) (e : names ≡ names_by (entry_in es id)) where
     unread_other : (k : ℕ) → readers_by (entry_in es k) ≡ 0 → entry_in (slice_set es id (Some (File names n))) k ≡ entry_in es k
     unread_other k z = get_or-set_other es id k (Some (File names n)) None (λ s. let t = ap (λ j. readers_by (entry_in es j)) s in absurd (omega arith))

@@ -1,5 +1,5 @@
--- The room at the end of a text, whatever the other texts are: it is one less after each word that is appended, and
--- none is left if the text is full.
+-- The room at the end of a text, whatever the other texts are: it is one less after each word that
+-- is appended, and none is left if the text is full.
 use Rattle.std.specs.Prelude.{◌≡◌, ◌≢◌, ◌<◌, ◌≤◌, ℕ, ◌+◌, ◌%◌, false, eqb, [], ◌∷◌, ◌++◌, length}
 use Rattle.std.proofs.Common.{sym, ◌∙◌, ap, inl, inr, arith}
 use Rattle.std.proofs.lemmas.Bool.{cases_Bool, eqb-true, eqb-false, eq-eqb, ne_eqb, and_from, and_left, and_right}

@@ -1,5 +1,5 @@
--- How the words of files and drafts are kept: 2048 blocks of 128 words, a list of the free blocks, and for each number of a
--- file or draft the list of its blocks, in the order of its words.
+-- How the words of files and drafts are kept: 2048 blocks of 128 words, a list of the free blocks,
+-- and for each number of a file or draft the list of its blocks, in the order of its words.
 -- No promise rests on this.
 use Rattle.std.specs.Prelude.{◌≡◌, ◌<◌, ◌≤◌, ℕ, ◌+◌, ◌-◌, ◌*◌, ◌/◌, ◌%◌, Bool, true, false, ◌&&◌, eqb, Option, Some, None, List, [], ◌∷◌, ◌++◌, length, take, replicate, sum_by, slice_set, slice_get, slice_index_or}
 use Rattle.its_links.specs.Lists.{Linked, list_at, rest}
@@ -58,7 +58,8 @@ is_full s id = needs_block (length (text_at s.texts id)) && eqb (blocks_used s) 
 abbrev pub words_left : ℕ → ℕ
 words_left n = (block_words - n % block_words) % block_words
 
--- for how many more words there is room after a text: in its last block, and in all blocks that are not in use
+-- for how many more words there is room after a text: in its last block, and in all blocks that are
+-- not in use
 unfoldable pub room_behind : Stored → ℕ → ℕ
 room_behind s id = words_left (length (text_at s.texts id)) + block_words * (blocks - blocks_used s)
 

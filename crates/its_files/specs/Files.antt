@@ -1,4 +1,5 @@
--- The store of files as contracts see it: the entry of each number, the order of the files, the close that is half made, and the words.
+-- The store of files as contracts see it: the entry of each number, the order of the files, the
+-- close that is half made, and the words.
 -- No promise rests on this.
 use Rattle.std.specs.Prelude.{◌≡◌, ◌<◌, ◌≤◌, ◌≢◌, ℕ, suc, zero, ◌+◌, Bool, true, false, cond, eqb, nat_lt, Option, Some, None, Result, Ok, Err, List, [], ◌∷◌, ◌++◌, length, map, count_by, slice_set, slice_index_or}
 use Rattle.its_links.specs.Lists.{count, without}
@@ -139,7 +140,8 @@ rename s id x y = rename_by (readers_at s id) s id (new_names s id x y)
 abbrev pub with_readers : Store → ℕ → ℕ → Store
 with_readers s id n = record s { entries = slice_set s.entries id (Some (File (names_at s id) n)) }
 
--- a close of a draft is marked: it replaces the file with its names, or it is the last of a directory with room
+-- a close of a draft is marked: it replaces the file with its names, or it is the last of a
+-- directory with room
 abbrev pub with_mark : Store → ℕ → Parts → Store
 with_mark s slot parts = record s { mark = Some (record { owner = slot; parts = parts }) }
 
@@ -235,7 +237,8 @@ directory s = map (file_at s) s.order
 abbrev pub plain_directory : Store → List PlainFile
 plain_directory s = directory (after_help s)
 
--- the draft that is marked, the number that has lost its file but not its blocks, and whether a draft is about to be linked
+-- the draft that is marked, the number that has lost its file but not its blocks, and whether a
+-- draft is about to be linked
 abbrev pub draft_by : Parts → Option ℕ
 draft_by (Replace old draft) = Some draft
 draft_by (Link old draft) = Some draft
@@ -305,7 +308,8 @@ pub record IsFiles (entries : List (Option Entry)) (order : List ℕ) (mark : Op
 abbrev pub IsStore : Store → Type 0
 IsStore s = IsFiles s.entries s.order s.mark s.stored.texts
 
--- what channels see of files and drafts, by number: the names of files, the words of drafts, and which draft is marked
+-- what channels see of files and drafts, by number: the names of files, the words of drafts, and
+-- which draft is marked
 abbrev pub file_names_by : Option Entry → Option (List ℕ)
 file_names_by None = None
 file_names_by (Some (File names readers)) = Some names

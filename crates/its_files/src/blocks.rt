@@ -1,3 +1,6 @@
+//! The words of files and drafts in blocks: lists of blocks, of which each is used once or not at
+//! all.
+
 ghost use Rattle.std.specs.Prelude.{◌≡◌, ◌≢◌, ◌<◌, ◌≤◌, ◌+◌, ◌-◌, ◌*◌, ◌/◌, ◌%◌, ◌^◌, ℕ, List, [], ◌∷◌, ◌++◌, true, false, Some, None, length, slice_get, slice_set, is_err, IfOk, OnOk, OnErr};
 ghost use Rattle.its_links.specs.Lists.{first};
 ghost use Rattle.its_files.specs.Blocks.{text_at, free_blocks, blocks_for, blocks_of, blocks_used, is_full, room_behind, with_word_appended, after_giving_up, needs_block, with_block, block_ready, PlaceIn, numbers, blocks, block_words};
@@ -14,8 +17,8 @@ const BLOCKS: u32 = 2048;
 /// How many words a block has.
 const BLOCK_WORDS: u32 = 128;
 
-/// How many files and drafts there are at most: 256 files, and a draft for each of the 16 channels of
-/// each slot.
+/// How many files and drafts there are at most: 256 files, and a draft for each of the 16 channels
+/// of each slot.
 pub(crate) const NUMBERS: u32 = 256 + 16 * SLOTS as u32;
 
 /// The list of the free blocks; those of the numbers come after it.
@@ -36,9 +39,9 @@ pub(crate) struct Place {
 /// The words of files and drafts, by number. Contracts see the words of each number, and which
 /// blocks are free and which are in use by whom.
 ///
-/// The last block of each number is kept, so that a word is appended without a walk; how many blocks
-/// are free; and one place, from which the walk to a later block goes on. A block's words are made
-/// ready when the first of them is appended.
+/// The last block of each number is kept, so that a word is appended without a walk; how many
+/// blocks are free; and one place, from which the walk to a later block goes on. A block's words
+/// are made ready when the first of them is appended.
 #[derive(Drop)]
 pub(crate) struct Blocks {
     words: ReadyWords,
@@ -73,8 +76,8 @@ fn all_free(alloc: Global, n: u32, heads: u32) -> Result<Links, NoMemory>
     Ok(links)
 }
 
-/// The block for the next word of a text: its last one, or if that has no room the first free one, which becomes its
-/// last.
+/// The block for the next word of a text: its last one, or if that has no room the first free one,
+/// which becomes its last.
 fn block_for(links: &mut Links, id: u32, count: u32, last: u32) -> Result<u32, Full>
     requires id { id < numbers }
     requires heads { length links.old.lists ≡ numbers + 1 }
@@ -93,8 +96,8 @@ fn block_for(links: &mut Links, id: u32, count: u32, last: u32) -> Result<u32, F
     Ok(block)
 }
 
-/// A place of a number from which the walk to a block goes on: the one that is kept, if that is on the way, else the
-/// first.
+/// A place of a number from which the walk to a block goes on: the one that is kept, if that is on
+/// the way, else the first.
 fn start(links: &Links, place: Option<Place>, id: u32, index: u32) -> Place
     requires number { id < numbers }
     requires heads { length links.now.lists ≡ numbers + 1 }
@@ -205,7 +208,8 @@ impl Blocks {
         Some(self.words.get(word_index(block, k)))
     }
 
-    /// Keeps the place of the k-th word of a number, so that the walk to it and to later ones is short.
+    /// Keeps the place of the k-th word of a number, so that the walk to it and to later ones is
+    /// short.
     pub(crate) fn seek(&mut self, id: u32, k: u32)
         requires { id < numbers }
         ensures { self.new ≡ self.old }

@@ -1,3 +1,5 @@
+//! The files in their order, and the entry of each number.
+
 ghost use Rattle.std.specs.Prelude.{◌≡◌, ◌<◌, ◌≤◌, ℕ, true, None, length, slice_get, slice_index_or, is_some, count_by, Some, IfSome};
 ghost use Rattle.its_links.specs.Lists.{count, without};
 ghost use Rattle.its_word.specs.Directory.{same_names as are_same};
@@ -73,7 +75,8 @@ pub(crate) fn readers_of(entry: Option<Entry>) -> u32
     }
 }
 
-/// What is pending of a slot's close once its draft is linked: the blocks of an old file are to be freed.
+/// What is pending of a slot's close once its draft is linked: the blocks of an old file are to be
+/// freed.
 pub(crate) fn after_link(old: Option<u32>, owner: u8) -> Option<Mark>
     ensures { result ≡ mark_after_link old owner }
 {

@@ -1,3 +1,5 @@
+//! What a number of the store names, the mark of a half made close, and why a call is refused.
+
 use its_word::Word;
 
 /// A file, or a draft: its directory and its two names, and how many channels read a file.
@@ -7,8 +9,8 @@ pub enum Entry {
     Draft { names: [Word; 3] },
 }
 
-/// The pending parts of a close, with the number of the draft that becomes a file and that of the file that it
-/// replaces, if there is one.
+/// The pending parts of a close, with the number of the draft that becomes a file and that of the
+/// file that it replaces, if there is one.
 #[derive(Clone, Copy, Debug)]
 pub enum Parts {
     /// The old file is to be unlinked, the draft linked, and the old file's blocks freed.
@@ -26,8 +28,8 @@ pub struct Mark {
     pub parts: Parts,
 }
 
-/// Why a draft is not closed: a channel reads the file that it would replace, or there are 256 files
-/// and it replaces none.
+/// Why a draft is not closed: a channel reads the file that it would replace, or there are 256
+/// files and it replaces none.
 #[derive(Clone, Copy, Debug, PartialEq, Eq)]
 pub enum CloseFault {
     Locked,

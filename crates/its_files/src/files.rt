@@ -1,3 +1,5 @@
+//! `Files`: the calls on files and drafts.
+
 ghost use Rattle.std.specs.Prelude.{◌≡◌, ◌≢◌, ◌<◌, ◌≤◌, ◌+◌, ◌-◌, ◌^◌, ℕ, List, [], ◌∷◌, ◌++◌, true, false, Some, None, Ok, Err, length, slice_get, is_err, is_some, option_map, IfOk, IfErr, IfSome, OnOk, OnErr};
 ghost use Rattle.its_word.specs.Only.{Only, Same};
 ghost use Rattle.its_word.specs.Directory.{same_names, without_names, with_changed, longer, named, closed};
@@ -21,8 +23,8 @@ use std::marker::Model;
 /// How many files there are at most.
 const FILES: usize = 256;
 
-/// The files in their order, the drafts, and the close that is half made. A file or a draft goes by its
-/// number, which it keeps.
+/// The files in their order, the drafts, and the close that is half made. A file or a draft goes by
+/// its number, which it keeps.
 #[derive(Drop)]
 pub struct Files {
     entries: Vec<Option<Entry>>,
@@ -54,9 +56,10 @@ impl Files {
         })
     }
 
-    /// Does nothing, and says what holds of all files and drafts: each block is free or in use, each file is in the
-    /// order once, no two files have the same names, and for a mark, its draft exists, and nobody reads the file that
-    /// it replaces. `whole` is all that holds of entries, order, mark and words together.
+    /// Does nothing, and says what holds of all files and drafts: each block is free or in use,
+    /// each file is in the order once, no two files have the same names, and for a mark, its draft
+    /// exists, and nobody reads the file that it replaces. `whole` is all that holds of entries,
+    /// order, mark and words together.
     pub fn seen(&self)
         ensures blocks { length (free_blocks self.now.stored.chains) + blocks_used self.now.stored ≡ blocks }
         ensures files { length self.now.order ≤ most_files }
@@ -163,8 +166,8 @@ impl Files {
         self.blocks.is_full(id)
     }
 
-    /// How many words more there is room for at the end of a file or a draft: what its last block still
-    /// has, and the free blocks.
+    /// How many words more there is room for at the end of a file or a draft: what its last block
+    /// still has, and the free blocks.
     pub fn room(&self, id: u32) -> u32
         requires { is_some (entry_at self.now id) ≡ true }
         ensures { result ≡ room_behind self.now.stored id }
@@ -276,8 +279,8 @@ impl Files {
         Ok(())
     }
 
-    /// Gives a file two other names in its directory; it keeps its place. Locked if a channel reads it, Exists if a
-    /// file has these names.
+    /// Gives a file two other names in its directory; it keeps its place. Locked if a channel reads
+    /// it, Exists if a file has these names.
     pub fn rename(&mut self, id: u32, x: Word, y: Word) -> Result<(), RenameFault>
         requires file { is_file (entry_at self.old id) ≡ true }
         requires unmarked { self.old.mark ≡ None }
@@ -328,8 +331,8 @@ impl Files {
         self.entries[id as usize] = Some(Entry::File { names, readers });
     }
 
-    /// Marks the close of a draft by a slot. Locked if a channel reads the file that it would replace, NoRoom if it
-    /// replaces none and there are 256 files.
+    /// Marks the close of a draft by a slot. Locked if a channel reads the file that it would
+    /// replace, NoRoom if it replaces none and there are 256 files.
     pub fn begin_close(&mut self, id: u32, slot: u8) -> Result<(), CloseFault>
         requires draft { is_draft (entry_at self.old id) ≡ true }
         requires unmarked { self.old.mark ≡ None }

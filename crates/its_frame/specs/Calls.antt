@@ -1,4 +1,5 @@
--- The calls of the monitor, and what is asked of a call by its name alone (docs/CALLS.md, "The calls").
+-- The calls of the monitor, and what is asked of a call by its name alone (docs/CALLS.md, "The
+-- calls").
 -- A promise rests on this.
 use Rattle.std.specs.Prelude.{◌==◌, ℕ, Bool, true, false, List, [], ◌∷◌, Option, Some, None}
 use Rattle.std.specs.List.{find}
@@ -7,7 +8,8 @@ use Rattle.its_frame.specs.declared.name.CallName.TheVariants.{Hang, Sleep, Dism
 use Rattle.its_frame.specs.declared.name.CallRow.{CallRow}
 use Rattle.its_frame.specs.declared.name.OnFiles.TheVariants.{Never, ByDevice, ByChannel, Always}
 
--- a call of which nothing is asked but its SIXBIT name, its least and most inputs, and its least and most outputs
+-- a call of which nothing is asked but its SIXBIT name, its least and most inputs, and its least
+-- and most outputs
 abbrev pub takes : ℕ → ℕ → ℕ → ℕ → ℕ → CallRow
 takes name least_in most_in least_out most_out = record {
   name = name;
@@ -24,10 +26,11 @@ takes name least_in most_in least_out most_out = record {
   reserves = false;
 }
 
--- the table of calls. Beside its name and its arguments: whether the call can be found not ready; how many of its last
--- inputs can be stale in core while it is in progress; the input that names the channel through which it reaches into
--- another job; when it is one on files; the inputs whose words PEEK shows as a and as b; and whether it can reserve a page.
--- `.IOT` has its channel as input and E as output
+-- the table of calls. Beside its name and its arguments: whether the call can be found not ready;
+-- how many of its last inputs can be stale in core while it is in progress; the input that names
+-- the channel through which it reaches into another job; when it is one on files; the inputs whose
+-- words PEEK shows as a and as b; and whether it can reserve a page. `.IOT` has its channel as
+-- input and E as output
 abbrev pub call_row : CallName → CallRow
 call_row Hang = record (takes 0o504156470000 0 1 0 0) { waits = true }
 call_row Sleep = record (takes 0o635445456000 1 1 0 0) { waits = true; owes = 1; shows_a = Some 0 }

@@ -6,7 +6,8 @@ use Rattle.its_records.specs.declared.calls.Owed.TheVariants.{Store, GiveBack, U
 use Rattle.its_frame.specs.declared.frame.Frame.{Frame}
 use Rattle.its_frame.specs.declared.frame.Frame.TheVariants.{Entered, Parsed, Asked, Holding, Waiting, Moving, Ending}
 
--- a file step is still to be performed only if the frame's file steps are pending; any other step always is
+-- a file step is still to be performed only if the frame's file steps are pending; any other step
+-- always is
 abbrev pub is_made_by : Bool → Owed → Bool
 is_made_by marked (Store a w) = true
 is_made_by marked GiveBack = true

@@ -1,12 +1,14 @@
+//! Changes: the small effects of a call outside its own words and registers.
+
 ghost use Rattle.std.specs.Prelude.{◌≡◌};
 ghost use Rattle.its_frame.specs.declared.change.Change.TheVariants.{Inform};
 
 use super::variable::Variable;
 use its_word::Word;
 
-/// What a channel is opened on: a console for input or for output; a file that is read from its first
-/// word on; a draft of no words with these names; or an inferior from position 0 on, with leave to
-/// write or without.
+/// What a channel is opened on: a console for input or for output; a file that is read from its
+/// first word on; a draft of no words with these names; or an inferior from position 0 on, with
+/// leave to write or without.
 #[derive(Clone, Copy, Debug, PartialEq, Eq)]
 pub enum Opened {
     TtyIn,
@@ -39,7 +41,8 @@ pub enum Change {
         channel: u8,
         word: Word,
     },
-    /// The draft of a channel becomes a file, in place of one with its names; the channel is closed.
+    /// The draft of a channel becomes a file, in place of one with its names; the channel is
+    /// closed.
     Close {
         channel: u8,
     },
@@ -103,8 +106,8 @@ pub enum Change {
     Arm {
         alarm: Option<(u64, u64)>,
     },
-    /// An end of a link is opened at a closed channel: the writing end or the reading end of the link of this number,
-    /// which is made with these names if there is none.
+    /// An end of a link is opened at a closed channel: the writing end or the reading end of the
+    /// link of this number, which is made with these names if there is none.
     Join {
         channel: u8,
         link: u8,
@@ -112,7 +115,8 @@ pub enum Change {
         x: Word,
         y: Word,
     },
-    /// A channel on an end of a link is closed, and the end with it. A link without an open end is gone with its words.
+    /// A channel on an end of a link is closed, and the end with it. A link without an open end is
+    /// gone with its words.
     Part {
         channel: u8,
         link: u8,

@@ -1,3 +1,5 @@
+//! Decisions: what a call results in, and for what it may wait.
+
 use super::change::Change;
 use arrayvec::ArrayVec;
 use its_records::Exit;
@@ -17,8 +19,8 @@ pub enum Wait {
     Room(u8),
 }
 
-/// A byte or word that was taken and is not yet stored, in the form in which it was taken, and the address of its
-/// word.
+/// A byte or word that was taken and is not yet stored, in the form in which it was taken, and the
+/// address of its word.
 #[derive(Clone, Copy, Debug, PartialEq, Eq)]
 pub struct Held {
     pub place: u32,
@@ -37,8 +39,8 @@ pub enum Decision {
         held: Option<Held>,
         values: ArrayVec<Word, 2>,
     },
-    /// It finishes, fails or faults: these changes, then stores into its own core, then the registers
-    /// that it leaves its job with.
+    /// It finishes, fails or faults: these changes, then stores into its own core, then the
+    /// registers that it leaves its job with.
     Ends {
         changes: ArrayVec<Change, 2>,
         stores: ArrayVec<Store, 2>,

@@ -1,3 +1,6 @@
+//! Frames: how far a job is inside a call, as contracts see it. The code keeps the call itself as
+//! `its_calls::Call`.
+
 use arrayvec::ArrayVec;
 use its_records::{Ask, Owed, Site};
 use its_word::Word;
@@ -22,8 +25,8 @@ pub struct Asked {
     pub ask: Ask,
 }
 
-/// The call is ready to be tried. `page` is the number of clear quarters of a reserved page; `owes` is
-/// how many of the last arguments have values that are not yet in core, at most 2.
+/// The call is ready to be tried. `page` is the number of clear quarters of a reserved page; `owes`
+/// is how many of the last arguments have values that are not yet in core, at most 2.
 #[derive(Drop)]
 pub struct Holding {
     pub site: Site,
@@ -57,7 +60,8 @@ pub struct Ending {
     pub owed: ArrayVec<Owed, 4>,
 }
 
-/// How far a job is inside a call of the monitor. Contracts speak of frames; `its_calls` keeps them.
+/// How far a job is inside a call of the monitor. Contracts speak of frames; `its_calls` keeps
+/// them.
 #[derive(Drop)]
 pub enum Frame {
     Entered(Entered),

@@ -33,8 +33,8 @@ pub enum CallName {
     Realt,
 }
 
-/// When a call is one on files, before which the pending parts of a close are performed: never; if the device that it
-/// names is DSK; if its channel is on a file or a draft; or always.
+/// When a call is one on files, before which the pending parts of a close are performed: never; if
+/// the device that it names is DSK; if its channel is on a file or a draft; or always.
 #[derive(Clone, Copy, Debug, PartialEq, Eq)]
 pub enum OnFiles {
     Never,

@@ -1,3 +1,5 @@
+//! Which interrupt is deliverable, its delivery, and the return from its handler.
+
 ghost use Rattle.std.specs.Prelude.{◌≡◌, ◌<◌, ◌≤◌, ◌^◌, true};
 ghost use Rattle.its_word.specs.Only.{Only};
 ghost use Rattle.its_core.specs.Cores.{core_at};
@@ -21,8 +23,8 @@ fn unguarded(job: &Job) -> Word
     job.pend1 & Word::new(FATAL) & !enabled_1(job)
 }
 
-/// Whether an interrupt of a job can be delivered: a fatal bit is pending that is not enabled, or an
-/// enabled bit is.
+/// Whether an interrupt of a job can be delivered: a fatal bit is pending that is not enabled, or
+/// an enabled bit is.
 #[tactic(auto, using(crate::proofs::PendingLaws::none_pending), unfolding(its_plain::specs::Interrupt::deliverable))]
 pub fn deliverable(job: &Job) -> bool
     ensures { result ≡ deliverable job.now }
@@ -82,8 +84,9 @@ fn enter(job: &mut Job, entry: &TableEntry)
     job.flags = 0;
 }
 
-/// Delivers an interrupt to a job, and says whether a fatal bit stopped the job; INF is then to be set in its
-/// superior, if it has one. A delivery that is not possible sets TBL and changes nothing else.
+/// Delivers an interrupt to a job, and says whether a fatal bit stopped the job; INF is then to be
+/// set in its superior, if it has one. A delivery that is not possible sets TBL and changes nothing
+/// else.
 #[tactic(auto, unfolding(its_plain::specs::Interrupt::delivered))]
 pub fn deliver(core: &mut Core, slot: Slot, job: &mut Job) -> bool
     requires deliverable { deliverable job.old ≡ true }
@@ -108,8 +111,8 @@ pub fn deliver(core: &mut Core, slot: Slot, job: &mut Job) -> bool
     false
 }
 
-/// The registers that DISMIS leaves a job with, from the five words that a delivery pushed below the stack pointer
-/// word at p. Mpv if one of the words is absent, else Wro if p is read only.
+/// The registers that DISMIS leaves a job with, from the five words that a delivery pushed below
+/// the stack pointer word at p. Mpv if one of the words is absent, else Wro if p is read only.
 #[tactic(auto, unfolding(its_plain::specs::Interrupt::after_dismissal))]
 pub fn dismiss(core: &Core, job: &Job, slot: Slot, p: u32) -> Result<Exit, Fault>
     ensures { result ≡ after_dismissal (core_at core.now slot) job.now p }

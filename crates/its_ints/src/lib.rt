@@ -1,7 +1,9 @@
-//! Software interrupts: whether one can be delivered, its delivery, and the return from its handler
-//! (docs/MACHINE.md, "Interrupts").
+//! Software interrupts: their delivery, and the return from a handler (docs/MACHINE.md,
+//! "Interrupts").
 //!
 //! Proved: `deliverable`, `deliver` and `dismiss` are the definitions of interrupts.
+//!
+//! Tests: test_decisions/src/interrupts.rt.
 #![tactic(auto)]
 
 mod delivery;

@@ -9,8 +9,8 @@ use its_records::Job;
 use its_word::{ADDRESSES, Slot, TBL, Word};
 use std::marker::Model;
 
-/// An entry of the interrupt table: the pending bits that it takes, the deferrals of its handler, and
-/// the address of that.
+/// An entry of the interrupt table: the pending bits that it takes, the deferrals of its handler,
+/// and the address of that.
 #[derive(Clone, Copy)]
 pub(crate) struct TableEntry {
     mask1: Word,
@@ -106,8 +106,8 @@ fn entry_at(core: &Core, slot: Slot, a: u32) -> Option<TableEntry>
     })
 }
 
-/// How many entries a table has, by the word at 42: its left half is the negated length of the table,
-/// which is 1 + 5k with k from 1 to 48.
+/// How many entries a table has, by the word at 42: its left half is the negated length of the
+/// table, which is 1 + 5k with k from 1 to 48.
 #[tactic(auto, unfolding(its_plain::specs::Interrupt::entries_of))]
 fn entries(word: Word) -> Option<u32>
     ensures number { result ≡ entries_of word }
@@ -121,8 +121,8 @@ fn entries(word: Word) -> Option<u32>
     }
 }
 
-/// The first of so many entries from an address on that takes one of the enabled bits; None if none does, or if a
-/// word up to it is absent.
+/// The first of so many entries from an address on that takes one of the enabled bits; None if none
+/// does, or if a word up to it is absent.
 #[tactic(auto, using(crate::proofs::TableLaws::first_entry_turn, crate::proofs::TableLaws::first_entry_spent))]
 fn first_entry(core: &Core, slot: Slot, job: &Job, count: u32, a: u32) -> Option<TableEntry>
     requires count { count ≤ 48 }
@@ -138,8 +138,8 @@ fn first_entry(core: &Core, slot: Slot, job: &Job, count: u32, a: u32) -> Option
     None
 }
 
-/// What a delivery through the table needs: the entry that is taken, and the stack pointer word with
-/// its address.
+/// What a delivery through the table needs: the entry that is taken, and the stack pointer word
+/// with its address.
 #[derive(Clone, Copy)]
 pub(crate) struct Found {
     pub(crate) entry: TableEntry,

@@ -1,4 +1,5 @@
--- The tree of jobs at the beginning, after a job is made, and after a job is removed with all below it.
+-- The tree of jobs at the beginning, after a job is made, and after a job is removed with all below
+-- it.
 use Rattle.std.specs.Prelude.{if◌then◌else◌, ◌≡◌, ◌≢◌, ◌<◌, ◌==◌, ◌≤◌, ℕ, Bool, true, false, Option, Some, None, IfSome, List, length, slice_index_or, slice_set, is_some, is_none, refl}
 use Rattle.std.proofs.Common.{sym, ◌∙◌, ap, arith, inl, inr, length-set, eq-eqb}
 use Rattle.std.proofs.lemmas.Bool.{cases_Bool, cases_eq, cases_lt, ne_eqb}

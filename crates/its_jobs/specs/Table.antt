@@ -1,4 +1,5 @@
--- What contracts see of the jobs: for each slot a job, if it has one, and its superior; and the limit below which jobs are made.
+-- What contracts see of the jobs: for each slot a job, if it has one, and its superior; and the
+-- limit below which jobs are made.
 -- No promise rests on this.
 use Rattle.std.specs.Prelude.{if◌then◌else◌, ◌≡◌, ◌≤◌, ◌<◌, ◌==◌, ◌||◌, ℕ, Bool, true, false, Option, None, List, length, slice_index_or, is_some, IfSome}
 use Rattle.its_word.specs.Limits.{slots}
@@ -22,7 +23,8 @@ superior_at t k = slice_index_or t.superiors k None
 abbrev pub superior_in : List (Option ℕ) → ℕ → Option ℕ
 superior_in superiors k = slice_index_or superiors k None
 
--- a superior is a slot that has a job, and only a slot with a job has one; no job is reached from itself
+-- a superior is a slot that has a job, and only a slot with a job has one; no job is reached from
+-- itself
 pub record IsTree (jobs : List (Option Job)) (superiors : List (Option ℕ)) : Type 0 where
   pub job_count : length jobs ≡ slots
   pub superior_count : length superiors ≡ slots
@@ -31,7 +33,8 @@ pub record IsTree (jobs : List (Option Job)) (superiors : List (Option ℕ)) : T
   pub owned : (k : ℕ) → slice_index_or jobs k None ≡ None → slice_index_or superiors k None ≡ None
   pub circle : (k : ℕ) → climbs_to (superior_in superiors) k slots (superior_in superiors k) ≡ false
 
--- what holds of the jobs at any time: they are a tree, and there is a place for each slot below the limit
+-- what holds of the jobs at any time: they are a tree, and there is a place for each slot below the
+-- limit
 pub record IsJobs (jobs : List (Option Job)) (superiors : List (Option ℕ)) (limit : ℕ) : Type 0 where
   pub tree : IsTree jobs superiors
   pub few : limit ≤ slots

@@ -1,3 +1,5 @@
+//! `Jobs`: the jobs by slot, their superiors, and the limit of the slots in use.
+
 ghost use Rattle.std.specs.Prelude.{◌≡◌, ◌≢◌, ◌≤◌, ◌<◌, ◌+◌, ◌⊎◌, ◌||◌, ◌==◌, ◌↔◌, ℕ, true, Some, None, IfOk, OnOk, OnErr, IfSome, IsErr, is_some, length, slice_set, slice_index_or, slice_get, false, is_none, option_copied};
 ghost use Rattle.std.specs.Option.{option_copied_mut};
 ghost use Rattle.std.specs.Borrow.{LendsIf, sem};
@@ -23,7 +25,8 @@ const FIRST_LIMIT: u8 = 64;
 /// The number of places, as slots are counted.
 const PLACES: u8 = SLOTS as u8;
 
-/// The jobs by slot, each with its superior if it has one. There are 96 places, and jobs are made in the slots below a limit.
+/// The jobs by slot, each with its superior if it has one. There are 96 places, and jobs are made
+/// in the slots below a limit.
 #[derive(Drop)]
 pub struct Jobs {
     jobs: Vec<Option<Job>>,
@@ -81,7 +84,8 @@ impl Jobs {
         free_slot(&self.jobs, self.limit)
     }
 
-    /// Makes a job in the least free slot below the limit: stopped, with closed channels, its other registers 0.
+    /// Makes a job in the least free slot below the limit: stopped, with closed channels, its other
+    /// registers 0.
     pub fn create(
         &mut self,
         uname: Word,
@@ -211,7 +215,8 @@ fn free_slot(jobs: &[Option<Job>], limit: u8) -> Option<Slot>
     None
 }
 
-/// How many jobs there can be in a version of the session text: 64 in the first, and one for each place in the second.
+/// How many jobs there can be in a version of the session text: 64 in the first, and one for each
+/// place in the second.
 #[tactic(auto, unfolding(its_word::specs::Limits::limit_of))]
 pub fn limit_of(version: u8) -> u8
     ensures number { result ≡ limit_of version }

@@ -1,5 +1,5 @@
--- How the lists are kept: the numbers below n are the nodes, those from there on the heads, and each number has one that
--- follows it. From a head on they lead through its list and back.
+-- How the lists are kept: the numbers below n are the nodes, those from there on the heads, and
+-- each number has one that follows it. From a head on they lead through its list and back.
 -- No promise rests on this.
 use Rattle.std.specs.Prelude.{◌≡◌, ◌≢◌, ◌<◌, ◌≤◌, ◌^◌, ℕ, zero, suc, ◌+◌, ◌-◌, Bool, true, false, eqb, List, [], ◌∷◌, length, map, slice_index_or}
 use Rattle.std.specs.List.{range_with_len}

@@ -1,3 +1,5 @@
+//! `Links`: nodes on lists, each list in the order in which its nodes came.
+
 ghost use Rattle.std.specs.Prelude.{◌≡◌, ◌≢◌, ◌<◌, ◌≤◌, ◌+◌, ◌^◌, ◌++◌, ◌∷◌, [], ℕ, List, Some, None, length, map, slice_set, IfOk, IfSome, IsTrue, ◌↔◌};
 ghost use Rattle.its_links.specs.Rings.{link};
 ghost use Rattle.its_links.specs.Lists.{list_at, times, hit, without, first, rest, no_lists};
@@ -9,8 +11,8 @@ use std::marker::Model;
 
 /// Lists of nodes, one for each head. Contracts see the number of nodes, and the list of each head.
 ///
-/// The numbers below `nodes` are the nodes, and those from there on the heads. The ring of a head is
-/// its list, and a node in no list is a ring of its own.
+/// The numbers below `nodes` are the nodes, and those from there on the heads. The ring of a head
+/// is its list, and a node in no list is a ring of its own.
 #[derive(Drop)]
 pub struct Links {
     nodes: u32,

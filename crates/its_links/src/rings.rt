@@ -1,3 +1,5 @@
+//! The successors and predecessors that keep each list as a ring through its head.
+
 ghost use Rattle.std.specs.Prelude.{◌≡◌, ◌<◌, ℕ, length, IfOk};
 ghost use Rattle.its_links.specs.Rings.{link, alone, Exchanged};
 

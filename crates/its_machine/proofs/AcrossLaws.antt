@@ -1,4 +1,5 @@
--- When the numbers in channels fit the files and drafts: if the channels weigh the same, and if none is open.
+-- When the numbers in channels fit the files and drafts: if the channels weigh the same, and if
+-- none is open.
 use Rattle.std.specs.Prelude.{◌≡◌, ℕ, false, None}
 use Rattle.std.proofs.Common.{sym, ◌∙◌, ap}
 use Rattle.its_word.proofs.TableLaws.{get_or-filled}
@@ -10,7 +11,8 @@ use Rattle.its_files.specs.Files.{Store, readers_by, no_files}
 use Rattle.its_machine.specs.Across.{channel_by, channel_at, tally, reads_file, writes_draft, writers, Across}
 use Rattle.its_machine.proofs.TallyLaws.{tally_alike, tally_same, tally_none}
 
--- a channel that weighs no other than another one for each file and draft, and is closed if that one is
+-- a channel that weighs no other than another one for each file and draft, and is closed if that
+-- one is
 pub record Alike (c d : Channel) : Type 0 where
   pub closed : c ≡ Closed → d ≡ Closed
   pub read : (f : ℕ) → reads_file f d ≡ reads_file f c

@@ -1,4 +1,5 @@
--- Words that are apart: none of them is among the words that a call reads, or is the word of two arguments.
+-- Words that are apart: none of them is among the words that a call reads, or is the word of two
+-- arguments.
 use Rattle.std.specs.Prelude.{◌≡◌, ◌==◌, ◌||◌, ◌&&◌, ◌+◌, ℕ, Bool, true, false, not, cond, List, [], ◌∷◌, nat_lt, refl}
 use Rattle.std.specs.List.{list_any}
 use Rattle.std.proofs.Common.{sym, ◌∙◌, ap}

@@ -1,5 +1,5 @@
--- The processor does not look at channels, and keeps them: a delivery and a unit do the same of registers without theirs. So do
--- a return from a handler, and setting a variable.
+-- The processor does not look at channels, and keeps them: a delivery and a unit do the same of
+-- registers without theirs. So do a return from a handler, and setting a variable.
 use Rattle.std.specs.Prelude.{if◌then◌else◌, ◌≡◌, ◌==◌, ℕ, zero, suc, ◌+◌, Bool, true, false, Option, Some, None, List, Result, Ok, Err, refl}
 use Rattle.std.proofs.Common.{ap, ◌∙◌}
 use Rattle.its_word.specs.Core.{Core, can_store, word_at}

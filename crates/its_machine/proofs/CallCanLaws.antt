@@ -39,8 +39,8 @@ decided_can v j m x a true z s u f g =
     rw z (call_can v j m x a (call_named a.name) s (λ h. u (e ∙ h)) (f none) (g none))
 decided_can v j m x a false z s u f g = rw z tt
 
--- what its changes ask beside the machine is there: for a call on files; for one that makes a page; and for the job that UCLOSE
--- removes
+-- what its changes ask beside the machine is there: for a call on files; for one that makes a page;
+-- and for the job that UCLOSE removes
 pub record Grants (v : Beside) (q : Whole) (a : Ask) : Type 0 where
   pub files : helps q a ≡ true → v.files
   pub page : reserves a ≡ true → v.page

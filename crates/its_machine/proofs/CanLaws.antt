@@ -39,7 +39,8 @@ use Rattle.its_stepped.proofs.ChannelLaws.{named_link}
 use Rattle.its_stepped.proofs.TestLaws.{by_test, first_holds}
 use Rattle.its_machine.specs.Can.{HasJob, chan_in, Unread, HasRoom, CanClose, CanOpen, CanMake, CanMakeAll}
 
--- what changes ask beside the machine: those of files and drafts; a page that is made; and a job that is removed
+-- what changes ask beside the machine: those of files and drafts; a page that is made; and a job
+-- that is removed
 pub record Beside : Type 1 where
   pub files : Type 0
   pub page : Type 0
@@ -56,7 +57,8 @@ Needs v (changes.Map s k) = v.page
 Needs v (changes.Remove s) = v.tree s
 Needs v _ = Unit {0}
 
--- some changes can be made, one after another; one that asks anything beside the machine is the only one
+-- some changes can be made, one after another; one that asks anything beside the machine is the
+-- only one
 abbrev pub nothing : Beside
 nothing = record { files = ⊥; page = ⊥; tree = λ s. ⊥ }
 
@@ -77,7 +79,8 @@ DecisionCan v (Goes cs h vs) j m = CanAll v cs.items j m
 DecisionCan v (Ends cs ss e) j m = CanAll v cs.items j m
 DecisionCan v (Gone cs) j m = CanAll nothing cs.items j (effect (changes.Remove j) j m)
 
--- what tests say of numbers: a channel that there is, and one that is open; a console, and one with room
+-- what tests say of numbers: a channel that there is, and one that is open; a console, and one with
+-- room
 not_false : (b : Bool) → not b ≡ false → b ≡ true
 not_false true h = refl
 not_false false h = cc
@@ -109,8 +112,9 @@ opened_needs : (b : Bool) (v : Beside) (n : ℕ) → Needs v (changes.Open n (if
 opened_needs true v n = tt
 opened_needs false v n = tt
 
--- the view of the call of slot j's job in which its consoles, files, outlines and links are those of a machine, and its
--- job's console is one of eight, its superior has a slot that there is, and its channels are on links that exist
+-- the view of the call of slot j's job in which its consoles, files, outlines and links are those
+-- of a machine, and its job's console is one of eight, its superior has a slot that there is, and
+-- its channels are on links that exist
 pub record Sees (x : View) (m : Machine) (j : ℕ) : Type 0 where
   pub consoles : x.consoles ≡ m.consoles
   pub own : IfSome x.own.job.console (λ c. c < 8)
@@ -395,7 +399,8 @@ rename_can v j m x a s u =
     (finishes x (changes.Rename (input a 3) (input a 1) (input a 2) (input a 4) (input a 5) ∷ []) []) (λ t. tt, (λ t. tt, (λ t. tt, (λ t. tt, tt))))
     (λ t. ((file_is x m j (names_from a 1) s t.1.0, unread_is x m j (names_from a 1) s t.1.1.0, ap (has_file fresh) (sym s.files) ∙ t.1.1.1.0), u))
 
--- the calls on links: a channel is on a link that exists; the number of one that is opened is below 16
+-- the calls on links: a channel is on a link that exists; the number of one that is opened is below
+-- 16
 pub on_link : (x : View) (m : Machine) (j n l : ℕ) (write : Bool) → Sees x m j → channel_at x.own.channels n ≡ Linked l write → chan_in m j n ≡ Linked l write
 on_link x m j n l write s e = chan_is x m j n (Linked l write) s (open_true x.own.channels n (Linked l write) e tt) e
 

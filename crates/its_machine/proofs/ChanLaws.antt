@@ -1,4 +1,5 @@
--- Channels of the plain machine by those of jobs: if files and drafts are the same to them, and if one channel is set.
+-- Channels of the plain machine by those of jobs: if files and drafts are the same to them, and if
+-- one channel is set.
 use Rattle.std.specs.Prelude.{◌≡◌, ◌≢◌, ℕ, zero, suc, Bool, true, false, nat_lt, Option, Some, None, is_some, option_map, Ok, Err, length, refl}
 use Rattle.std.proofs.Common.{sym, ◌∙◌, ap}
 use Rattle.its_word.specs.Core.{Core}

@@ -1,4 +1,5 @@
--- What CORBLK decides can be made: the job whose pages it changes is there, and a page that it makes has room.
+-- What CORBLK decides can be made: the job whose pages it changes is there, and a page that it
+-- makes has room.
 use Rattle.std.specs.Prelude.{if◌then◌else◌, ◌==◌, ◌&&◌, ◌≡◌, ◌<◌, ℕ, Bool, true, false, not, Option, Some, None, is_some, [], ◌∷◌, nat_lt, refl}
 use Rattle.std.proofs.Common.{◌∙◌, ap, subst, arith}
 use Rattle.std.proofs.lemmas.Bool.{not-false, ltb-true, eqb-true, ne_eqb}
@@ -23,7 +24,8 @@ pub record Owns (m : Machine) (s : ℕ) (c : Core) : Type 0 where
   pub job : HasJob m s
   pub core : core_of (m.jobs s) ≡ c
 
--- what CORBLK finds: its own job, and that of a channel on an inferior; how many pages there are; and what a page asks that it makes
+-- what CORBLK finds: its own job, and that of a channel on an inferior; how many pages there are;
+-- and what a page asks that it makes
 pub record FindsPages (v : Beside) (x : View) (m : Machine) (j : ℕ) (a : Ask) : Type 0 where
   pub own : Owns m x.slot x.own.core
   pub inferior : (s at : ℕ) (write : Bool) → channel_at x.own.channels (input a 1) ≡ On s write at → Owns m s (other_core x)

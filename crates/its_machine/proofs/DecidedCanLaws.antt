@@ -1,5 +1,5 @@
--- What a call decides can be made: OPEN by its device; CLOSE, `.IOT` and SIOT by what the channel is on; and all calls by
--- their names.
+-- What a call decides can be made: OPEN by its device; CLOSE, `.IOT` and SIOT by what the channel
+-- is on; and all calls by their names.
 use Rattle.std.specs.Prelude.{◌==◌, ◌≡◌, ℕ, Bool, true, false, not, Option, Some, None, is_some, [], ◌∷◌, ◌++◌, slice_get, slice_index_or, unwrap_or, refl}
 use Rattle.its_word.specs.Core.{word_at}
 use Rattle.its_records.specs.declared.calls.Ask.{Ask}

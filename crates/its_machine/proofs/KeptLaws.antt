@@ -1,4 +1,5 @@
--- Each operation on files and drafts keeps the facts on their numbers, and what all channels but its own are on.
+-- Each operation on files and drafts keeps the facts on their numbers, and what all channels but
+-- its own are on.
 use Rattle.std.specs.Prelude.{◌≡◌, ◌≢◌, ◌<◌, ℕ, zero, suc, ◌+◌, ◌-◌, true, false, Option, Some, None, Ok, List, [], refl}
 use Rattle.std.proofs.Common.{sym, ◌∙◌, ap, subst, inl, inr, arith}
 use Rattle.std.proofs.lemmas.Bool.{cases_eq, both_ways, eq-eqb, ne_eqb}
@@ -23,7 +24,8 @@ use Rattle.its_machine.proofs.MarkLaws.{marks, unlinked_whole, linked_whole}
 use Rattle.its_machine.proofs.TallyLaws.{OneChannel, tally_one, reads_here, reads_other, writes_here, writes_other}
 use Rattle.its_machine.proofs.StandLaws.{unmarked_all, file_writers, marked_writers, draft_writers, read_by_none, written_by_none, reading_stands, writing_stands, writing_alone, write_stands}
 
--- what a channel is on, if the file that it reads keeps its names, and the draft that it writes its names and words
+-- what a channel is on, if the file that it reads keeps its names, and the draft that it writes its
+-- names and words
 pub chan_stays : (s u : Store) (c : Channel) → ((f : ℕ) → reads_file f c ≢ 0 → names_at u f ≡ names_at s f)
     → ((d : ℕ) → writes_draft d c ≢ 0 → (names_at u d ≡ names_at s d) × (words_at u d ≡ words_at s d)) → chan_of u c ≡ chan_of s c
 chan_stays s u (Reading f at) names drafts = ap (λ ns. Chan.Reads ns at) (names f (λ z. let o = reads_here f at in omega arith))
@@ -96,7 +98,7 @@ across_number s u t v j n id e c x a o lj ln was h = across_one s u t v j n x a 
           omega arith
     ])
 
--- the same if no channel is another
+-- an entry under one number is another, and no channel is
 number_store : (s u : Store) (t : Table) (id : ℕ) (e : Option Entry) → Across s t → Only (entry_at s) (entry_at u) id e → ((d : ℕ) → d ≢ id → is_marked u d ≡ is_marked s d)
     → readers_by e ≡ readers_at s id → writers e (is_marked u id) ≡ writers (entry_at s id) (is_marked s id) → Across u t
 number_store s u t id e a entry marks read written = across_store s u t a
@@ -111,7 +113,8 @@ number_store s u t id e a entry marks read written = across_store s u t a
       | inr ne ↦ ap (λ w. writers w (is_marked u d)) (entry.others d ne) ∙ ap (writers (entry_at s d)) (marks d ne)
     ])
 
--- what an operation keeps that changes channel n of slot j, and what one keeps that changes no channel
+-- what an operation keeps that changes channel n of slot j, and what one keeps that changes no
+-- channel
 pub record Kept (s u : Store) (t v : Table) (j n : ℕ) : Type 0 where
   pub across : Across u v
   pub chans : (k m : ℕ) → (k ≡ j → m ≢ n) → chan_of u (channel_at v k m) ≡ chan_of s (channel_at t k m)

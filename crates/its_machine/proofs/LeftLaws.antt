@@ -1,5 +1,5 @@
--- What is left of channels and superiors: of a channel that is closed, of channels on jobs that are gone, and of the superior of a
--- slot without a job.
+-- What is left of channels and superiors: of a channel that is closed, of channels on jobs that are
+-- gone, and of the superior of a slot without a job.
 use Rattle.std.specs.Prelude.{if◌then◌else◌, ◌≡◌, ◌≢◌, ℕ, Bool, true, false, Option, Some, None, List, option_map, refl}
 use Rattle.std.proofs.Common.{sym, ◌∙◌, ap}
 use Rattle.std.proofs.lemmas.Bool.{eq-eqb, ne_eqb}

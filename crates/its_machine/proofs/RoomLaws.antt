@@ -1,4 +1,5 @@
--- The room for words: the blocks that are in use in the store are those of the machine's files and drafts.
+-- The room for words: the blocks that are in use in the store are those of the machine's files and
+-- drafts.
 use Rattle.std.specs.Prelude.{◌≡◌, ◌≤◌, ℕ, ◌+◌, ◌*◌, false, not, ◌&&◌, eqb, nat_lt, Option, Some, None, List, length, refl}
 use Rattle.std.proofs.Common.{sym, ◌∙◌, ap, arith}
 use Rattle.std.proofs.lemmas.Bool.Decides.{nat_tests}

@@ -1,4 +1,5 @@
--- One channel of one job is another: the channels, the jobs of the machine, and the facts on numbers of files and drafts.
+-- One channel of one job is another: the channels, the jobs of the machine, and the facts on
+-- numbers of files and drafts.
 use Rattle.std.specs.Prelude.{◌≡◌, ◌≢◌, ◌<◌, ℕ, Bool, true, false, Option, Some, None, is_some, option_map, List, length, slice_set, slice_index_or, refl}
 use Rattle.std.proofs.Common.{sym, ◌∙◌, ap, subst, inl, inr}
 use Rattle.std.proofs.lemmas.Bool.{cases_eq, cases_Bool, both_ways}

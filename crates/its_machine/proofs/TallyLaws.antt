@@ -68,7 +68,7 @@ pub record OneChannel (old new : ℕ → ℕ → Channel) (j n : ℕ) (x : Chann
   pub row : (m : ℕ) → m ≢ n → new j m ≡ old j m
   pub rows : (k : ℕ) → k ≢ j → (m : ℕ) → new k m ≡ old k m
 
--- the same of b channels of a slots
+-- sums over b channels of each of a slots, of which one channel is another
 module _ (a b : ℕ) where
   abbrev of_row : (Channel → ℕ) → (ℕ → ℕ → Channel) → ℕ → ℕ
   of_row w cs k = sum_by (λ n. w (cs k n)) (range_with_len 0 b)

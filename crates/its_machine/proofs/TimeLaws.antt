@@ -1,4 +1,5 @@
--- The next time of an alarm, as the code finds it; and an alarm that goes, of one slot after the other.
+-- The next time of an alarm, as the code finds it; and an alarm that goes, of one slot after the
+-- other.
 use Rattle.std.specs.Prelude.{if◌then◌else◌, ◌≡◌, ◌≢◌, ◌≤◌, ◌<◌, ◌+◌, ◌-◌, ◌*◌, ◌/◌, ◌%◌, ◌^◌, ◌&&◌, ℕ, Bool, true, false, Option, Some, None, option_map, nat_lt, refl}
 use Rattle.std.proofs.Common.{sym, ◌∙◌, ap, inl, inr, arith}
 use Rattle.std.proofs.Math.Nat.{add-mul, one-mul}

@@ -1,5 +1,5 @@
--- What the calls on inferiors decide can be made: an inferior that a call reaches is there, and one that it removes is
--- neither the caller nor above it.
+-- What the calls on inferiors decide can be made: an inferior that a call reaches is there, and one
+-- that it removes is neither the caller nor above it.
 use Rattle.std.specs.Prelude.{◌&&◌, ◌==◌, ◌≡◌, ◌<◌, ◌+◌, ◌-◌, ◌^◌, ℕ, Bool, true, false, not, Option, Some, None, is_some, [], ◌∷◌, ◌++◌, option_map, unwrap_or, nat_lt, refl}
 use Rattle.std.proofs.Common.{sym, ◌∙◌, ap, arith}
 use Rattle.std.proofs.lemmas.Bool.{not-false, ltb-true, ltb-false}
@@ -35,12 +35,14 @@ pub record Aim (x : View) (m : Machine) (s : ℕ) : Type 0 where
   pub job : HasJob m s
   pub other : x.other ≡ m.jobs s
 
--- what the call with this name finds at the channel that its first argument names, if that is on an inferior
+-- what the call with this name finds at the channel that its first argument names, if that is on an
+-- inferior
 pub record Finds (v : Beside) (x : View) (m : Machine) (j : ℕ) (a : Ask) (o : Option CallName) : Type 0 where
   pub inferior : (c : CallName) → o ≡ Some c → reaching c ≡ Some 0 → (s at : ℕ) (write : Bool) → channel_at x.own.channels (input a 0) ≡ On s write at → Aim x m s
   pub tree : o ≡ Some Uclose → (s at : ℕ) (write : Bool) → channel_at x.own.channels (input a 0) ≡ On s write at → CanMake (changes.Remove s) j m × v.tree s
 
--- OPEN: a job is made in the least free slot, and what is made is not the caller, whose channel stays closed
+-- OPEN: a job is made in the least free slot, and what is made is not the caller, whose channel
+-- stays closed
 outlined_some : (o : Option Whole) → is_some (option_map outline o) ≡ is_some o
 outlined_some (Some q) = refl
 outlined_some None = refl

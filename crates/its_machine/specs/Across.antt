@@ -1,4 +1,5 @@
--- How the numbers of files and drafts in the channels of all jobs fit the files and drafts that exist.
+-- How the numbers of files and drafts in the channels of all jobs fit the files and drafts that
+-- exist.
 -- No promise rests on this.
 use Rattle.std.specs.Prelude.{if◌then◌else◌, ◌≡◌, ◌==◌, ◌≤◌, ℕ, Bool, true, false, Option, Some, None, sum_by, slice_index_or}
 use Rattle.std.specs.List.{range_with_len}
@@ -45,16 +46,17 @@ IsElsewhere (Link l write) = Unit {0}
 IsElsewhere (Reading f at) = ⊥
 IsElsewhere (Writing d) = ⊥
 
--- how many channels write the entry of a number: one if it is a draft, but none if the draft is marked
+-- how many channels write the entry of a number: one if it is a draft, but none if the draft is
+-- marked
 abbrev pub writers : Option Entry → Bool → ℕ
 writers (Some (Draft names)) false = 1
 writers (Some (Draft names)) true = 0
 writers (Some (File names readers)) marked = 0
 writers None marked = 0
 
--- the readers of a file are the channels that read it; and each draft except the marked one is that of one channel.
--- So a channel that reads is on a file that exists, and one that writes on a draft that exists, is not marked, and
--- belongs to no other. All channels are among the 16 of the slots
+-- the readers of a file are the channels that read it; and each draft except the marked one is that
+-- of one channel. So a channel that reads is on a file that exists, and one that writes on a draft
+-- that exists, is not marked, and belongs to no other. All channels are among the 16 of the slots
 pub record Across (s : Store) (t : Table) : Type 0 where
   pub past_slots : (k n : ℕ) → slots ≤ k → channel_at t k n ≡ Closed
   pub past_numbers : (k n : ℕ) → 16 ≤ n → channel_at t k n ≡ Closed

@@ -14,12 +14,13 @@ are_unlike (a ∷ b ∷ []) n = (not (a == b) && not (a == n)) && not (b == n)
 are_unlike (a ∷ b ∷ c ∷ []) n = ((((not (a == b) && not (a == c)) && not (b == c)) && not (a == n)) && not (b == n)) && not (c == n)
 are_unlike _ n = false
 
--- whether the places of a call's arguments are two or three that differ, and a third word is none of them; and none of these three places is
--- a decode word
+-- whether the places of a call's arguments are two or three that differ, and a third word is none
+-- of them; and none of these three places is a decode word
 abbrev pub are_places_apart : Ask → ℕ → ℕ → ℕ → Bool
 are_places_apart a p k n = are_unlike a.operand.items n && not (list_any (is_met p k n) a.decode.items)
 
--- the same of the words of two arguments, which both have to have a place
+-- whether the words of two arguments, which both have to have a place, are apart from each other
+-- and from a third word
 abbrev pub are_apart : Ask → Option ℕ → Option ℕ → ℕ → Bool
 are_apart a (Some p) (Some k) n = are_places_apart a p k n
 are_apart a (Some p) None n = false

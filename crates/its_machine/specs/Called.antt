@@ -1,4 +1,5 @@
--- What a call finds under the number of a channel, and what stops it, in the forms that code answers.
+-- What a call finds under the number of a channel, and what stops it, in the forms that code
+-- answers.
 -- No promise rests on this.
 use Rattle.std.specs.Prelude.{if◌then◌else◌, ℕ, not, Option, Some, None, List, [], ◌∷◌, nat_lt, slice_index_or}
 use Rattle.its_word.specs.Core.{Core, can_store}

@@ -34,8 +34,8 @@ abbrev pub HasRoom : Machine → Chan → Type 0
 HasRoom m (Writes f) = is_full m.files (channels_of m) f.words ≡ false
 HasRoom m _ = ⊥
 
--- a channel is on a draft that can become a file: in place of one that no channel reads, or of none if there are
--- fewer files than the most
+-- a channel is on a draft that can become a file: in place of one that no channel reads, or of none
+-- if there are fewer files than the most
 abbrev pub CanClose : Machine → Chan → Type 0
 CanClose m (Writes f) = Unread m f.names × ((has_file f.names m.files || nat_lt (length m.files) most_files) ≡ true)
 CanClose m _ = ⊥
@@ -65,10 +65,11 @@ pub record Maps (m : Machine) (s k : ℕ) : Type 0 where
   pub absent : page_of (core_of (m.jobs s)) k ≡ None
   pub room : mapped m < most_pages
 
--- a change of slot j's call is possible: channels, consoles and links are numbers that exist; a byte that is put out, a
--- word that is appended and one that is sent have room; files are ones that exist, and that no channel reads if they
--- change; a job is made in the least empty slot; one that is removed is neither the caller nor above it; a page exists, or
--- is possible; and an end of a link is opened at a closed channel, and closed with the channel that is on it
+-- a change of slot j's call is possible: channels, consoles and links are numbers that exist; a
+-- byte that is put out, a word that is appended and one that is sent have room; files are ones that
+-- exist, and that no channel reads if they change; a job is made in the least empty slot; one that
+-- is removed is neither the caller nor above it; a page exists, or is possible; and an end of a
+-- link is opened at a closed channel, and closed with the channel that is on it
 abbrev pub CanMake : Change → ℕ → Machine → Type 0
 CanMake (changes.Open n on) j m = (n < 16) × HasJob m j × (chan_in m j n ≡ Shut) × CanOpen on m
 CanMake (changes.Shut n) j m = n < 16

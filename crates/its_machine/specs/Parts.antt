@@ -13,8 +13,8 @@ use Rattle.its_files.specs.Files.{Store, names_at, file_at, directory}
 use Rattle.its_pipes.specs.Pipes.{Piping, piped}
 use Rattle.its_plain.specs.Machine.{Symbol, Chan, Shut, TtyIn, TtyOut, Reads, Writes, On, Linked, Whole, Machine}
 
--- what a channel of the plain machine is on, with the names and words of files and drafts. (Their numbers are the monitor's own, and
--- never reach the machine)
+-- what a channel of the plain machine is on, with the names and words of files and drafts. (Their
+-- numbers are the monitor's own, and never reach the machine)
 abbrev pub chan_of : Store → Channel → Chan
 chan_of s channels.Closed = Shut
 chan_of s channels.TtyIn = TtyIn

@@ -18,8 +18,8 @@ pub fn with_alr(job: Job) -> Job
     }
 }
 
-/// The next time of an alarm with this period and next time that goes at a clock: it gains the least multiple of the period
-/// that brings it above the clock.
+/// The next time of an alarm with this period and next time that goes at a clock: it gains the
+/// least multiple of the period that brings it above the clock.
 #[tactic(auto, using(crate::proofs::TimeLaws::next_time, crate::proofs::TimeLaws::next_fits))]
 pub fn time_after(period: u64, next: u64, clock: u64) -> u64
     requires some { 1 ≤ period }

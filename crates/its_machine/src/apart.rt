@@ -1,4 +1,5 @@
-//! Whether words of a call are apart from each other and from those that it reads, by one look at all of these.
+//! Whether words of a call are apart from each other and from those that it reads, by one look at
+//! all of these.
 ghost use Rattle.std.specs.Prelude.{◌≡◌, ◌||◌, true, false, not};
 ghost use Rattle.std.specs.List.{list_any};
 ghost use Rattle.its_plain.specs.CallBasic.{shared_place};
@@ -7,8 +8,9 @@ ghost use Rattle.its_machine.specs.Apart.{are_apart, are_places_apart, are_unlik
 
 use its_records::Ask;
 
-/// Whether the words of two arguments and a third word are seen to be apart: the two have words of their own, and the third one is none that
-/// the call reads. It is false too for a call with more than three words of arguments, at which this does not look.
+/// Whether the words of two arguments and a third word are seen to be apart: the two have words of
+/// their own, and the third one is none that the call reads. It is false too for a call with more
+/// than three words of arguments, at which this does not look.
 #[inline(always)]
 pub fn are_apart(ask: &Ask, p: Option<u32>, k: Option<u32>, n: u32) -> bool
     ensures value { result ≡ are_apart ask.now p k n }
@@ -21,7 +23,8 @@ pub fn are_apart(ask: &Ask, p: Option<u32>, k: Option<u32>, n: u32) -> bool
     }
 }
 
-/// The same of the places of the words.
+/// Whether two places are apart and a third one is none that the call reads; false if the call has
+/// more than three words of arguments.
 #[inline(always)]
 #[tactic(auto, using(crate::proofs::ApartLaws::unshared, crate::proofs::ApartLaws::unread))]
 fn are_places_apart(ask: &Ask, p: u32, k: u32, n: u32) -> bool
@@ -32,7 +35,8 @@ fn are_places_apart(ask: &Ask, p: u32, k: u32, n: u32) -> bool
     are_unlike(&ask.operand, n) && is_none_of(&ask.decode, p, k, n)
 }
 
-/// Whether three places are none of some. Six is the number of the decode words of SIOT if no address is indirect.
+/// Whether three places are none of some. Six is the number of the decode words of SIOT if no
+/// address is indirect.
 #[inline(always)]
 fn is_none_of(places: &[u32], p: u32, k: u32, n: u32) -> bool
     ensures { result ≡ not (list_any (is_met p k n) places.now) }

@@ -48,8 +48,8 @@ fn number_or_ones(number: Option<u8>) -> Word
     }
 }
 
-/// The value of a variable of the job of a slot, which says that its slot is `index`. What its channels are on and its alarm do not
-/// matter.
+/// The value of a variable of the job of a slot, which says that its slot is `index`. What its
+/// channels are on and its alarm do not matter.
 #[tactic(auto, unfolding(its_plain::specs::Own::variable_of))]
 pub fn variable_of(
     core: &Core,

@@ -47,7 +47,8 @@ fn left(jobs: &Jobs, root: Slot, channel: Channel) -> Channel
     }
 }
 
-/// Passes the consoles that jobs of a tree hold to the superior of the root, or to nobody if it has none.
+/// Passes the consoles that jobs of a tree hold to the superior of the root, or to nobody if it has
+/// none.
 #[tactic(auto, using(crate::proofs::TurningLaws::turning_start, crate::proofs::TurningLaws::turning_more, crate::proofs::TurningLaws::turning_end))]
 pub fn pass_on(jobs: &Jobs, root: Slot, holders: &mut [Option<u8>])
     ensures { (c : ℕ) → slice_index_or holders.new c None ≡ holder_after_removal (in_tree (superior_at jobs.now) root) (superior_at jobs.now root) (slice_index_or holders.old c None) }

@@ -11,8 +11,9 @@ use std::marker::Model;
 /// How many symbols a job has at most.
 pub const MOST_SYMBOLS: usize = 512;
 
-/// The symbols of a job, each with its address, in the order in which they were given. The memory for all of them is taken at the
-/// opening; a symbol is first written when it is given. Contracts see what they would see of an array vector.
+/// The symbols of a job, each with its address, in the order in which they were given. The memory
+/// for all of them is taken at the opening; a symbol is first written when it is given. Contracts
+/// see what they would see of an array vector.
 #[derive(Drop)]
 pub struct SymbolTable {
     symbols: Vec<(Word, u32)>,
@@ -70,7 +71,8 @@ impl SymbolTable {
     }
 }
 
-/// The symbol of the greatest address at most a PC, of those with one address the last, and how far the PC is past it.
+/// The symbol of the greatest address at most a PC, of those with one address the last, and how far
+/// the PC is past it.
 #[tactic(auto, using(crate::proofs::SymbolLaws::near_start, crate::proofs::SymbolLaws::near_next, crate::proofs::SymbolLaws::near_some, crate::proofs::SymbolLaws::near_none))]
 pub fn nearest(symbols: &[(Word, u32)], pc: u32) -> Option<(Word, u32)>
     ensures { result ≡ symbol_shown pc symbols.now }

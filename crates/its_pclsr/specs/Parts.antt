@@ -16,7 +16,8 @@ pub record NextMade (old new : World) : Type 0 where
   pub symbols : new.symbols ≡ old.symbols
   pub pipes : new.pipes ≡ old.pipes
 
--- the call of slot s has ended; o is the first of its pending steps that is still due, and these are the rest
+-- the call of slot s has ended; o is the first of its pending steps that is still due, and these
+-- are the rest
 pub record Taken (old new : World) (s : ℕ) (o : Owed) : Type 0 where
   pub site : Site
   pub ask : Ask

@@ -1,3 +1,5 @@
+//! One step of unwinding, and all steps of a job.
+
 ghost use Rattle.std.specs.Prelude.{◌≡◌, ◌≢◌, ◌≤◌, ◌+◌, ◌∷◌, [], ℕ, true, Some, None, is_some, IfSome, option_map};
 ghost use Rattle.its_core.specs.Cores.{core_at, clear_at};
 ghost use Rattle.its_jobs.specs.Table.{job_at};
@@ -26,8 +28,8 @@ use its_records::{Ask, Exit, Job, Owed};
 use its_word::{ADDRESSES, Slot, Store, Word};
 use its_world::World;
 
-/// One step of unwinding of a slot's job, which is inside a call: at most one word of core, one page's
-/// place, one part of a close or the registers change, and the plain machine does not.
+/// One step of unwinding of a slot's job, which is inside a call: at most one word of core, one
+/// page's place, one part of a close or the registers change, and the plain machine does not.
 #[tactic(auto, using(crate::proofs::UnwindingLaws::one_fewer, crate::proofs::UnwindingLaws::one_changes, crate::proofs::UnwindingLaws::one_same, crate::proofs::UnwindingLaws::unwind_keeps, crate::proofs::UnwindingLaws::one_pages))]
 pub fn unwind_one(w: &mut World, slot: Slot)
     requires frame { is_some (call_in w.old slot) ≡ true }
@@ -127,7 +129,8 @@ fn pay(w: &mut World, slot: Slot, store: Store, next: Next)
     w.go_to(slot, next);
 }
 
-/// A store is performed for a call, which then holds no page, and of which this many arguments are pending.
+/// A store is performed for a call, which then holds no page, and of which this many arguments are
+/// pending.
 fn pay_held(w: &mut World, slot: Slot, store: Store, owes: u8)
     requires job { is_some (job_at w.old.jobs slot) ≡ true }
     requires request { is_some (request_in (call_in w.old slot)) ≡ true }
@@ -263,10 +266,11 @@ fn left_with(job: Job, e: &Exit) -> Job
     }
 }
 
-/// A slot's job unwound to user mode, in at most four steps. The plain machine and every other slot stay as
-/// they are. The job is left with what its frame says (`seen`): before the call is tried as it was, with PC
-/// at the call (unstarted); then with the words of its last arguments stored, so that the call does the rest
-/// when it is made again; once the call has ended with all of it done (finished).
+/// A slot's job unwound to user mode, in at most four steps. The plain machine and every other slot
+/// stay as they are. The job is left with what its frame says (`seen`): before the call is tried as
+/// it was, with PC at the call (unstarted); then with the words of its last arguments stored, so
+/// that the call does the rest when it is made again; once the call has ended with all of it done
+/// (finished).
 #[tactic(auto, using(crate::proofs::UnwindingLaws::all_same, crate::proofs::UnwindingLaws::all_keeps, crate::proofs::UnwindingLaws::all_none, crate::proofs::UnwindingLaws::all_others, crate::proofs::UnwindingLaws::all_few, crate::proofs::UnwindingLaws::all_left, crate::proofs::UnwindingLaws::all_pages))]
 pub fn unwind(w: &mut World, slot: Slot)
     requires sound { Sound (state_of w.old) }

@@ -1,4 +1,5 @@
--- What contracts see of the links between jobs: for each number a link, if it has one, and the queue of its words.
+-- What contracts see of the links between jobs: for each number a link, if it has one, and the
+-- queue of its words.
 -- No promise rests on this.
 use Rattle.std.specs.Prelude.{◌≡◌, ◌≤◌, ℕ, Option, Some, None, List, [], length, slice_index_or}
 use Rattle.circular_buffer.specs.Buffer.{Buffer, buffer}
@@ -32,7 +33,8 @@ pipe_by None ws = None
 abbrev pub piped : Piping → ℕ → Option Pipe
 piped p l = pipe_by (link_in p l) (queue_at p.queues l).items
 
--- a number without a link has no words, and each queue has room for all that a link can hold, and no more
+-- a number without a link has no words, and each queue has room for all that a link can hold, and
+-- no more
 pub record IsPipes (links : List (Option Link)) (queues : List (Buffer ℕ)) : Type 0 where
   pub dry : (l : ℕ) → link_at links l ≡ None → (queue_at queues l).items ≡ []
   pub room : (l : ℕ) → (queue_at queues l).capacity ≡ most_linked

@@ -16,8 +16,9 @@ use its_word::{NoMemory, Slot, Word};
 use std::alloc::Global;
 use std::marker::Model;
 
-/// The links by number, and for each number the words that were sent through its link and not received, in the order in
-/// which they came. Contracts see both as lists, and `piped` as the link and the words of a number, if it has a link.
+/// The links by number, and for each number the words that were sent through its link and not
+/// received, in the order in which they came. Contracts see both as lists, and `piped` as the link
+/// and the words of a number, if it has a link.
 #[derive(Drop)]
 pub struct Pipes {
     links: [Option<Link>; 16],
@@ -152,8 +153,8 @@ impl Pipes {
         self.link(l).is_some()
     }
 
-    /// Opens the writing end or the reading end of a link at a slot and channel. If the number has no link, one is made with
-    /// these names.
+    /// Opens the writing end or the reading end of a link at a slot and channel. If the number has
+    /// no link, one is made with these names.
     pub fn join(&mut self, l: u8, write: bool, slot: u8, channel: u8, x: Word, y: Word)
         requires { l < most_links }
         ensures { Only (piped self.old) (piped self.new) l (Some (with_end_opened write slot channel (link_or_new x y (piped self.old l)))) }
@@ -162,7 +163,8 @@ impl Pipes {
         self.put_link(l, with_end(link, write, End::Opened { slot, channel }));
     }
 
-    /// Closes an end of a link, if the number has one. A link without an open end is gone with its words.
+    /// Closes an end of a link, if the number has one. A link without an open end is gone with its
+    /// words.
     pub fn part(&mut self, l: u8, write: bool)
         requires { l < most_links }
         ensures { Only (piped self.old) (piped self.new) l (after_end_close write (piped self.old l)) }
@@ -172,7 +174,8 @@ impl Pipes {
         }
     }
 
-    /// Writes the link of a number, if one of its ends is open; else the number has no link any more, and no words.
+    /// Writes the link of a number, if one of its ends is open; else the number has no link any
+    /// more, and no words.
     fn put_alive(&mut self, l: u8, link: Link)
         requires { l < most_links }
         ensures { Only (piped self.old) (piped self.new) l (if_alive (record { link = link; words = words_in (piped self.old l) })) }
@@ -220,8 +223,8 @@ impl Pipes {
         self.queues[usize::from(l)].pop_front()
     }
 
-    /// Does nothing: what is true of the links at any time. No number past the last has one, and none has more words than it
-    /// can hold.
+    /// Does nothing: what is true of the links at any time. No number past the last has one, and
+    /// none has more words than it can hold.
     #[tactic(auto, using(crate::proofs::PipeLaws::past_none, crate::proofs::PipeLaws::words_fit))]
     pub fn bounds(&self)
         ensures numbers { (l : ℕ) → most_links ≤ l → piped self.now l ≡ None }
@@ -230,7 +233,8 @@ impl Pipes {
         let _ = &self.links;
     }
 
-    /// Closes each end that is open at a job of a tree. A link that then has no open end is gone with its words.
+    /// Closes each end that is open at a job of a tree. A link that then has no open end is gone
+    /// with its words.
     #[tactic(auto, using(crate::proofs::SweepLaws::sweep_start, crate::proofs::SweepLaws::sweep_next, crate::proofs::SweepLaws::sweep_end))]
     pub fn leave_links(&mut self, jobs: &Jobs, root: Slot)
         ensures { (l : ℕ) → piped self.new l ≡ ends_after_removal (in_tree (superior_at jobs.now) root) (piped self.old l) }
@@ -241,7 +245,7 @@ impl Pipes {
         }
     }
 
-    /// The same of one link.
+    /// Closes the ends of one link that are open at a job of the tree.
     fn leave_link(&mut self, jobs: &Jobs, root: Slot, l: u8)
         requires { l < most_links }
         ensures { Only (piped self.old) (piped self.new) l (ends_after_removal (in_tree (superior_at jobs.now) root) (piped self.old l)) }

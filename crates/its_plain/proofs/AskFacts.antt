@@ -1,4 +1,5 @@
--- What is known of a call that is decoded: the places of its arguments, and how many arguments it has.
+-- What is known of a call that is decoded: the places of its arguments, and how many arguments it
+-- has.
 use Rattle.std.proofs.Common.{if◌then◌else◌, ◌≡◌, ◌<◌, ◌≤◌, ◌^◌, ◌||◌, ℕ, Bool, true, false, List, [], ◌∷◌, ◌++◌, length, Option, Some, None, Ok, refl, sym, ◌∙◌, ap, subst, is_some, nat_lt, slice_get, unwrap_or, arith}
 use Rattle.std.specs.List.{All, cons_option, filter_map}
 use Rattle.std.specs.Option.{IfSome}
@@ -90,7 +91,7 @@ argument_fine c w used x u h =
     let e : record { argument = a.value; used = f.value.used } ≡ x = let l = a.last in cc in
     subst (FinePlaced c) e (record { fine = argument_at_fine (kind_of w) c f.value.at.e a.value g.below a.first; most = g.most })
 
--- the same of all arguments
+-- a predicate of each item of a list
 abbrev Each : {X : Type 0} → (X → Type 0) → List X → Type 0
 Each P [] = Unit {0}
 Each P (x ∷ xs) = P x × Each P xs
@@ -167,7 +168,8 @@ error_few (Some r) i n b = go (nat_lt i r.least_in || nat_lt n r.least_out) (nat
     go false true = omega arith
     go false false = omega arith
 
--- the arguments of a call that is decoded: an input has the value of its word, and an output or error address of a block allows a store
+-- the arguments of a call that is decoded: an input has the value of its word, and an output or
+-- error address of a block allows a store
 pub record AskFits (c : Core) (s : Site) (k : Ask) : Type 0 where
   pub inputs : All (HasWord c) k.inputs.items
   pub outputs : s.channel ≡ None → All (Storable c) k.outputs.items

@@ -1,4 +1,5 @@
--- What a call asks for depends on its decode words, on its operand words, and on what its arguments test.
+-- What a call asks for depends on its decode words, on its operand words, and on what its arguments
+-- test.
 use Rattle.std.proofs.Common.{◌≡◌, ℕ, List, [], ◌∷◌, ◌++◌, length, Option, Some, None, Result, Ok, Err, refl, sym, ◌∙◌, ap, subst, slice_get, unwrap_or, arith}
 use Rattle.std.specs.List.{Contains, filter_map}
 use Rattle.std.proofs.lemmas.List.Elements.{Contains-append_right}
@@ -131,7 +132,8 @@ ask_same_block a b s k n d g w =
     ∙ ap (λ t. Ok (ask_of b (s.decode.items ++ t.reads) d.shape)) e
     ∙ ap Ok (ask_of_same a b (s.decode.items ++ (shaped a s).reads) d.shape (subst (λ ps. Words ps a b) o w) ∙ sym d.asks)
 
--- a call asks for the same in two cores that agree in its decode words, in its operand words and in what is tested
+-- a call asks for the same in two cores that agree in its decode words, in its operand words and in
+-- what is tested
 pub ask_same : (a b : Core) (s : Site) (k : Ask) → ask a s ≡ Ok k → Agree k.decode.items (shaped a s).tests a b → Words k.operand.items a b → ask b s ≡ Ok k
 ask_same a b s k e g w = go s.channel refl
   where

@@ -1,5 +1,5 @@
--- What the lines of a session leave of the plain machine: names, superiors and channels, and how consoles and
--- their holders change. What holds of these alone is kept by every line.
+-- What the lines of a session leave of the plain machine: names, superiors and channels, and how
+-- consoles and their holders change. What holds of these alone is kept by every line.
 use Rattle.std.specs.Prelude.{◌≡◌, ◌≢◌, ◌<◌, ◌≤◌, ◌⊎◌, ℕ, ◌+◌, Bool, true, false, Option, Some, None, List, [], ◌∷◌, ◌++◌, Result, Ok, Err, option_map, is_some, nat_lt, length, take, drop, refl}
 use Rattle.std.proofs.Common.{sym, ◌∙◌, ap, subst, inl, inr, arith}
 use Rattle.std.proofs.lemmas.Bool.{cases_Bool, cases_eq, eq-eqb, ne_eqb, ltb-true}
@@ -49,12 +49,14 @@ pub data ConsoleKept (x y : Console) : Type 0 where
   Gains : (bytes : List ℕ) → y ≡ record x { input = take most_waiting (x.input ++ bytes) } → ConsoleKept x y
   Loses : (n : ℕ) → y ≡ record x { output = drop n x.output } → ConsoleKept x y
 
--- the holder of a console is as it was; or the job that LOAD made with this console holds it, which nobody held
+-- the holder of a console is as it was; or the job that LOAD made with this console holds it, which
+-- nobody held
 pub data HolderKept (m n : Machine) (c : ℕ) : Type 0 where
   Keeps : n.holders c ≡ m.holders c → HolderKept m n c
   Takes : (s u j : ℕ) → m.holders c ≡ None → m.jobs s ≡ None → n.jobs s ≡ Some (new_job u j (Some c)) → n.holders c ≡ Some s → HolderKept m n c
 
--- the clock is as it was, and each job that stays has its alarm; or CLOCK made the alarms go that were due
+-- the clock is as it was, and each job that stays has its alarm; or CLOCK made the alarms go that
+-- were due
 pub data AlarmsKept (m n : Machine) : Type 0 where
   Same : n.clock ≡ m.clock → ((k : ℕ) → (alarm_in (n.jobs k) ≡ alarm_in (m.jobs k)) ⊎ (alarm_in (n.jobs k) ≡ None)) → AlarmsKept m n
   Went : (c : ℕ) → m.clock ≤ c → n ≡ at_clock c m → AlarmsKept m n
@@ -80,7 +82,7 @@ LineKeepsBy m (Done (Ticks s k)) = Unit {0}
 LineKeepsBy m (Done Quits) = Unit {0}
 LineKeepsBy m (Peeks s) = Unit {0}
 
--- the same, except for words and registers
+-- two machines that differ in words and registers alone
 pub record Alike (m n : Machine) : Type 0 where
   pub slots : (k : ℕ) → option_map face (n.jobs k) ≡ option_map face (m.jobs k)
   pub alarms : (k : ℕ) → alarm_in (n.jobs k) ≡ alarm_in (m.jobs k)

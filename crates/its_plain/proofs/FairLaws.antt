@@ -1,5 +1,5 @@
--- The turns of a RUN are fair: any slot that runs on is nearer than the slot that has just had its turn, and becomes
--- nearer with each turn of another slot.
+-- The turns of a RUN are fair: any slot that runs on is nearer than the slot that has just had its
+-- turn, and becomes nearer with each turn of another slot.
 use Rattle.std.specs.Prelude.{◌≡◌, ◌≢◌, ◌<◌, ◌≤◌, ◌==◌, ℕ, zero, suc, Bool, true, false, Option, Some, None, List, [], ◌∷◌, ◌++◌, length, drop, refl}
 use Rattle.std.proofs.Common.{sym, ◌∙◌, ap, subst, arith, inl, inr, append-nil}
 use Rattle.std.proofs.lemmas.Bool.{cases_eq, cases_order, eq-eqb, ne_eqb}
@@ -85,7 +85,8 @@ behind : (before ts : List Turn) (last : ℕ) → last < slots → From last (be
 behind [] ts last l f = record { last = last; within = l; from = f }
 behind (t ∷ before) ts last l f = let x = first last t (before ++ ts) l f in behind before ts t.slot x.nearest.within x.more
 
--- slot k runs on and is nearer than slot s, which has a turn after these: slot k has one of these turns
+-- slot k runs on and is nearer than slot s, which has a turn after these: slot k has one of these
+-- turns
 has_one : (between_ after : List Turn) (z : Turn) (last k s : ℕ) → last < slots → k < slots → s < slots → z.slot ≡ s → between slots last k < between slots last s
     → From last (between_ ++ z ∷ after) → RunsAt k (between_ ++ z ∷ []) → has_turn k between_ ≡ true
 has_one [] after z last k s l lk ls e h f r =

@@ -71,7 +71,7 @@ calculation_reaches (suc n) c w last a h e = elim (cases_Bool (is_indirect w)) [
         let x = ap (λ r. r.answer) (sym d) ∙ e in
         cc
 
--- the same, if so much of the budget is used already
+-- an address that is found if so much of the budget is used already
 pub record Finds (t : Traced Located) (f : Located) (used : ℕ) : Type 0 where
   pub below : f.at.e < 2 ^ 18
   pub more : used ≤ f.used

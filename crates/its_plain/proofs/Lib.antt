@@ -11,7 +11,6 @@ pub mod FairLaws
 pub mod TargetLaws
 pub mod BarredLaws
 pub mod WhoRunsLaws
-pub mod PartsLaws
 pub mod Locality
 pub mod DecodeLocality
 pub mod SiteLaws

@@ -1,5 +1,5 @@
--- Worked examples of the decoding, evaluated: sites of calls, blocks that are as they should be, and each way in which
--- a block is not. Numbers are octal if they begin with 0o.
+-- Worked examples of the decoding, evaluated: sites of calls, blocks that are as they should be,
+-- and each way in which a block is not. Numbers are octal if they begin with 0o.
 use Rattle.std.specs.Prelude.{◌≡◌, ℕ, ◌-◌, true, false, Bool, List, [], ◌∷◌, ◌++◌, length, replicate, Option, Some, None, Result, Ok, Err, refl, codes}
 use Rattle.its_word.specs.Address.{calculation, index_places, indexed, last_used}
 use Rattle.its_word.specs.Core.{Core, Page, can_store, page_of, word_at}
@@ -25,7 +25,8 @@ with_words before a words = before ++ replicate (a - length before) 0 ++ words
 abbrev page : Bool → List ℕ → Option Page
 page writable words = Some (record { words = words; writable = writable })
 
--- a core with accumulators of 0, these words in page 0, and words 2000 and 2001 in page 1, which is read only
+-- a core with accumulators of 0, these words in page 0, and words 2000 and 2001 in page 1, which is
+-- read only
 abbrev core_of : List ℕ → Core
 core_of words = record { accs = replicate 16 0; pages = page true words ∷ page false (7 ∷ 7 ∷ []) ∷ [] }
 
@@ -47,7 +48,8 @@ job_at pc = record {
   channels = replicate 16 Closed;
 }
 
--- the image of a job that types: an sixbit Open at 100, a sixbit Siot at 102 with its block at 130 and its pointer and count at 200
+-- the image of a job that types: an sixbit Open at 100, a sixbit Siot at 102 with its block at 130
+-- and its pointer and count at 200
 abbrev siot_core : Core
 siot_core =
     core_of
@@ -83,8 +85,8 @@ siot_decoded : ask siot_core siot_site ≡ Ok (record {
 unfolding ask shaped parsed block_at argument_words also word read_of word_at page_of is_legal arguments argument located calculation index_places indexed last_used kind_of argument_at held storable can_store ask_of row_named call_named sixbit error_by exceeds
 siot_decoded = refl
 
--- 100 is XCT @101(1), 101 has 200, and 200 is `.sixbit Iot 4,0(1)` with accumulator 1 = 0: the words are read in this
--- order
+-- 100 is XCT @101(1), 101 has 200, and 200 is `.sixbit Iot 4,0(1)` with accumulator 1 = 0: the
+-- words are read in this order
 abbrev iot_site : Site
 iot_site = record {
   pc = 0o100;
@@ -136,8 +138,9 @@ block_told block =
 abbrev tells : ℕ → Option ℕ → Option ℕ → Result Told Fault
 tells fail error control = Ok (record { fail = fail; error = error; control = control })
 
--- blocks with an error: in turn no such call, also if a block names sixbit Iot; too few inputs, too few outputs; too
--- many inputs, too many outputs, two error addresses, two controls, no end within 8 words
+-- blocks with an error: in turn no such call, also if a block names sixbit Iot; too few inputs, too
+-- few outputs; too many inputs, too many outputs, two error addresses, two controls, no end within
+-- 8 words
 errors_told :
     (block_told (0o400000000000 ∷ 0o414141000000 ∷ 0o403000000120 ∷ []) ≡ tells 1 (Some 0o120) None)
     × (block_told (0o400000000000 ∷ sixbit Iot ∷ 0o401000000004 ∷ []) ≡ tells 1 None None)
@@ -154,9 +157,10 @@ errors_told :
 unfolding ask shaped parsed block_at argument_words also word read_of word_at page_of is_legal arguments argument located calculation index_places indexed last_used kind_of argument_at held storable can_store ask_of row_named call_named sixbit error_by exceeds
 errors_told = (refl, refl, refl, refl, refl, refl, refl, refl, refl, refl)
 
--- blocks with a fault: bit 0 of the first word off; type 6; type 6 in the last word, after an argument that would
--- fault; a word of the block absent; an input absent; an output that is read only; an error address absent; a second
--- error address that is read only; an argument that is an indirect word of itself
+-- blocks with a fault: bit 0 of the first word off; type 6; type 6 in the last word, after an
+-- argument that would fault; a word of the block absent; an input absent; an output that is read
+-- only; an error address absent; a second error address that is read only; an argument that is an
+-- indirect word of itself
 faults_told :
     (block_told (0o000000000000 ∷ sixbit Close ∷ 0o401000000001 ∷ []) ≡ Err Ilo)
     × (block_told (0o400000000000 ∷ sixbit Close ∷ 0o406000000001 ∷ []) ≡ Err Ilo)

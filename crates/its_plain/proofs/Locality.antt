@@ -1,5 +1,5 @@
--- Locality: what a part of a decoding gives depends on the words that it reads, and on whether the words that it tests are
--- there and can be stored, and on nothing else of core.
+-- Locality: what a part of a decoding gives depends on the words that it reads, and on whether the
+-- words that it tests are there and can be stored, and on nothing else of core.
 use Rattle.std.proofs.Common.{◌≡◌, ℕ, zero, suc, ◌+◌, ◌%◌, ◌^◌, ◌==◌, true, false, List, [], ◌∷◌, ◌++◌, Option, Some, None, Result, Ok, Err, refl, sym, ◌∙◌, ap, subst, inl, inr, is_some, ok_or, unwrap_or, arith}
 use Rattle.std.specs.List.{Contains}
 use Rattle.std.proofs.lemmas.Bool.{cases_Bool}

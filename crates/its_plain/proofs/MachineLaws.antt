@@ -17,6 +17,6 @@ machine_is m n jobs consoles holders files clock version symbols links = λ t. r
   links = λ k. links k t;
 }
 
--- the same if all but their jobs is alike
+-- two machines are one if their jobs are, and all but their jobs is alike
 pub jobs_are : (m n : Machine) → ((k : ℕ) → m.jobs k ≡ n.jobs k) → m ≡ record n { jobs = m.jobs } → m ≡ n
 jobs_are m n jobs rest = rest ∙ (λ t. record n { jobs = λ k. jobs k t })

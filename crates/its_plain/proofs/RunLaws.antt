@@ -1,5 +1,6 @@
--- A transcript as a walk that takes the rest of the session as a continuation: a form for proofs, which says the same
--- as the rules of `Transcript`, both ways. It computes by the events, the letters, the turns and the result of a line.
+-- A transcript as a walk that takes the rest of the session as a continuation: a form for proofs,
+-- which says the same as the rules of `Transcript`, both ways. It computes by the events, the
+-- letters, the turns and the result of a line.
 use Rattle.std.specs.Prelude.{◌≡◌, ◌<◌, ℕ, zero, suc, Option, Some, None, List, [], ◌∷◌, ◌++◌, length, refl}
 use Rattle.std.proofs.Common.{sym, subst}
 use Rattle.its_records.specs.Item.{Item, Read, Unread, Beyond}

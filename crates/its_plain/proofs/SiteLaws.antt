@@ -79,7 +79,8 @@ pub never_planned : (c : Core) (j : Job) (p : Planned) (s : Site) → outcome_of
 never_planned c j (Ok p) s e = never_made c j p (first_fault c p.stores.items) s e
 never_planned c j (Err f) s e = cc
 
--- the decode words of a site are the words that were read, and except for these core is not looked at
+-- the decode words of a site are the words that were read, and except for these core is not looked
+-- at
 done_alike : (a b : Core) (j : Job) (reads : List ℕ) (x : Context) (i : Instruction) (s : Site) → done_by a j reads x i ≡ Called s
     → (done_by b j reads x i ≡ Called s) × (s.decode.items ≡ reads)
 unfolding done_by

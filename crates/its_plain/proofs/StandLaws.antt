@@ -1,5 +1,5 @@
--- What a store leaves of a call that is still there. At the word of an input that is no other word of the call it
--- renews the value of that input; outside the footprint it leaves the call as it is.
+-- What a store leaves of a call that is still there. At the word of an input that is no other word
+-- of the call it renews the value of that input; outside the footprint it leaves the call as it is.
 use Rattle.std.proofs.Common.{◌≡◌, ◌≢◌, ◌<◌, ◌≤◌, ◌+◌, ◌==◌, ℕ, zero, suc, cond, Bool, true, false, List, [], ◌∷◌, ◌++◌, length, map, Option, Some, None, Ok, refl, sym, ◌∙◌, ap, inl, inr, slice_index_or, unwrap_or, arith}
 use Rattle.std.specs.List.{Contains, count_by, filter_map}
 use Rattle.std.proofs.lemmas.Bool.{cases_Bool, eqb-true, eq-eqb}

@@ -1,4 +1,5 @@
--- A step by its cases: what holds of each case holds of every step; and the step of a job whose case is known.
+-- A step by its cases: what holds of each case holds of every step; and the step of a job whose
+-- case is known.
 use Rattle.std.specs.Prelude.{◌≡◌, ℕ, Bool, true, false, Option, Some, None, Result, Ok, Err, option_map, refl}
 use Rattle.std.proofs.Common.{◌∙◌, ap, subst}
 use Rattle.std.proofs.lemmas.Option.{same_Some}

@@ -1,4 +1,5 @@
--- Worked examples of the rules of a transcript: sessions with lines that are one, and with a line that is none.
+-- Worked examples of the rules of a transcript: sessions with lines that are one, and with a line
+-- that is none.
 use Rattle.std.specs.Prelude.{◌≡◌, List, [], ◌∷◌, refl}
 use Rattle.std.proofs.Common.{sym, ap, subst}
 use Rattle.its_records.specs.Item.{Read}

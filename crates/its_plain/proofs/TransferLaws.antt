@@ -1,4 +1,5 @@
--- The stores of a transfer and of SLEEP: the call is still there after them, with the new values of its inputs.
+-- The stores of a transfer and of SLEEP: the call is still there after them, with the new values of
+-- its inputs.
 use Rattle.std.proofs.Common.{◌≡◌, ◌≤◌, ◌+◌, ◌==◌, ◌||◌, ℕ, cond, Bool, true, false, List, [], ◌∷◌, ◌++◌, map, Option, Some, None, Ok, refl, ◌∙◌, ap, subst, nat_lt, arith}
 use Rattle.std.proofs.lemmas.Bool.{eq-eqb}
 use Rattle.std.proofs.lemmas.Bool.Decides.{nat_tests}
@@ -85,7 +86,8 @@ renew_none p v (x ∷ xs) h =
     let n = not_at p x xs h in
     ap (λ y. y ∷ map (renew p v) xs) (renew_other p v x n.0) ∙ ap (λ ys. x ∷ ys) (renew_none p v xs n.1)
 
--- a store at the word of a variable, when it is the word of one operand alone: that variable has the new value
+-- a store at the word of a variable, when it is the word of one operand alone: that variable has
+-- the new value
 pub stands_renewed : (c : Core) (j : Job) (s : Site) (k : Ask) (front : List Operand) (old p new : ℕ) (back : List Operand)
     → Stands c j s k → can_store c p ≡ true → Once p k → k.inputs.items ≡ front ++ variable old p ∷ back
     → Stands (store c p new) j s (with_inputs k (front ++ variable new p ∷ back))

@@ -136,7 +136,7 @@ unit_kept : (c : Core) (j : Job) → IsKept c j (unit c j)
 unfolding unit
 unit_kept c j = outcome_kept c j (reached c j).reads (reached c j).answer
 
--- a unit keeps pages, their marks, and the registers that are no part of it; PC has 18 bits, and the
--- flags are named ones
+-- a unit keeps pages, their marks, and the registers that are no part of it; PC has 18 bits, and
+-- the flags are named ones
 pub unit_keeps : (c : Core) (j : Job) (d : Core) (k : Job) → unit c j ≡ Changed d k → Keeps c j d k
 unit_keeps c j d k e = subst (IsKept c j) e (unit_kept c j)

@@ -1,4 +1,5 @@
--- Whose turn it is: the jobs are asked one by one whether they run, and the first in the circle has it.
+-- Whose turn it is: the jobs are asked one by one whether they run, and the first in the circle has
+-- it.
 use Rattle.std.proofs.Common.{◌≡◌, ◌<◌, ◌+◌, ℕ, Bool, false, Option, Some, None, List, length, IfSome, sym, ap, ◌∙◌, inl, inr, arith, slice_index_or, slice_set}
 use Rattle.std.proofs.lemmas.Bool.{cases_eq}
 use Rattle.std.proofs.lemmas.List.{get_or-set_same, get_or-set_other, length-set}

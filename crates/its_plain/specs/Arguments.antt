@@ -24,8 +24,8 @@ place_of_input a k = place_in (slice_get a.inputs.items k)
 abbrev pub has_input : Ask → ℕ → Bool
 has_input a k = is_some (slice_get a.inputs.items k)
 
--- the values of the last inputs as stores at their places. While a call is in progress these words may
--- be stale in core
+-- the values of the last inputs as stores at their places. While a call is in progress these words
+-- may be stale in core
 abbrev pub store_of : Operand → List Store → List Store
 store_of o ss = stores_at o.place
   where

@@ -49,7 +49,8 @@ abbrev pub shared_place : Ask → Option ℕ → Bool
 shared_place a (Some p) = is_shared p a
 shared_place a None = true
 
--- SLEEP n. For n > 0 the word becomes minus the time of waking; for n < 0 the call waits for that time
+-- SLEEP n. For n > 0 the word becomes minus the time of waking; for n < 0 the call waits for that
+-- time
 abbrev pub sleep_tests : View → Ask → ℕ → Option ℕ → List Test
 sleep_tests v a n p =
     (n == 0) ⇒ finishes v [] []
@@ -63,7 +64,8 @@ sleep_tests v a n p =
 unfoldable pub sleep : View → Ask → Decision
 sleep v a = first (sleep_tests v a (input a 0) (place_of_input a 0)) (goes [] None (negated (v.clock + input a 0) ∷ []))
 
--- DISMIS p. PC, flags and deferrals come from the stack below the word at p; 5 is taken from each half of that word
+-- DISMIS p. PC, flags and deferrals come from the stack below the word at p; 5 is taken from each
+-- half of that word
 abbrev pub popped : ℕ → ℕ
 popped w = pair_of (left_of w + (2 ^ 18 - 5)) (right_of w + (2 ^ 18 - 5))
 
@@ -126,7 +128,8 @@ by_superior Upc = true
 by_superior Ustp = true
 by_superior x = by_oneself x
 
--- USRVAR job, name, optional new value: the output gets the value before, and then the new value is set
+-- USRVAR job, name, optional new value: the output gets the value before, and then the new value is
+-- set
 abbrev pub set_own : View → Ask → Variable → Bool → Decision
 set_own v a x true =
     Ends (record { items = [] }) (record { items = out a.outputs.items (variable_of v.slot v.own x) }) (exit_of (with_variable x (input a 2) (with_advance 2 v.own.job)))

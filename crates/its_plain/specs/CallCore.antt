@@ -15,8 +15,8 @@ use Rattle.its_plain.specs.Tests.{Test, ◌⇒◌, first, finishes, fails}
 use Rattle.its_plain.specs.CallBasic.{Party, Oneself, Nobody, Channel, party}
 use Rattle.its_plain.specs.CallUsr.{other_core}
 
--- CORBLK operation, job, page: operation 0 drops a page, 1 makes one of zeros, 2 makes it read only, 3 makes it
--- writable
+-- CORBLK operation, job, page: operation 0 drops a page, 1 makes one of zeros, 2 makes it read
+-- only, 3 makes it writable
 abbrev pub page_changed : ℕ → ℕ → ℕ → Change
 page_changed op s k =
     if op == 0 then changes.Unmap s k
@@ -30,7 +30,8 @@ highest_operation = 3
 abbrev pub highest_page : ℕ
 highest_page = 0o377
 
--- a page that is to be made must not be there, and any other must; and of all jobs together there are at most 1024
+-- a page that is to be made must not be there, and any other must; and of all jobs together there
+-- are at most 1024
 abbrev pub makes : ℕ → Bool
 makes op = op == 1
 

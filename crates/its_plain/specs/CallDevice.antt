@@ -1,4 +1,5 @@
--- The calls that devices share: OPEN by its device; CLOSE, `.IOT` and SIOT by what the channel is on (docs/CALLS.md).
+-- The calls that devices share: OPEN by its device; CLOSE, `.IOT` and SIOT by what the channel is
+-- on (docs/CALLS.md).
 -- A promise rests on this.
 use Rattle.std.specs.Prelude.{◌==◌, ℕ, Bool, true, false, [], ◌∷◌, slice_get, slice_index_or}
 use Rattle.its_records.specs.declared.calls.Ask.{Ask}
@@ -26,7 +27,8 @@ open_by v a false false false = opens v a
 unfoldable pub open_call : View → Ask → Decision
 open_call v a = open_by v a (input a 1 == disk_device) (input a 1 == usr_device) (input a 1 == link_device)
 
--- CLOSE: a draft becomes a file; an end of a link is closed with its channel; any other channel is closed alone
+-- CLOSE: a draft becomes a file; an end of a link is closed with its channel; any other channel is
+-- closed alone
 abbrev pub shuts : View → Ask → Decision
 shuts v a = finishes v (changes.Shut (input a 0) ∷ []) []
 

@@ -1,5 +1,5 @@
--- Calls on files and drafts: OPEN, CLOSE, `.IOT` and SIOT if their device is DSK; ACCESS, FILLEN, DELETE and RENAME
--- (docs/CALLS.md, "Files").
+-- Calls on files and drafts: OPEN, CLOSE, `.IOT` and SIOT if their device is DSK; ACCESS, FILLEN,
+-- DELETE and RENAME (docs/CALLS.md, "Files").
 -- A promise rests on this.
 use Rattle.std.specs.Prelude.{◌==◌, ◌&&◌, ℕ, ◌+◌, ◌-◌, ◌/◌, ◌%◌, Bool, true, false, not, Option, Some, None, List, [], ◌∷◌, ◌++◌, nat_lt, is_some, length, find, sum_by, slice_get, unwrap_or}
 use Rattle.std.specs.List.{list_any, range_with_len}
@@ -154,8 +154,8 @@ siot_write v a next k n f =
 abbrev pub siot_writes : View → Ask → ℕ → File → Decision
 siot_writes v a n f = siot_by v a true false (siot_write v a (next_pointer (input a 1)) (input a 2) n f)
 
--- ACCESS channel, position: the next word that a file gives, or that a channel on an inferior is at. An inferior has
--- words 0 to 777777
+-- ACCESS channel, position: the next word that a file gives, or that a channel on an inferior is
+-- at. An inferior has words 0 to 777777
 abbrev pub end_of_core : ℕ
 end_of_core = 0o1000000
 
@@ -182,8 +182,9 @@ fillen_on v a _ = fails v a error.WRONG_DEVICE
 unfoldable pub fillen : View → Ask → Decision
 fillen v a = fillen_on v a (channel_at v.own.channels (input a 0))
 
--- DELETE device, name 1, name 2, directory, and RENAME, which has a new name 1 and name 2 after them, of a file that
--- no channel reads. RENAME keeps the file's place; no file in its directory may have the new names
+-- DELETE device, name 1, name 2, directory, and RENAME, which has a new name 1 and name 2 after
+-- them, of a file that no channel reads. RENAME keeps the file's place; no file in its directory
+-- may have the new names
 abbrev pub file_tests : View → Ask → Names → List Test
 file_tests v a names =
     not (input a 0 == disk_device) ⇒ fails v a error.WRONG_DEVICE

@@ -25,7 +25,8 @@ use Rattle.its_plain.specs.Transfer.{iot_ends, store_tests, read_tests, word_of,
 abbrev pub link_device : ℕ
 link_device = 0o545653000000
 
--- the words in a link, and whether one of its ends is closed. (An end that nobody has opened yet is as one that is open)
+-- the words in a link, and whether one of its ends is closed. (An end that nobody has opened yet is
+-- as one that is open)
 abbrev pub words_in : Option Pipe → List ℕ
 words_in (Some p) = p.words
 words_in None = []
@@ -34,8 +35,8 @@ abbrev pub is_end_closed : Bool → Option Pipe → Bool
 is_end_closed write (Some p) = is_closed (link_end write p.link)
 is_end_closed write None = false
 
--- a link without a word can still get one, or is at its end; one with 64 words can still lose one; and one that is not
--- read any more takes none
+-- a link without a word can still get one, or is at its end; one with 64 words can still lose one;
+-- and one that is not read any more takes none
 abbrev pub is_dry : Option Pipe → Bool
 is_dry o = is_empty (words_in o) && not (is_end_closed true o)
 
@@ -48,8 +49,9 @@ is_crowded o = not (nat_lt (length (words_in o)) most_linked) && not (is_end_clo
 abbrev pub is_unread : Option Pipe → Bool
 is_unread o = is_end_closed false o
 
--- OPEN channel, LNK, name 1, name 2: the reading end, or with control 1 the writing end, of the link with these names,
--- which nobody has opened before. If there is no such link it is made, and has the least number that is free
+-- OPEN channel, LNK, name 1, name 2: the reading end, or with control 1 the writing end, of the
+-- link with these names, which nobody has opened before. If there is no such link it is made, and
+-- has the least number that is free
 abbrev pub has_link_names : ℕ → ℕ → Option Pipe → Bool
 has_link_names x y (Some p) = is_link_named x y p.link
 has_link_names x y None = false
@@ -88,7 +90,8 @@ opens_link v a =
 abbrev pub closes_end : View → Ask → ℕ → Bool → Decision
 closes_end v a l write = finishes v (changes.Part (input a 0) l write ∷ []) []
 
--- `.IOT` of the word at E: the first word of a link, or 777777000003 at its end; and a word that is sent
+-- `.IOT` of the word at E: the first word of a link, or 777777000003 at its end; and a word that is
+-- sent
 abbrev pub iot_receive : View → ℕ → ℕ → List ℕ → Decision
 iot_receive v e l (w ∷ ws) = iot_ends v (changes.Receive l ∷ []) (record { at = e; word = w } ∷ [])
 iot_receive v e l [] = iot_ends v [] (record { at = e; word = end_of_file } ∷ [])
@@ -106,8 +109,8 @@ abbrev pub iot_linked : View → ℕ → ℕ → Bool → Decision
 iot_linked v e l true = iot_sends v e l
 iot_linked v e l false = iot_receives v e l
 
--- SIOT of one word: the first word of a link, whose low bits go into the byte; or the byte, which becomes a word. Error 26
--- if the link is not read any more
+-- SIOT of one word: the first word of a link, whose low bits go into the byte; or the byte, which
+-- becomes a word. Error 26 if the link is not read any more
 abbrev pub first_word : View → ℕ → ℕ
 first_word v l = unwrap_or (slice_get (words_in (v.links l)) 0) 0
 

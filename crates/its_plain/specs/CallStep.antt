@@ -1,6 +1,7 @@
--- One step of one job that may call the monitor: the delivery of an interrupt if one is deliverable, else a unit,
--- else the whole effect of its call if its decoding faults or it is ready. One definition by cases says what it does:
--- the machine after it, the bytes that it moves, and the jobs that it disturbs.
+-- One step of one job that may call the monitor: the delivery of an interrupt if one is
+-- deliverable, else a unit, else the whole effect of its call if its decoding faults or it is
+-- ready. One definition by cases says what it does: the machine after it, the bytes that it moves,
+-- and the jobs that it disturbs.
 -- A promise rests on this.
 use Rattle.std.specs.Prelude.{◌&&◌, ℕ, Bool, true, false, not, Option, Some, None, List, [], ◌∷◌, length, Result, Ok, Err, is_some, option_map, unwrap_or}
 use Rattle.its_word.specs.Byte.{deposit_of}
@@ -38,8 +39,8 @@ with_held a None q = q
 abbrev pub after_moves : Ask → Option Held → List ℕ → Whole → Whole
 after_moves a h vs q = with_stores (debts (with_new_values a vs) (length vs)) (with_held (with_new_values a vs) h q)
 
--- what a step does: the machine after it; the bytes that it moves; the slots, other than its own, of the jobs that it
--- disturbs; and whether it is a part of a call that goes on
+-- what a step does: the machine after it; the bytes that it moves; the slots, other than its own,
+-- of the jobs that it disturbs; and whether it is a part of a call that goes on
 pub record Transition : Type 0 where
   pub machine : Machine
   pub moves : List Move
@@ -50,8 +51,8 @@ pub record Transition : Type 0 where
 abbrev pub quiet_step : Machine → Transition
 quiet_step n = record { machine = n; moves = []; disturbs = []; part = false }
 
--- the result of a decision, for a call that reaches the jobs of these slots: first its changes, then the stores into the own core, then
--- the registers. A call that waits has no step
+-- the result of a decision, for a call that reaches the jobs of these slots: first its changes,
+-- then the stores into the own core, then the registers. A call that waits has no step
 abbrev pub after_end : List Store → (Whole → Whole) → Whole → Whole
 after_end ss f q = f (with_stores ss q)
 
@@ -128,7 +129,8 @@ abbrev pub transition_of : Machine → ℕ → Option Whole → Option Transitio
 transition_of m j (Some q) = unless_stopped m j q q.job.stopped
 transition_of m j None = None
 
--- what a step of the job of a slot does; none if the slot is empty, its job is stopped, or its call cannot go on
+-- what a step of the job of a slot does; none if the slot is empty, its job is stopped, or its call
+-- cannot go on
 unfoldable pub transition : Machine → ℕ → Option Transition
 transition m j = transition_of m j (m.jobs j)
 

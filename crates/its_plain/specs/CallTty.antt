@@ -1,4 +1,5 @@
--- Calls on consoles: OPEN, `.IOT` and SIOT if they are on one; FINISH, LISTEN and TTYLND (docs/CALLS.md, "Consoles").
+-- Calls on consoles: OPEN, `.IOT` and SIOT if they are on one; FINISH, LISTEN and TTYLND
+-- (docs/CALLS.md, "Consoles").
 -- A promise rests on this.
 use Rattle.std.specs.Prelude.{if◌then◌else◌, ◌==◌, ◌||◌, ◌&&◌, ℕ, ◌-◌, ◌%◌, ◌^◌, Bool, true, false, not, Option, Some, None, List, [], ◌∷◌, ◌++◌, nat_lt, is_some, length, slice_get, unwrap_or}
 use Rattle.its_word.specs.Word.{right_of}
@@ -26,7 +27,8 @@ view_console v = unwrap_or v.own.job.console 0
 abbrev pub has_console : View → Bool
 has_console v = is_some v.own.job.console
 
--- a console that another job holds gives it no byte and takes none from it; one without holder is nobody's
+-- a console that another job holds gives it no byte and takes none from it; one without holder is
+-- nobody's
 abbrev pub is_other : ℕ → Option ℕ → Bool
 is_other j (Some h) = not (h == j)
 is_other j None = false
@@ -93,7 +95,8 @@ siot_out v a next k c =
     first (read_tests v (right_of next) ++ (output_waits v c ⇒ Waits (Output c) ∷ []))
     (goes (changes.Put c (shown_byte (load_of next (word_of v (right_of next)))) ∷ []) None (next ∷ (k - 1) ∷ []))
 
--- FINISH channel, and LISTEN channel: they wait until all output is drained; LISTEN gives the number of input bytes
+-- FINISH channel, and LISTEN channel: they wait until all output is drained; LISTEN gives the
+-- number of input bytes
 abbrev pub finish_on : View → Ask → Chan → Decision
 finish_on v a Shut = fails v a error.BAD_CHANNEL
 finish_on v a TtyOut = first (output_left v (view_console v) ⇒ Waits (Drained (view_console v)) ∷ []) (finishes v [] [])
@@ -115,8 +118,8 @@ listen_on v a _ = fails v a error.WRONG_DEVICE
 unfoldable pub listen : View → Ask → Decision
 listen v a = listen_on v a (channel_at v.own.channels (input a 0))
 
--- TTYLND job: the job becomes the holder of the caller's console. The caller may take the console from nobody and
--- from an inferior of its own; it may give it to an inferior if it holds it
+-- TTYLND job: the job becomes the holder of the caller's console. The caller may take the console
+-- from nobody and from an inferior of its own; it may give it to an inferior if it holds it
 abbrev pub can_take : View → Option ℕ → Bool
 can_take v None = true
 can_take v (Some h) = (h == v.slot) || is_superior v.slot (v.outlines h)

@@ -1,5 +1,5 @@
--- Calls on inferiors: OPEN of USR; `.IOT` and SIOT if the channel is on one; USRMEM and UCLOSE (docs/CALLS.md,
--- "Inferiors").
+-- Calls on inferiors: OPEN of USR; `.IOT` and SIOT if the channel is on one; USRMEM and UCLOSE
+-- (docs/CALLS.md, "Inferiors").
 -- A promise rests on this.
 use Rattle.std.specs.Prelude.{◌==◌, ◌&&◌, ℕ, ◌+◌, ◌-◌, Bool, true, false, not, Option, Some, None, List, [], ◌∷◌, ◌++◌, nat_lt, find, unwrap_or}
 use Rattle.std.specs.List.{list_any, range_with_len}
@@ -26,8 +26,9 @@ use Rattle.its_plain.specs.CallFile.{end_of_file, end_of_core}
 abbrev pub usr_device : ℕ
 usr_device = 0o656362000000
 
--- OPEN channel, USR, user name, job name: the caller's inferior with these names, in the least slot, from position 0
--- on; control 1 gives leave to write. If there is none, OPEN with control 1 makes it
+-- OPEN channel, USR, user name, job name: the caller's inferior with these names, in the least
+-- slot, from position 0 on; control 1 gives leave to write. If there is none, OPEN with control 1
+-- makes it
 abbrev pub has_names : ℕ → ℕ → Option Outline → Bool
 has_names u n (Some o) = (o.uname == u) && (o.jname == n)
 has_names u n None = false
@@ -67,8 +68,9 @@ other_core v = core_of v.other
 abbrev pub at_end : ℕ → Bool
 at_end at = not (nat_lt at end_of_core)
 
--- `.IOT` of the word at E: the word of the inferior at the channel's position, which is then one more; at the end it
--- gets 777777000003. Such a channel with leave to write is one for output, which stores there; IOC if it cannot
+-- `.IOT` of the word at E: the word of the inferior at the channel's position, which is then one
+-- more; at the end it gets 777777000003. Such a channel with leave to write is one for output,
+-- which stores there; IOC if it cannot
 abbrev pub iot_peeks : View → ℕ → ℕ → ℕ → Bool → Option ℕ → Decision
 iot_peeks v e n at true o = iot_ends v [] (record { at = e; word = end_of_file } ∷ [])
 iot_peeks v e n at false (Some w) = iot_ends v (changes.Move n (at + 1) ∷ []) (record { at = e; word = w } ∷ [])
@@ -86,7 +88,8 @@ abbrev pub iot_through : View → ℕ → ℕ → ℕ → Bool → ℕ → Decis
 iot_through v e n s true at = iot_into v e n s at
 iot_through v e n s false at = iot_from v e n at
 
--- SIOT of one word: from the inferior, or into it; error 16 if its word is absent, or cannot be stored
+-- SIOT of one word: from the inferior, or into it; error 16 if its word is absent, or cannot be
+-- stored
 abbrev pub siot_peeks : View → Ask → ℕ → ℕ → ℕ → ℕ → Option ℕ → Decision
 siot_peeks v a next k n at (Some w) =
     first (store_tests v (right_of next)) (goes (changes.Move n (at + 1) ∷ []) (Some (record { place = right_of next; byte = w })) (next ∷ (k - 1) ∷ []))
@@ -108,7 +111,8 @@ abbrev pub siot_through : View → Ask → ℕ → ℕ → Bool → ℕ → Deci
 siot_through v a n s true at = siot_into v a n s at
 siot_through v a n s false at = siot_from v a n at
 
--- USRMEM channel, address, optional new word: the output gets the word of the inferior, and then the new one is stored
+-- USRMEM channel, address, optional new word: the output gets the word of the inferior, and then
+-- the new one is stored
 abbrev pub set_word : ℕ → ℕ → ℕ → Bool → List Change
 set_word s p w true = changes.Poke s p w ∷ []
 set_word s p w false = []

@@ -1,5 +1,5 @@
--- What a change that a call makes outside its caller's own words and registers does to the plain machine
--- (docs/CALLS.md).
+-- What a change that a call makes outside its caller's own words and registers does to the plain
+-- machine (docs/CALLS.md).
 -- A promise rests on this.
 use Rattle.std.specs.Prelude.{if◌then◌else◌, ◌==◌, ◌||◌, ℕ, Bool, true, false, Option, Some, None, List, [], ◌∷◌, ◌++◌, option_map, slice_index_or}
 use Rattle.its_word.specs.Core.{Page, no_core, zero_page, page_of, with_page, marked}
@@ -56,8 +56,9 @@ after_put b c = record c { output = c.output ++ b ∷ [] }
 abbrev pub on_console : Machine → ℕ → (Console → Console) → Machine
 on_console m c f = record m { consoles = changed m.consoles c (f (m.consoles c)) }
 
--- links: an end is opened, of the link that is there or else of a new one; an end is closed; a word is added, or the first
--- is taken. A link exists as long as one of its ends is open, and is gone with its words after that
+-- links: an end is opened, of the link that is there or else of a new one; an end is closed; a word
+-- is added, or the first is taken. A link exists as long as one of its ends is open, and is gone
+-- with its words after that
 abbrev pub link_or_new : ℕ → ℕ → Option Pipe → Pipe
 link_or_new x y (Some p) = p
 link_or_new x y None = record { link = new_link x y; words = [] }
@@ -93,9 +94,9 @@ superior_in None = None
 abbrev pub superiors : Machine → ℕ → Option ℕ
 superiors m k = superior_in (m.jobs k)
 
--- a removal: a job and all below it are gone, and their symbols with them; channels on them are closed; a console
--- that one of them held passes to the nearest superior that is not removed, else to nobody; an end of a link that was
--- open at one of them is closed
+-- a removal: a job and all below it are gone, and their symbols with them; channels on them are
+-- closed; a console that one of them held passes to the nearest superior that is not removed, else
+-- to nobody; an end of a link that was open at one of them is closed
 abbrev pub is_gone : (ℕ → Option ℕ) → ℕ → ℕ → Bool
 is_gone sup r k = (k == r) || is_below sup r k
 
@@ -130,8 +131,8 @@ after_removal sup r m = record m {
   links = λ l. ends_after_removal (is_gone sup r) (m.links l);
 }
 
--- an inferior as OPEN makes it: stopped, with no page, closed channels, no alarm and no symbols, and with its maker's
--- console
+-- an inferior as OPEN makes it: stopped, with no page, closed channels, no alarm and no symbols,
+-- and with its maker's console
 abbrev pub console_in : Option Whole → Option ℕ
 console_in (Some q) = q.job.console
 console_in None = None

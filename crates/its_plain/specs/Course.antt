@@ -1,4 +1,5 @@
--- The one run of a session's lines along the plain machine, as the list of its moments (docs/MACHINE.md, "The ledger").
+-- The one run of a session's lines along the plain machine, as the list of its moments
+-- (docs/MACHINE.md, "The ledger").
 -- A promise rests on this.
 use Rattle.std.specs.Prelude.{ℕ, zero, suc, Option, Some, None, List, [], ◌∷◌, length, drop, unwrap_or}
 use Rattle.its_records.specs.Item.{Item, Read, Unread, Beyond}
@@ -15,15 +16,15 @@ use Rattle.its_plain.specs.OperatorLines.{Lined, Done, Peeks, lined}
 use Rattle.its_plain.specs.Transcript.{Walk, at_start, after_letter, walk_after, next_line}
 use Rattle.its_plain.specs.Turns.{turn_after, highest, turns_asked}
 
--- what happens at a moment of a run: a line of the session does something, a turn of RUN goes to a slot, or a slot has
--- a tick with this letter
+-- what happens at a moment of a run: a line of the session does something, a turn of RUN goes to a
+-- slot, or a slot has a tick with this letter
 pub data Deed : Type 0 where
   Lines : Event → Deed
   Turns : ℕ → Deed
   Letter : ℕ → Pace → Deed
 
--- the machine that it finds, the dots of each slot, what a block of lines is about, the number of the line of the
--- session, and what happens
+-- the machine that it finds, the dots of each slot, what a block of lines is about, the number of
+-- the line of the session, and what happens
 pub record Moment : Type 0 where
   pub machine : Machine
   pub dots : Dots
@@ -84,7 +85,8 @@ past v e (Done (Ticks s k)) lines next = paced v s (letters lines) (λ w. next w
 past v e (Done Quits) lines next = rests v
 past v e (Peeks s) lines next = next v (drop 1 lines)
 
--- the run of these events, which show these lines, from this state of a session on, after a turn of slot `last`
+-- the run of these events, which show these lines, from this state of a session on, after a turn of
+-- slot `last`
 abbrev pub course : Walk → ℕ → List Item → List Line → Course
 course v last [] lines = rests v
 course v last (Read e ∷ es) lines =

@@ -71,8 +71,8 @@ argument_of None = None
 unfoldable pub target : Whole → Ask → Option ℕ
 target q a = if a.fail == 0 then target_by q a (argument_of (call_named a.name)) else None
 
--- the slots, other than its own, of the jobs that a commit disturbs: the target; of LOGOUT the jobs below
--- the caller, and its superior; of UCLOSE the target and the jobs below it
+-- the slots, other than its own, of the jobs that a commit disturbs: the target; of LOGOUT the jobs
+-- below the caller, and its superior; of UCLOSE the target and the jobs below it
 abbrev pub listed : Option ℕ → List ℕ
 listed (Some s) = s ∷ []
 listed None = []

@@ -1,4 +1,5 @@
--- The decoding of a symbolic call (docs/CALLS.md, "Decoding"): its block, its arguments one by one, and what is asked.
+-- The decoding of a symbolic call (docs/CALLS.md, "Decoding"): its block, its arguments one by one,
+-- and what is asked.
 -- A promise rests on this.
 use Rattle.std.specs.Prelude.{if◌then◌else◌, ◌==◌, ◌||◌, ◌&&◌, ℕ, zero, suc, ◌+◌, ◌/◌, ◌%◌, ◌^◌, Bool, true, false, List, [], ◌∷◌, ◌++◌, length, drop, not, Option, Some, None, Result, Ok, Err, nat_lt, slice_get, slice_index, unwrap_or}
 use Rattle.std.specs.List.{filter_map, list_all, list_any}
@@ -64,8 +65,8 @@ abbrev pub up_to_last : Bool → (List ℕ → Traced (ArrayVec ℕ)) → List �
 up_to_last true rest seen = gives (record { items = seen })
 up_to_last false rest seen = rest seen
 
--- the block whose words so far are these, with the argument words from an address on, of which at most n are read.
--- Addresses have 18 bits
+-- the block whose words so far are these, with the argument words from an address on, of which at
+-- most n are read. Addresses have 18 bits
 unfoldable pub argument_words : ℕ → Core → ℕ → List ℕ → Traced (ArrayVec ℕ)
 argument_words zero c a seen = gives (record { items = seen })
 argument_words (suc n) c a seen =
@@ -88,7 +89,8 @@ checked false block = faults Ilo
 unfoldable pub parsed : Core → ℕ → Traced (ArrayVec ℕ)
 parsed c e = also (block_at c e) (λ block. checked (is_legal block.items) block)
 
--- the types of arguments: 0 input, 1 immediate input, 2 output, 3 error, 4 control, 5 immediate control
+-- the types of arguments: 0 input, 1 immediate input, 2 output, 3 error, 4 control, 5 immediate
+-- control
 unfoldable pub kind_of : ℕ → Kind
 kind_of w =
     if type_of w == 0 then kinds.Input
@@ -137,7 +139,8 @@ abbrev pub held_place : Source → Option ℕ
 held_place (Held p) = Some p
 held_place (Immediate v) = None
 
--- what an argument is as an input, an output, an error address and a control; and the word that it takes its value from
+-- what an argument is as an input, an output, an error address and a control; and the word that it
+-- takes its value from
 abbrev pub input_of : Core → Arg → Option Operand
 input_of c (Input s) = Some (record { value = value_of c s; place = held_place s })
 input_of c _ = None
@@ -168,8 +171,8 @@ row_by None = None
 unfoldable pub row_named : ℕ → Option CallRow
 row_named name = row_by (call_named name)
 
--- no call has the name; else there are too few inputs or outputs; else there are too many of these, or something else
--- is too much
+-- no call has the name; else there are too few inputs or outputs; else there are too many of these,
+-- or something else is too much
 unfoldable pub error_by : Option CallRow → ℕ → ℕ → Bool → ℕ
 error_by None inputs outputs excess = error.NO_CALL
 error_by (Some r) inputs outputs excess =
@@ -180,8 +183,8 @@ error_by (Some r) inputs outputs excess =
 unfoldable pub exceeds : ℕ → ℕ → List ℕ → Bool
 exceeds errors controls words = nat_lt 1 errors || nat_lt 1 controls || not (list_any has_bit_0 words)
 
--- what a call asks for, with the places of its decode words: the values are taken now. The first error address
--- counts, and the first control
+-- what a call asks for, with the places of its decode words: the values are taken now. The first
+-- error address counts, and the first control
 unfoldable pub ask_of : Core → List ℕ → Shape → Ask
 ask_of c decode h =
     let inputs = filter_map (input_of c) h.arguments in
@@ -200,8 +203,8 @@ ask_of c decode h =
       operand = record { items = filter_map operand_of h.arguments };
     }
 
--- `.IOT` has no block: its channel is its one input, which has no place, and E its one output address, at which
--- nothing is looked for yet
+-- `.IOT` has no block: its channel is its one input, which has no place, and E its one output
+-- address, at which nothing is looked for yet
 unfoldable pub iot_ask : Site → ℕ → Ask
 iot_ask s channel = record {
   name = sixbit Iot;
@@ -218,7 +221,8 @@ abbrev pub ask_by : Core → Site → Option ℕ → Result Ask Fault
 ask_by c s (Some channel) = Ok (iot_ask s channel)
 ask_by c s None = given (shaped c s).answer (λ h. Ok (ask_of c (s.decode.items ++ (shaped c s).reads) h))
 
--- what a call asks for, or the fault of its decoding. Of a call by a block the decode words are those of the site,
--- those of the block, and those of the arguments' addresses, in the order of reading
+-- what a call asks for, or the fault of its decoding. Of a call by a block the decode words are
+-- those of the site, those of the block, and those of the arguments' addresses, in the order of
+-- reading
 unfoldable pub ask : Core → Site → Result Ask Fault
 ask c s = ask_by c s s.channel

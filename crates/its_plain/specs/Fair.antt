@@ -34,8 +34,8 @@ RunsAt k (t ∷ ts) = (runs t.machine k ≡ true) × RunsAt k ts
 abbrev pub has_turn : ℕ → List Turn → Bool
 has_turn k ts = list_any (λ t. t.slot == k) ts
 
--- between two turns of one slot each other slot has a turn, if its job runs at each choice after the first of the two,
--- up to and with the choice of the second
+-- between two turns of one slot each other slot has a turn, if its job runs at each choice after
+-- the first of the two, up to and with the choice of the second
 pub record Fair (ts : List Turn) : Type 0 where
   pub each : (before between after : List Turn) (a z : Turn) (k : ℕ)
       → ts ≡ before ++ (a ∷ (between ++ (z ∷ after)))

@@ -1,4 +1,5 @@
--- At most twelve `.` in a row, beside the sixteen of the licence (docs/MACHINE.md, "Ticks and letters").
+-- At most twelve `.` in a row, beside the sixteen of the licence (docs/MACHINE.md, "Ticks and
+-- letters").
 -- A promise rests on this.
 use Rattle.std.specs.Prelude.{◌<◌, ℕ, List}
 use Rattle.std.specs.List.{AllByRecursion}
@@ -12,7 +13,8 @@ use Rattle.its_plain.specs.Licence.{Dots}
 abbrev pub most_in_a_row : ℕ
 most_in_a_row = 12
 
--- a `.` comes only when fewer than the most came since the last `*` of the job, its last disturbance or its making
+-- a `.` comes only when fewer than the most came since the last `*` of the job, its last
+-- disturbance or its making
 abbrev pub FewAt : Dots → Deed → Type 0
 FewAt d (Letter i Work) = d i < most_in_a_row
 FewAt d _ = Unit {0}

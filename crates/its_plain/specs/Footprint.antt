@@ -30,7 +30,7 @@ is_shared p k = among p k.decode.items || nat_lt 1 (times p k.operand.items)
 abbrev pub variable : ℕ → ℕ → Operand
 variable value place = record { value = value; place = Some place }
 
--- the same call with other inputs
+-- a call with other inputs
 abbrev pub with_inputs : Ask → List Operand → Ask
 with_inputs k inputs = record k { inputs = record { items = inputs } }
 

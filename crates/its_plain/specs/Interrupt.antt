@@ -57,14 +57,14 @@ abbrev pub chosen : Job → Option Entry → Option Entry → Option Entry
 chosen j (Some e) later = if meets j e then Some e else later
 chosen j None later = None
 
--- the first of k entries from an address on whose masks meet the enabled bits; none if none does, or if a word up to
--- it is absent
+-- the first of k entries from an address on whose masks meet the enabled bits; none if none does,
+-- or if a word up to it is absent
 unfoldable pub first_entry : Core → Job → ℕ → ℕ → Option Entry
 first_entry c j zero a = None
 first_entry c j (suc k) a = chosen j (entry_at c a) (first_entry c j k (a + 5))
 
--- how many entries the table has whose length, negated, is the left half of the word at 42: the length
--- is 1 + 5 k with k from 1 to 48
+-- how many entries the table has whose length, negated, is the left half of the word at 42: the
+-- length is 1 + 5 k with k from 1 to 48
 abbrev pub entries_by : ℕ → Option ℕ
 entries_by n = if (n % 5 == 1) && (nat_le 6 n && nat_le n 241) then Some (n / 5) else None
 

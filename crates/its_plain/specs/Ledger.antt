@@ -1,4 +1,5 @@
--- The ledger of the consoles: no byte is lost, doubled or out of its order (docs/MACHINE.md, "The ledger").
+-- The ledger of the consoles: no byte is lost, doubled or out of its order (docs/MACHINE.md, "The
+-- ledger").
 -- A promise rests on this.
 use Rattle.std.specs.Prelude.{if◌then◌else◌, ◌≡◌, ◌==◌, ◌&&◌, ℕ, ◌-◌, Bool, true, false, List, [], ◌∷◌, ◌++◌, length, take, flat_map}
 use Rattle.its_word.specs.Console.{most_waiting}
@@ -54,8 +55,9 @@ abbrev pub drained_by : ℕ → Line → List ℕ
 drained_by c (printed.Drained d bytes) = if d == c then bytes else []
 drained_by c _ = []
 
--- of a console: the bytes that were typed and not dropped are those that were moved in, in their order, and then those
--- that wait at the end; those that were moved out are the bytes of its `D` lines, and then those that wait at the end
+-- of a console: the bytes that were typed and not dropped are those that were moved in, in their
+-- order, and then those that wait at the end; those that were moved out are the bytes of its `D`
+-- lines, and then those that wait at the end
 pub record Balanced (u : Course) (lines : List Line) (c : ℕ) : Type 0 where
   pub input : flat_map (typed_at c) u.moments ≡ flat_map (moved_at c Inward) u.moments ++ (u.last.consoles c).input
   pub output : flat_map (moved_at c Outward) u.moments ≡ flat_map (drained_by c) lines ++ (u.last.consoles c).output

@@ -47,5 +47,3 @@ pub mod LinkLedger
 pub mod Turns
 pub mod FewDots
 pub mod Fair
-pub mod Integrity
-pub mod RunIntegrity

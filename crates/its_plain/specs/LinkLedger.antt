@@ -1,4 +1,5 @@
--- The ledger of the links: no word is lost, doubled or out of its order (docs/MACHINE.md, "The ledger").
+-- The ledger of the links: no word is lost, doubled or out of its order (docs/MACHINE.md, "The
+-- ledger").
 -- A promise rests on this.
 use Rattle.std.specs.Prelude.{if◌then◌else◌, ◌≡◌, ◌==◌, ◌&&◌, ℕ, Bool, true, false, is_some, List, [], ◌∷◌, ◌++◌, flat_map}
 use Rattle.its_records.specs.Item.{Item}
@@ -27,8 +28,8 @@ linked_at l way t = linked_doing t.deed
     linked_doing (Letter i Step) = flat_map (word_moved l way) (moves t.machine i)
     linked_doing _ = []
 
--- some moments of a run that follow each other, after each of which link l exists. The first of them may be the step that
--- makes the link
+-- some moments of a run that follow each other, after each of which link l exists. The first of
+-- them may be the step that makes the link
 abbrev pub StandsAfter : ℕ → List Moment → Machine → Type 0
 StandsAfter l [] n = Unit {0}
 StandsAfter l (t ∷ ts) n = (is_some ((machine_at ts n).links l) ≡ true) × StandsAfter l ts n
@@ -37,8 +38,9 @@ pub record LinkStretch (u : Course) (l : ℕ) : Type 0 where
   pub section : Section u
   pub stands : StandsAfter l section.moments (end_of u section)
 
--- the words that were in the link at the beginning (none, if it is made in the stretch) and those that were moved to it are
--- those that were moved from it, in their order, and then those that are in it at the end
+-- the words that were in the link at the beginning (none, if it is made in the stretch) and those
+-- that were moved to it are those that were moved from it, in their order, and then those that are
+-- in it at the end
 pub record LinkBalanced (u : Course) (l : ℕ) (x : LinkStretch u l) : Type 0 where
   pub words : words_in ((begin_of u x.section).links l) ++ flat_map (linked_at l Outward) x.section.moments
       ≡ flat_map (linked_at l Inward) x.section.moments ++ words_in ((end_of u x.section).links l)

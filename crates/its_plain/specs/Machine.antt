@@ -1,21 +1,22 @@
--- The plain machine: its jobs by slot, consoles with their holders, a directory, links and a clock. No part is about a
--- call in progress.
+-- The plain machine: its jobs by slot, consoles with their holders, a directory, links and a clock.
+-- No part is about a call in progress.
 -- A promise rests on this.
 use Rattle.std.specs.Prelude.{if◌then◌else◌, ◌==◌, ℕ, zero, suc, ◌+◌, ◌%◌, ◌^◌, Bool, Option, Some, None, List, [], ◌∷◌}
 use Rattle.its_word.specs.Core.{Core, no_core, word_at, pages_mapped}
 use Rattle.its_word.specs.Limits.{limit_of}
 use Rattle.its_records.specs.declared.jobs.Job.{Job}
 pub use Rattle.its_word.specs.Console.{Console}
--- the names of a file: its directory, name 1 and name 2, in this order. A file or a draft has its names and its words
+-- the names of a file: its directory, name 1 and name 2, in this order. A file or a draft has its
+-- names and its words
 pub use Rattle.its_word.specs.Directory.{File}
 use Rattle.its_records.specs.declared.link.Link.{Link}
 
 abbrev pub Names : Type 0
 Names = List ℕ
 
--- what a channel is on. One that reads has the names of its file and a position; one that writes has the draft
--- itself; one on an inferior has its slot, whether it may be written, and a position; one on a link has its number and
--- whether it is at the writing end
+-- what a channel is on. One that reads has the names of its file and a position; one that writes
+-- has the draft itself; one on an inferior has its slot, whether it may be written, and a position;
+-- one on a link has its number and whether it is at the writing end
 pub data Chan : Type 0 where
   Shut : Chan
   TtyIn : Chan
@@ -34,8 +35,9 @@ pub record Pipe : Type 0 where
   pub link : Link
   pub words : List ℕ
 
--- a job: its core, its registers, the slot of its superior if it has one, its 16 channels, and its alarm if it has
--- one, as a period and a next time. (The channels of its registers are the monitor's own, and are closed here)
+-- a job: its core, its registers, the slot of its superior if it has one, its 16 channels, and its
+-- alarm if it has one, as a period and a next time. (The channels of its registers are the
+-- monitor's own, and are closed here)
 pub record Whole : Type 0 where
   pub core : Core
   pub job : Job
@@ -43,9 +45,10 @@ pub record Whole : Type 0 where
   pub channels : ℕ → Chan
   pub alarm : Option (ℕ × ℕ)
 
--- jobs by slot, consoles and their holders by number, files in their order, the clock in thirtieths, the version of
--- the session text, 1 or 2, which determines how many jobs there can be, the symbols of the job of each slot, in the
--- order in which they were kept, and the links by number
+-- jobs by slot, consoles and their holders by number, files in their order, the clock in
+-- thirtieths, the version of the session text, 1 or 2, which determines how many jobs there can be,
+-- the symbols of the job of each slot, in the order in which they were kept, and the links by
+-- number
 pub record Machine : Type 0 where
   pub jobs : ℕ → Option Whole
   pub consoles : ℕ → Console

@@ -1,5 +1,5 @@
--- The bytes that the changes of a call move between a console and its job, and the words that they move between a link
--- and its job (docs/MACHINE.md, "The ledger").
+-- The bytes that the changes of a call move between a console and its job, and the words that they
+-- move between a link and its job (docs/MACHINE.md, "The ledger").
 -- A promise rests on this.
 use Rattle.std.specs.Prelude.{ℕ, List, [], ◌∷◌, ◌++◌}
 use Rattle.its_frame.specs.declared.change.Change.{Change}
@@ -8,8 +8,8 @@ use Rattle.its_plain.specs.Machine.{Machine}
 use Rattle.its_plain.specs.CallLink.{words_in}
 use Rattle.its_plain.specs.Change.{effect}
 
--- a byte or word that a step moves: from the input of a console, or from a link, into the job of a slot; or from that job
--- to the output of a console, or to a link
+-- a byte or word that a step moves: from the input of a console, or from a link, into the job of a
+-- slot; or from that job to the output of a console, or to a link
 pub data Way : Type 0 where
   Inward : Way
   Outward : Way
@@ -24,7 +24,8 @@ pub record Move : Type 0 where
   pub way : Way
   pub byte : ℕ
 
--- the byte that a change of slot j's call moves: the first that waits there, if there is one, or the one that is put
+-- the byte that a change of slot j's call moves: the first that waits there, if there is one, or
+-- the one that is put
 abbrev pub first_move : ℕ → Device → List ℕ → List Move
 first_move j d [] = []
 first_move j d (b ∷ bs) = record { slot = j; device = d; way = Inward; byte = b } ∷ []

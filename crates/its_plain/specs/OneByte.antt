@@ -27,7 +27,8 @@ use Rattle.its_plain.specs.CallLink.{words_in}
 use Rattle.its_plain.specs.Decide.{call_named, target}
 use Rattle.its_plain.specs.CallStep.{after_moves, decision}
 
--- a byte or word that comes in: there is one, these changes take it, and it is for the word that the pointer names
+-- a byte or word that comes in: there is one, these changes take it, and it is for the word that
+-- the pointer names
 pub record ComesIn (pointer : ℕ) (first : Option ℕ) (takes cs : List Change) (h : Option Held) : Type 0 where
   pub byte : ℕ
   pub there : first ≡ Some byte
@@ -40,7 +41,8 @@ pub record Deposited (before after : Core) (pointer : ℕ) (b : Held) : Type 0 w
   pub was : word_at before b.place ≡ Some word
   pub is : word_at after b.place ≡ Some (deposit_of pointer word b.byte)
 
--- a byte that goes out: the word that the pointer names is there, and these changes put the byte at the pointer in it
+-- a byte that goes out: the word that the pointer names is there, and these changes put the byte at
+-- the pointer in it
 pub record GoesOut (pointer : ℕ) (named : Option ℕ) (puts : ℕ → List Change) (cs : List Change) (h : Option Held) : Type 0 where
   pub word : ℕ
   pub there : named ≡ Some word
@@ -51,10 +53,11 @@ pub record GoesOut (pointer : ℕ) (named : Option ℕ) (puts : ℕ → List Cha
 abbrev pub word_named : View → ℕ → Option ℕ
 word_named v pointer = word_at v.own.core (right_of pointer)
 
--- what is moved through channel n, by what the channel is on: from a console the first byte that waits, and from a
--- file or an inferior the word at the channel's position; to a console the low 7 bits of the byte at the pointer, to
--- a draft that byte, and into an inferior also that byte, at the channel's position. A position is then one more. From a
--- link the first of its words, and to a link the byte at the pointer. Nothing is moved through a closed channel
+-- what is moved through channel n, by what the channel is on: from a console the first byte that
+-- waits, and from a file or an inferior the word at the channel's position; to a console the low 7
+-- bits of the byte at the pointer, to a draft that byte, and into an inferior also that byte, at
+-- the channel's position. A position is then one more. From a link the first of its words, and to a
+-- link the byte at the pointer. Nothing is moved through a closed channel
 abbrev pub Bears : View → ℕ → ℕ → Chan → List Change → Option Held → Type 0
 Bears v pointer n TtyIn cs h =
     ComesIn pointer (slice_get (v.consoles (view_console v)).input 0) (changes.Take (view_console v) ∷ []) cs h
@@ -79,9 +82,11 @@ new_arguments a = next_pointer (input a 1) ∷ (input a 2 - 1) ∷ []
 abbrev pub rest_of_transfer : Ask → Ask
 rest_of_transfer a = with_new_values a (new_arguments a)
 
--- one byte of the SIOT of job q in slot j, at this site and with these arguments, after which the machine is n: the byte is moved at
--- the pointer incremented; one that comes in is there afterwards; and the job, whose registers are as they were, is at the same call
--- with the rest. Machine n differs by the change that moves the byte, and by the words of byte, pointer and count, and by nothing else
+-- one byte of the SIOT of job q in slot j, at this site and with these arguments, after which the
+-- machine is n: the byte is moved at the pointer incremented; one that comes in is there
+-- afterwards; and the job, whose registers are as they were, is at the same call with the rest.
+-- Machine n differs by the change that moves the byte, and by the words of byte, pointer and count,
+-- and by nothing else
 pub record OneByte (m : Machine) (j : ℕ) (q : Whole) (s : Site) (a : Ask) (cs : List Change) (h : Option Held) (n : Machine)
     : Type 0 where
   pub after : Whole
@@ -94,15 +99,16 @@ pub record OneByte (m : Machine) (j : ℕ) (q : Whole) (s : Site) (a : Ask) (cs 
   pub stands : Stands after.core after.job s (rest_of_transfer a)
   pub others : n ≡ in_job (effects cs j m) j (after_moves a h (new_arguments a))
 
--- a step moves one byte, or it ends the call and moves none: it makes no change. A SIOT that waits has no step, and
--- none removes its job
+-- a step moves one byte, or it ends the call and moves none: it makes no change. A SIOT that waits
+-- has no step, and none removes its job
 abbrev pub ByteBy : Machine → ℕ → Whole → Site → Ask → Decision → Machine → Type 0
 ByteBy m j q s a (Goes cs h vs) n = OneByte m j q s a cs.items h n
 ByteBy m j q s a (Waits r) n = ⊥
 ByteBy m j q s a (Ends cs ss e) n = cs.items ≡ []
 ByteBy m j q s a (Gone cs) n = ⊥
 
--- a step of the job of slot j takes machine m to n: if the job is at a SIOT, it is one byte or the end
+-- a step of the job of slot j takes machine m to n: if the job is at a SIOT, it is one byte or the
+-- end
 pub record EachByte (m : Machine) (j : ℕ) (n : Machine) : Type 0 where
   pub byte : (q : Whole) (s : Site) (a : Ask)
       → m.jobs j ≡ Some q → deliverable q.job ≡ false → Stands q.core q.job s a → call_named a.name ≡ Some Siot

@@ -6,8 +6,8 @@ use Rattle.its_records.specs.declared.session.Reason.{Reason}
 use Rattle.its_plain.specs.Machine.{Names, Machine}
 use Rattle.its_plain.specs.Own.{names_of}
 
--- what a block of lines is about: the slot of the job that the last LOAD line made, and the names of the file that the
--- last FILE line made
+-- what a block of lines is about: the slot of the job that the last LOAD line made, and the names
+-- of the file that the last FILE line made
 pub record Block : Type 0 where
   pub slot : ℕ
   pub file : Names
@@ -19,7 +19,8 @@ no_block = record { slot = 0; file = names_of 0 0 0 }
 pub data Operated : Type 0 where
   -- it is refused, and the session ends
   Refuses : Reason → Operated
-  -- the machine after it, the lines that it shows, the slots that it disturbs or fills, and the block
+  -- the machine after it, the lines that it shows, the slots that it disturbs or fills, and the
+  -- block
   Does : Machine → List Line → (ℕ → Bool) → Block → Operated
   -- ticks of a slot, and how many
   Ticks : ℕ → ℕ → Operated

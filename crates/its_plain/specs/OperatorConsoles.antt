@@ -5,8 +5,8 @@ use Rattle.its_word.specs.Console.{most_waiting}
 use Rattle.its_plain.specs.Machine.{Console, Machine}
 use Rattle.its_plain.specs.Change.{on_console}
 
--- TYPE: the bytes that have room wait as input, at most 64 in all; those beyond that room are dropped. DRAIN: up to n
--- bytes of the output
+-- TYPE: the bytes that have room wait as input, at most 64 in all; those beyond that room are
+-- dropped. DRAIN: up to n bytes of the output
 abbrev pub with_typed : ℕ → List ℕ → Machine → Machine
 with_typed c bytes m = on_console m c (λ x. record x { input = take most_waiting (x.input ++ bytes) })
 

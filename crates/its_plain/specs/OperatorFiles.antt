@@ -1,4 +1,5 @@
--- The lines of a session on files: FILE with its words, DIR and SHOW (docs/SESSION.md, "The lines").
+-- The lines of a session on files: FILE with its words, DIR and SHOW (docs/SESSION.md, "The
+-- lines").
 -- A promise rests on this.
 use Rattle.std.specs.Prelude.{◌==◌, ℕ, zero, suc, ◌+◌, ◌/◌, Bool, true, false, Option, Some, None, List, [], ◌∷◌, ◌++◌, Result, Ok, Err, length, map, filter, take, drop, nat_lt, slice_index_or}
 use Rattle.its_word.specs.Directory.{with_changed, longer}

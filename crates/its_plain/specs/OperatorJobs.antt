@@ -1,5 +1,5 @@
--- The lines that make or name a job: LOAD with its a/ lines, RO and GO, INT, EXAM, STATE, DEPOSIT, STOP and CONT
--- (docs/SESSION.md, "The lines").
+-- The lines that make or name a job: LOAD with its a/ lines, RO and GO, INT, EXAM, STATE, DEPOSIT,
+-- STOP and CONT (docs/SESSION.md, "The lines").
 -- A promise rests on this.
 use Rattle.std.specs.Prelude.{if◌then◌else◌, ℕ, zero, suc, ◌/◌, ◌+◌, ◌&&◌, ◌||◌, Bool, true, false, not, length, Option, Some, None, List, [], ◌∷◌, Result, Ok, Err, nat_lt, is_some, bit_and, bit_or}
 use Rattle.its_word.specs.Word.{complement_of}
@@ -21,7 +21,8 @@ abbrev pub on_job : {X : Type 0} → Machine → ℕ → (Whole → Result X Rea
 on_job m s f (Some q) = f q
 on_job m s f None = Err NoJob
 
--- LOAD: a new job in the least free slot of the machine's version, stopped, with no page, no superior and no symbols
+-- LOAD: a new job in the least free slot of the machine's version, stopped, with no page, no
+-- superior and no symbols
 abbrev pub new_job : ℕ → ℕ → Option ℕ → Whole
 new_job u j console = whole no_core (fresh_job u j console) None
 
@@ -41,7 +42,8 @@ after_load_in m u j console None = Err Full
 unfoldable pub after_load : Machine → ℕ → ℕ → Option ℕ → Result (Machine × ℕ) Reason
 after_load m u j console = after_load_in m u j console (least_free (limit m) m.jobs)
 
--- one word of an a/ line: an absent page is made, writable and of zeros, if fewer than the most pages are mapped
+-- one word of an a/ line: an absent page is made, writable and of zeros, if fewer than the most
+-- pages are mapped
 abbrev pub with_stored_in : Core → ℕ → ℕ → Bool → Bool → Bool → Result Core Reason
 with_stored_in c a w can there room =
     if can then Ok (store c a w)
@@ -72,7 +74,7 @@ with_words_stored m s a (w ∷ ws) = and_then (with_word_loaded m s a w) (λ n. 
 abbrev pub is_barred : Core → ℕ → Bool
 is_barred c a = is_some (word_at c a) && not (can_store c a)
 
--- the same of any of n words from an address on
+-- whether a page that is there and read only has any of n words from an address on
 unfoldable pub any_barred : Core → ℕ → ℕ → Bool
 any_barred c a zero = false
 any_barred c a (suc n) = is_barred c a || any_barred c (a + 1) n

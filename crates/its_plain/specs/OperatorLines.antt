@@ -47,9 +47,9 @@ abbrev pub by_clock : Machine → Block → ℕ → Result Machine Reason → Op
 by_clock m b n (Ok k) = Does k [] (due (m.clock + n) m.jobs) b
 by_clock m b n (Err r) = Refuses r
 
--- the effect of each line; a RUN line does nothing itself: its turns follow it. The lines of a LOAD block disturb the
--- job that LOAD has just made: no `.` came for it, so for a session this says no more than that LOAD disturbs it.
--- PEEK does nothing to the machine
+-- the effect of each line; a RUN line does nothing itself: its turns follow it. The lines of a LOAD
+-- block disturb the job that LOAD has just made: no `.` came for it, so for a session this says no
+-- more than that LOAD disturbs it. PEEK does nothing to the machine
 unfoldable pub operate : Machine → Block → Event → Operated
 operate m b Nothing = Does m [] nobody b
 operate m b (Version v) = Does (with_version m v) [] nobody b
@@ -79,7 +79,8 @@ operate m b (Dir d) = Does m (listing d (files_in d m.files)) nobody b
 operate m b (Show d x y) = shows m b (file_shown m d x y)
 operate m b End = Quits
 
--- PEEK shows how far a job is inside a call. The plain machine has no calls in progress, so the line is passed over
+-- PEEK shows how far a job is inside a call. The plain machine has no calls in progress, so the
+-- line is passed over
 pub data Lined : Type 0 where
   Done : Operated → Lined
   Peeks : ℕ → Lined

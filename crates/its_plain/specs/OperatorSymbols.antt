@@ -1,5 +1,5 @@
--- The symbols of a job: SYM keeps one, and STATE shows the one that is nearest to the PC (docs/SESSION.md, "The
--- lines").
+-- The symbols of a job: SYM keeps one, and STATE shows the one that is nearest to the PC
+-- (docs/SESSION.md, "The lines").
 -- A promise rests on this.
 use Rattle.std.specs.Prelude.{ℕ, ◌-◌, ◌&&◌, Bool, true, false, not, Option, Some, None, List, [], ◌∷◌, ◌++◌, Result, Ok, Err, cond, length, nat_lt}
 use Rattle.its_word.specs.Limits.{most_symbols}
@@ -10,8 +10,9 @@ use Rattle.its_plain.specs.Machine.{Symbol, Whole, Machine, changed}
 abbrev pub address_of : Symbol → ℕ
 address_of s = s.1
 
--- a symbol is nearer to the PC than the nearest of those kept before it: its address is at most the PC, and not below
--- that of the other. So of symbols with the same address the one kept last is the nearest
+-- a symbol is nearer to the PC than the nearest of those kept before it: its address is at most the
+-- PC, and not below that of the other. So of symbols with the same address the one kept last is the
+-- nearest
 abbrev pub is_nearer : ℕ → Option Symbol → Symbol → Bool
 is_nearer pc (Some best) s = not (nat_lt pc (address_of s)) && not (nat_lt (address_of s) (address_of best))
 is_nearer pc None s = not (nat_lt pc (address_of s))

@@ -20,8 +20,8 @@ use Rattle.its_plain.specs.UnitPlan.{without}
 abbrev pub with_stores : List Store → Whole → Whole
 with_stores ss q = record q { core = stored q.core ss }
 
--- the registers that a job has, and a job with other registers. The stopped mark, the names, the console and
--- the channels are no part of them
+-- the registers that a job has, and a job with other registers. The stopped mark, the names, the
+-- console and the channels are no part of them
 abbrev pub exit_of : Job → Exit
 exit_of j = record {
   pc = j.pc;
@@ -68,7 +68,7 @@ opened_on (opened.Reading d x y) = Reads (names_of d x y) 0
 opened_on (opened.Writing d x y) = Writes (record { names = names_of d x y; words = [] })
 opened_on (opened.Usr s write) = On s write 0
 
--- the same at another position
+-- what a channel is on, at another position
 abbrev pub at_position : ℕ → Chan → Chan
 at_position at (Reads f p) = Reads f at
 at_position at (On s write p) = On s write at

@@ -1,5 +1,6 @@
--- Why a call can have to wait, and when it has to (docs/CALLS.md, "Waiting"). A call that can wait has one reason for
--- it. Its name, what its channel is on and its job's console determine the reason, and nothing else.
+-- Why a call can have to wait, and when it has to (docs/CALLS.md, "Waiting"). A call that can wait
+-- has one reason for it. Its name, what its channel is on and its job's console determine the
+-- reason, and nothing else.
 -- No promise rests on this.
 use Rattle.std.specs.Prelude.{◌&&◌, ◌||◌, ℕ, ◌-◌, ◌^◌, Bool, true, false, not, Option, Some, None, nat_lt, length, unwrap_or}
 use Rattle.its_word.specs.Console.{most_waiting}
@@ -25,10 +26,11 @@ pub record Doors : Type 0 where
 abbrev pub doors : Machine → Doors
 doors m = record { consoles = m.consoles; holders = m.holders; clock = m.clock; links = m.links }
 
--- the call of slot k, whose first argument is n, has to wait for this reason: HANG always; a sleeper until its time
--- has come; a reader while no byte waits or another job holds the console; a writer while 64 bytes wait or another
--- job holds it; FINISH and LISTEN while a byte is left to be drained; a reader of a link while it has no word and can
--- still get one; a writer to a link while it has 64 words and can still lose one
+-- the call of slot k, whose first argument is n, has to wait for this reason: HANG always; a
+-- sleeper until its time has come; a reader while no byte waits or another job holds the console; a
+-- writer while 64 bytes wait or another job holds it; FINISH and LISTEN while a byte is left to be
+-- drained; a reader of a link while it has no word and can still get one; a writer to a link while
+-- it has 64 words and can still lose one
 abbrev pub held_up : Doors → ℕ → ℕ → Wait → Bool
 held_up d k n Hang = true
 held_up d k n Clock = is_negative n && nat_lt d.clock (2 ^ 36 - n)
@@ -38,7 +40,8 @@ held_up d k n (Drained c) = not (is_empty (d.consoles c).output)
 held_up d k n (Empty l) = is_dry (d.links l)
 held_up d k n (Room l) = is_crowded (d.links l)
 
--- the reason of a transfer, of FINISH and of LISTEN, whose channel is on something, at a job with this console
+-- the reason of a transfer, of FINISH and of LISTEN, whose channel is on something, at a job with
+-- this console
 abbrev pub of_transfer : ℕ → Chan → Option Wait
 of_transfer c TtyIn = Some (Input c)
 of_transfer c TtyOut = Some (Output c)

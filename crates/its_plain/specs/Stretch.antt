@@ -35,8 +35,8 @@ abbrev pub is_own : ℕ → Deed → Bool
 is_own j (Letter i Step) = i == j
 is_own j _ = false
 
--- a stretch of a run: each moment is a step of the job of slot j that is a part of its call, or leaves its core and its
--- PC as they are. Lines and steps of others may change everything else
+-- a stretch of a run: each moment is a step of the job of slot j that is a part of its call, or
+-- leaves its core and its PC as they are. Lines and steps of others may change everything else
 abbrev pub StretchFits : Bool → ℕ → Machine → Machine → Type 0
 StretchFits true j m n = steps_on m j ≡ true
 StretchFits false j m n = Untouched (m.jobs j) (n.jobs j)
@@ -94,7 +94,8 @@ pub record Transferred (j : ℕ) (s : Site) (a : Ask) (ts : List Moment) (n : Ma
   pub pointer : input (rest_after (parts_in j ts) a) 1 ≡ incremented (parts_in j ts) (input a 1)
   pub count : input (rest_after (parts_in j ts) a) 2 + parts_in j ts ≡ input a 2
 
--- some moments of a run that follow each other: those before them, they themselves, and those after them
+-- some moments of a run that follow each other: those before them, they themselves, and those after
+-- them
 pub record Section (u : Course) : Type 0 where
   pub before : List Moment
   pub moments : List Moment
@@ -119,7 +120,8 @@ pub record TransferStretch (u : Course) (j : ℕ) : Type 0 where
   pub siot : call_named ask.name ≡ Some Siot
   pub stretch : Stretch j section.moments (end_of u section)
 
--- each stretch of a transfer, in the run of these events, which show these lines, moves its bytes once and in order
+-- each stretch of a transfer, in the run of these events, which show these lines, moves its bytes
+-- once and in order
 pub record Stretches (es : List Item) (lines : List Line) : Type 0 where
   pub each : (j : ℕ) (x : TransferStretch (run_of es lines) j)
       → Transferred j x.site x.ask x.section.moments (end_of (run_of es lines) x.section)

@@ -1,5 +1,5 @@
--- How a call decides: its tests in their order, the first of which that holds stops it, and the ways in
--- which a call ends (docs/CALLS.md, "How a call ends").
+-- How a call decides: its tests in their order, the first of which that holds stops it, and the
+-- ways in which a call ends (docs/CALLS.md, "How a call ends").
 -- A promise rests on this.
 use Rattle.std.specs.Prelude.{if◌then◌else◌, ℕ, Bool, Option, Some, None, List, [], ◌∷◌}
 use Rattle.its_word.specs.declared.access.Fault.{Fault}

@@ -1,4 +1,5 @@
--- Parts of the decoding of an instruction or a call: what each gives, with the places of core that it looks at.
+-- Parts of the decoding of an instruction or a call: what each gives, with the places of core that
+-- it looks at.
 -- A promise rests on this.
 use Rattle.std.specs.Prelude.{ℕ, List, [], ◌∷◌, ◌++◌, Result, Ok, Err}
 use Rattle.its_word.specs.Core.{Core}
@@ -7,8 +8,8 @@ use Rattle.its_word.specs.declared.access.Address.{Address}
 use Rattle.its_word.specs.declared.access.Fault.{Fault}
 use Rattle.its_plain.specs.UnitPlan.{read_of}
 
--- a value or the fault that ends the decoding; the places of the words that were read, in the order of reading; and the
--- places at which it was only looked whether a word is there, or can be stored
+-- a value or the fault that ends the decoding; the places of the words that were read, in the order
+-- of reading; and the places at which it was only looked whether a word is there, or can be stored
 pub record Traced (X : Type 0) : Type 0 where
   pub answer : Result X Fault
   pub reads : List ℕ

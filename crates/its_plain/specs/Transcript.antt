@@ -1,5 +1,5 @@
--- The transcript of a session: which lines the plain machine shows for which events, by one rule for each kind of event
--- (docs/MACHINE.md, "The transcript").
+-- The transcript of a session: which lines the plain machine shows for which events, by one rule
+-- for each kind of event (docs/MACHINE.md, "The transcript").
 -- A promise rests on this.
 use Rattle.std.specs.Prelude.{◌≡◌, ◌<◌, ℕ, suc, ◌+◌, Bool, Some, None, List, [], ◌∷◌, ◌++◌, length}
 use Rattle.its_records.specs.Item.{Item, Read, Unread, Beyond}
@@ -16,16 +16,16 @@ use Rattle.its_plain.specs.Machine.{Machine, no_machine}
 use Rattle.its_plain.specs.Operator.{Block, no_block, Refuses, Does, Ticks, Quits}
 use Rattle.its_plain.specs.Turns.{turn_after, highest, turns_asked, ticks_asked}
 
--- how a session ends: at END, at the end of the events, with a refused line, or when a line past the most that a
--- session may have begins
+-- how a session ends: at END, at the end of the events, with a refused line, or when a line past
+-- the most that a session may have begins
 pub data Fate : Type 0 where
   Ended : Fate
   Open : Fate
   Refused : Fate
   TooLong : Fate
 
--- the state of a session between two lines: its machine, the dots of each slot, the open block, and the number of the
--- line to come
+-- the state of a session between two lines: its machine, the dots of each slot, the open block, and
+-- the number of the line to come
 pub record Walk : Type 0 where
   pub machine : Machine
   pub dots : Dots
@@ -39,14 +39,16 @@ at_start = record { machine = no_machine; dots = λ k. 0; block = no_block; line
 abbrev pub after_letter : Walk → ℕ → Pace → Machine → Walk
 after_letter v i p n = record v { machine = n; dots = dots_after v.machine v.dots i p }
 
--- its state after a line that leads to machine n, disturbs or fills these slots, and leaves this block
+-- its state after a line that leads to machine n, disturbs or fills these slots, and leaves this
+-- block
 abbrev pub walk_after : Walk → Machine → (ℕ → Bool) → Block → Walk
 walk_after v n touched b = record v { machine = n; dots = dots_after_line v.dots touched; block = b }
 
 abbrev pub next_line : Walk → Walk
 next_line v = record v { line = v.line + 1 }
 
--- the letters of a `T` line of slot i: each is licensed in its turn, and `.` occurs only if fewer than the most came
+-- the letters of a `T` line of slot i: each is licensed in its turn, and `.` occurs only if fewer
+-- than the most came
 pub data Paced (i : ℕ) : Walk → List Pace → Walk → Type 0 where
   none : {v : Walk} → Paced i v [] v
   letter : {v w : Walk} {p : Pace} {ps : List Pace} (n : Machine)
@@ -55,9 +57,9 @@ pub data Paced (i : ℕ) : Walk → List Pace → Walk → Type 0 where
       → Paced i (after_letter v i p n) ps w
       → Paced i v (p ∷ ps) w
 
--- the turns that a RUN line asks for, each of q ticks, the first after a turn of slot `last`: each is a `T` line of the
--- slot whose turn it is. They end early when no job runs. At their end slot `l` had the last turn, and these lines are
--- still to come
+-- the turns that a RUN line asks for, each of q ticks, the first after a turn of slot `last`: each
+-- is a `T` line of the slot whose turn it is. They end early when no job runs. At their end slot
+-- `l` had the last turn, and these lines are still to come
 pub data Turned (q : ℕ) : ℕ → Walk → ℕ → List Line → Walk → ℕ → List Line → Type 0 where
   all_made : {v : Walk} {last : ℕ} {lines : List Line} → Turned q 0 v last lines v last lines
   none_runs : {n last : ℕ} {v : Walk} {lines : List Line}
@@ -74,8 +76,8 @@ pub data Turned (q : ℕ) : ℕ → Walk → ℕ → List Line → Walk → ℕ 
 abbrev pub Comes : Walk → Event → Lined → Type 0
 Comes v e o = lined v.machine v.block e ≡ o
 
--- from this state of a session on, after a turn of slot `last`: these events show these lines, no more and no fewer,
--- and this is the end of the session
+-- from this state of a session on, after a turn of slot `last`: these events show these lines, no
+-- more and no fewer, and this is the end of the session
 pub data Shows : Walk → ℕ → List Item → List Line → Fate → Type 0 where
   -- END
   end_line : {v : Walk} {last : ℕ} {e : Event} {es : List Item}
@@ -92,7 +94,8 @@ pub data Shows : Walk → ℕ → List Item → List Line → Fate → Type 0 wh
   refused_line : {v : Walk} {last : ℕ} {e : Event} {r : Reason} {es : List Item}
       → Comes v e (Done (Refuses r))
       → Shows v last (Read e ∷ es) (printed.Refused v.line r ∷ []) Refused
-  -- any other line: what it shows comes first, then the turns that it asks for, which RUN alone does
+  -- any other line: what it shows comes first, then the turns that it asks for, which RUN alone
+  -- does
   obeyed_line : {v w : Walk} {last l : ℕ} {e : Event} {n : Machine} {out : List Line} {touched : ℕ → Bool} {b : Block}
       {es : List Item} {lines more rest : List Line} {fate : Fate}
       → Comes v e (Done (Does n out touched b))

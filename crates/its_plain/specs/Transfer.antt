@@ -1,5 +1,5 @@
--- What `.IOT` and SIOT have in common, whatever their channel is on: the tests of the words that they move, and of SIOT's
--- arguments (docs/CALLS.md, "`.IOT`" and "SIOT").
+-- What `.IOT` and SIOT have in common, whatever their channel is on: the tests of the words that
+-- they move, and of SIOT's arguments (docs/CALLS.md, "`.IOT`" and "SIOT").
 -- A promise rests on this.
 use Rattle.std.specs.Prelude.{◌==◌, ◌||◌, ◌&&◌, ℕ, ◌/◌, ◌%◌, ◌^◌, Bool, not, List, [], ◌∷◌, is_some, unwrap_or}
 use Rattle.its_word.specs.Word.{right_of}
@@ -18,7 +18,8 @@ use Rattle.its_plain.specs.Arguments.{input, place_of_input, in_footprint}
 use Rattle.its_plain.specs.Tests.{Test, ◌⇒◌, first, finishes, fails, faults}
 use Rattle.its_plain.specs.CallBasic.{is_negative, read_only, shared_place}
 
--- the words that a transfer stores to or reads: MPV if one is absent, WRO if it is to be stored and is read only
+-- the words that a transfer stores to or reads: MPV if one is absent, WRO if it is to be stored and
+-- is read only
 abbrev pub is_absent : Core → ℕ → Bool
 is_absent c p = not (is_some (word_at c p))
 
@@ -35,16 +36,16 @@ word_of v p = unwrap_or (word_at v.own.core p) 0
 abbrev pub iot_ends : View → List Change → List Store → Decision
 iot_ends v cs ss = Ends (record { items = cs }) (record { items = ss }) (exit_of (with_advance 1 v.own.job))
 
--- SIOT channel, pointer, count: one byte; pointer and count become those of the rest. I and X, bits 13 to 17 of the
--- pointer, have to be 0
+-- SIOT channel, pointer, count: one byte; pointer and count become those of the rest. I and X, bits
+-- 13 to 17 of the pointer, have to be 0
 abbrev pub is_indexed : ℕ → Bool
 is_indexed p = not (p / 2 ^ 18 % 2 ^ 5 == 0)
 
 abbrev pub next_pointer : ℕ → ℕ
 next_pointer p = unwrap_or (increment_of p) 0
 
--- a console moves bytes of any size; a file, a draft or an inferior moves whole words, of 36 bits; a file and an
--- inferior may be at their end
+-- a console moves bytes of any size; a file, a draft or an inferior moves whole words, of 36 bits;
+-- a file and an inferior may be at their end
 abbrev pub word_bits : ℕ
 word_bits = 36
 

@@ -1,5 +1,5 @@
--- Turns in a circle: which job runs, whose turn comes next, and how many turns a line asks for (docs/MACHINE.md, "Turns
--- in a circle").
+-- Turns in a circle: which job runs, whose turn comes next, and how many turns a line asks for
+-- (docs/MACHINE.md, "Turns in a circle").
 -- A promise rests on this.
 use Rattle.std.specs.Prelude.{ℕ, ◌-◌, Bool, false, not, Option, Some, None}
 use Rattle.its_robin.specs.Robin.{robin}
@@ -16,8 +16,8 @@ is_running None = false
 abbrev pub runs : Machine → ℕ → Bool
 runs m k = is_running (m.jobs k)
 
--- whose turn comes after that of the last slot: the first slot after it whose job runs, around the circle of all
--- slots, with the last slot itself as the final one; nobody's if no job runs
+-- whose turn comes after that of the last slot: the first slot after it whose job runs, around the
+-- circle of all slots, with the last slot itself as the final one; nobody's if no job runs
 abbrev pub turn_after : Machine → ℕ → Option ℕ
 turn_after m last = robin slots (runs m) last
 

@@ -28,8 +28,8 @@ use Rattle.its_plain.specs.UnitJumps.{branch_row, stack_row}
 use Rattle.its_plain.specs.UnitTests.{compare_row, test_row}
 use Rattle.its_plain.specs.UnitBytes.{byte_row}
 
--- the result of a unit: the core and the registers after it; a fault, which leaves no part of it done; or a call of
--- the monitor
+-- the result of a unit: the core and the registers after it; a fault, which leaves no part of it
+-- done; or a call of the monitor
 pub data Outcome : Type 0 where
   Changed : Core → Job → Outcome
   Faulted : Fault → Outcome
@@ -58,7 +58,8 @@ context_of j w e used = record {
   used = used;
 }
 
--- the target of an XCT, which counts against the budget; if nothing is left of the budget, that is ILO
+-- the target of an XCT, which counts against the budget; if nothing is left of the budget, that is
+-- ILO
 unfoldable pub target_of : Core → Context → Traced ChainStep
 target_of c x = if nat_lt x.used budget then also (word c x.e) (λ w. gives (Target w (x.used + 1))) else faults Ilo
 
@@ -76,7 +77,8 @@ abbrev pub followed : (ℕ → ℕ → Traced Reached) → ChainStep → Traced 
 followed rest (Found r) = gives r
 followed rest (Target w used) = rest w used
 
--- the instruction of a word, or at the end of its chain of fewer than n XCTs. PC is that of the first
+-- the instruction of a word, or at the end of its chain of fewer than n XCTs. PC is that of the
+-- first
 unfoldable pub chain : ℕ → Core → Job → ℕ → ℕ → Traced Reached
 chain zero c j w used = faults Ilo
 chain (suc n) c j w used = also (chain_step c j w used) (λ t. followed (λ v k. chain n c j v k) t)
@@ -121,8 +123,8 @@ abbrev pub outcome_of : Core → Job → Planned → Outcome
 outcome_of c j (Ok p) = made c j p (first_fault c p.stores.items)
 outcome_of c j (Err f) = Faulted f
 
--- the place of a call of the monitor, with the places of the words that were read to reach it. PC is that of the
--- call, or of the XCT that began the chain
+-- the place of a call of the monitor, with the places of the words that were read to reach it. PC
+-- is that of the call, or of the XCT that began the chain
 abbrev pub site_of : Context → Option ℕ → List ℕ → Site
 site_of x channel reads = record {
   pc = x.pc;
@@ -132,7 +134,8 @@ site_of x channel reads = record {
   decode = record { items = reads };
 }
 
--- 040 `.IOT` with its channel in A, and 043 `.CALL`, call the monitor; any other instruction does what its row plans
+-- 040 `.IOT` with its channel in A, and 043 `.CALL`, call the monitor; any other instruction does
+-- what its row plans
 unfoldable pub done_by : Core → Job → List ℕ → Context → Instruction → Outcome
 done_by c j reads x Iot = Called (site_of x (Some x.a) reads)
 done_by c j reads x Call = Called (site_of x None reads)

@@ -27,8 +27,8 @@ one_result x m r = next x (worked_to x m r.first) r.flags
 abbrev pub two_results : Context → Mode → Result2 → Plan
 two_results x m r = next x (two_to x m r.first r.second) r.flags
 
--- a refused division sets overflow and no divide and changes no operand. If its mode stores in C(E), that reference
--- nevertheless happens, and leaves C(E) as it is
+-- a refused division sets overflow and no divide and changes no operand. If its mode stores in
+-- C(E), that reference nevertheless happens, and leaves C(E) as it is
 unfoldable pub refused_to : Context → Mode → ℕ → List Store
 refused_to x Basic s = []
 refused_to x Immediate s = []
@@ -58,8 +58,8 @@ one_shifted x r = next x (to x.a r.first ∷ []) r.flags
 abbrev pub two_shifted : Context → Result2 → Plan
 two_shifted x r = next x (to x.a r.first ∷ to (next_a x) r.second ∷ []) r.flags
 
--- 240 ASH, 241 ROT, 242 LSH; 243 JFFO: the zeros before AC's first one to AC+1, and a jump if there is a one; 244
--- ASHC, 245 ROTC, 246 LSHC
+-- 240 ASH, 241 ROT, 242 LSH; 243 JFFO: the zeros before AC's first one to AC+1, and a jump if there
+-- is a one; 244 ASHC, 245 ROTC, 246 LSHC
 unfoldable pub shift_row : Core → Context → ShiftOp → Planned
 shift_row c x Ash = Ok (one_shifted x (ash_of x.e (ac c x)))
 shift_row c x Rot = Ok (one_shifted x (rot_of x.e (ac c x)))

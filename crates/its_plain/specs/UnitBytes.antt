@@ -16,7 +16,8 @@ use Rattle.its_plain.specs.UnitPlan.{Planned, given, read_of, ac, to, is_on, nex
 unfoldable pub incremented : ℕ → Result ℕ Fault
 incremented p = ok_or (increment_of p) Ilo
 
--- the address of a pointer's word, under what is left of the budget; a size of 0 or above 36 is ILO before
+-- the address of a pointer's word, under what is left of the budget; a size of 0 or above 36 is ILO
+-- before
 unfoldable pub pointed_to : Core → Context → ℕ → Result ℕ Fault
 pointed_to c x p = if has_size p then given (address c p x.used).answer (λ b. Ok b.e) else Err Ilo
 

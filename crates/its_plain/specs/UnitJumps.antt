@@ -14,8 +14,8 @@ use Rattle.its_word.specs.declared.plan.Plan.{Plan}
 use Rattle.its_plain.specs.Job.{PDL, flags_of, pc_word}
 use Rattle.its_plain.specs.UnitPlan.{Planned, given, read_of, ac, to, without, is_on, completes, next, jump, both_up, both_down}
 
--- a word of BLT, from the left half of AC to its right half. Up to E, AC gets the next pair of addresses
--- after the word, and PC and first part done stay; at E it is done, and AC is not written
+-- a word of BLT, from the left half of AC to its right half. Up to E, AC gets the next pair of
+-- addresses after the word, and PC and first part done stay; at E it is done, and AC is not written
 abbrev pub transferred : Context → ℕ → ℕ → Plan
 transferred x pointer w =
     if nat_le x.e (right_of pointer) then next x (to (right_of pointer) w ∷ []) 0
@@ -30,8 +30,8 @@ transferred x pointer w =
 abbrev pub is_negative : ℕ → Bool
 is_negative w = nat_le (2 ^ 35) w
 
--- the flags that JRST 2 takes, those of the last index register or indirect word; if neither was used the flags are
--- unchanged, except first part done
+-- the flags that JRST 2 takes, those of the last index register or indirect word; if neither was
+-- used the flags are unchanged, except first part done
 abbrev pub restored : Context → Option ℕ → ℕ
 restored x (Some w) = flags_of w
 restored x None = without x.flags BYTE_HALF
@@ -40,8 +40,8 @@ restored x None = without x.flags BYTE_HALF
 abbrev pub named_by : ℕ → ℕ
 named_by a = a * 2 ^ 14
 
--- 251 BLT; 252 AOBJP, 253 AOBJN: AC +1,,1, and a jump if it is then not negative, negative; 254 JRST, with A = 2 also
--- the flags; 255 JFCL: the named flags are cleared, and a jump if one was on
+-- 251 BLT; 252 AOBJP, 253 AOBJN: AC +1,,1, and a jump if it is then not negative, negative; 254
+-- JRST, with A = 2 also the flags; 255 JFCL: the named flags are cleared, and a jump if one was on
 unfoldable pub branch_row : Core → Context → BranchOp → Planned
 branch_row c x Blt = given (read_of c (left_of (ac c x))) (λ w. Ok (transferred x (ac c x) w))
 branch_row c x Aobjp = Ok (jump x (to x.a (both_up (ac c x)) ∷ []) 0 (not (is_negative (both_up (ac c x)))))
@@ -51,13 +51,13 @@ branch_row c x Jrst =
 branch_row c x Jfcl =
     Ok (record (jump x [] 0 (is_on x.flags (named_by x.a))) { flags = without x.flags (named_by x.a + BYTE_HALF) })
 
--- the same with PDL set if the count in the left half ran out
+-- a plan in which PDL is set if the count in the left half ran out
 abbrev pub with_count : ℕ → ℕ → Plan → Plan
 with_count end pointer p = record p { pending = if left_of pointer == end then PDL else 0 }
 
--- 260 PUSHJ, 261 PUSH: AC +1,,1, then the word to C(right AC); PDL if AC's left half becomes 0. 262 POP, 263 POPJ:
--- the word C(right AC), then AC -1,,1; PDL if AC's left half becomes 777777. AC is stored before memory. 264 JSR, 265
--- JSP, 266 JSA, 267 JRA
+-- 260 PUSHJ, 261 PUSH: AC +1,,1, then the word to C(right AC); PDL if AC's left half becomes 0. 262
+-- POP, 263 POPJ: the word C(right AC), then AC -1,,1; PDL if AC's left half becomes 777777. AC is
+-- stored before memory. 264 JSR, 265 JSP, 266 JSA, 267 JRA
 unfoldable pub stack_row : Core → Context → StackOp → Planned
 stack_row c x Pushj =
     let p = both_up (ac c x) in

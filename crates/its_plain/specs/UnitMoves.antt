@@ -1,5 +1,5 @@
--- Moves and half moves (processor reference manual, "Full word data transmission" and "Half word data
--- transmission").
+-- Moves and half moves (processor reference manual, "Full word data transmission" and "Half word
+-- data transmission").
 -- A promise rests on this.
 use Rattle.std.specs.Prelude.{ℕ, [], ◌∷◌, Result, Ok}
 use Rattle.its_word.specs.Word.{left_of, right_of, pair_of}
@@ -20,8 +20,8 @@ use Rattle.its_plain.specs.UnitPlan.{Planned, given, read_of, ac, to, next, move
 abbrev pub swapped : ℕ → ℕ
 swapped w = pair_of (right_of w) (left_of w)
 
--- 200 MOVE the source; 204 MOVS its halves swapped; 210 MOVN negated, with the flags of the negation; 214 MOVM
--- negated with its flags if it is negative
+-- 200 MOVE the source; 204 MOVS its halves swapped; 210 MOVN negated, with the flags of the
+-- negation; 214 MOVM negated with its flags if it is negative
 unfoldable pub moved : MoveOp → ℕ → Result2
 moved Plain s = one_word s 0
 moved Swap s = one_word (swapped s) 0

@@ -1,5 +1,6 @@
--- What the rows of the instruction tables share: reading, the sources and destinations of the modes, and what an
--- instruction that completes does. A row gives a plan, or the first fault of what it reads.
+-- What the rows of the instruction tables share: reading, the sources and destinations of the
+-- modes, and what an instruction that completes does. A row gives a plan, or the first fault of
+-- what it reads.
 -- A promise rests on this.
 use Rattle.std.specs.Prelude.{if◌then◌else◌, ◌==◌, ◌<◌, ◌≤◌, ℕ, ◌+◌, ◌-◌, ◌^◌, ◌%◌, Bool, true, false, List, [], ◌∷◌, Result, Ok, Err, ok_or, bit_and, bit_or}
 use Rattle.its_word.specs.Word.{left_of, right_of, pair_of}
@@ -52,8 +53,8 @@ without flags mask = flags - bit_and flags mask
 abbrev pub is_on : ℕ → ℕ → Bool
 is_on flags mask = if bit_and flags mask == 0 then false else true
 
--- an instruction that completes: the stores that it makes, the flags that it sets, and the PC after it.
--- First part done is cleared
+-- an instruction that completes: the stores that it makes, the flags that it sets, and the PC after
+-- it. First part done is cleared
 abbrev pub completes : Context → List Store → ℕ → ℕ → Plan
 completes x stores set pc = record {
   stores = record { items = stores };
@@ -62,7 +63,7 @@ completes x stores set pc = record {
   pending = 0;
 }
 
--- the same, on to the next instruction
+-- an instruction that completes, and goes on to the next one
 abbrev pub next : Context → List Store → ℕ → Plan
 next x stores set = completes x stores set (x.pc + 1)
 
@@ -104,7 +105,8 @@ worked_to x Immediate w = to x.a w ∷ []
 worked_to x Memory w = to x.e w ∷ []
 worked_to x Both w = to x.e w ∷ to x.a w ∷ []
 
--- a result of two words: to AC and AC+1; of mode Memory the first alone, to C(E); of mode Both to all three
+-- a result of two words: to AC and AC+1; of mode Memory the first alone, to C(E); of mode Both to
+-- all three
 unfoldable pub two_to : Context → Mode → ℕ → ℕ → List Store
 two_to x Basic w v = to x.a w ∷ to (next_a x) v ∷ []
 two_to x Immediate w v = to x.a w ∷ to (next_a x) v ∷ []

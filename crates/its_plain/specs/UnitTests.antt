@@ -1,5 +1,5 @@
--- Comparisons, counts and tests (processor reference manual, "Arithmetic testing" and "Logical testing
--- and modification").
+-- Comparisons, counts and tests (processor reference manual, "Arithmetic testing" and "Logical
+-- testing and modification").
 -- A promise rests on this.
 use Rattle.std.specs.Prelude.{ℕ, ◌-◌, ◌^◌, [], ◌∷◌, Result, Ok}
 use Rattle.its_word.specs.Word.{pair_of}
@@ -21,15 +21,17 @@ use Rattle.its_plain.specs.UnitMoves.{swapped}
 abbrev pub minus_one : ℕ
 minus_one = 2 ^ 36 - 1
 
--- AOJ, SOJ: a sum to AC, and a jump by it; AOS, SOS: to C(E), and to AC if A is not 0, and a skip by it
+-- AOJ, SOJ: a sum to AC, and a jump by it; AOS, SOS: to C(E), and to AC if A is not 0, and a skip
+-- by it
 abbrev pub counts_jump : Context → ℕ → Result2 → Plan
 counts_jump x k r = jump x (to x.a r.first ∷ []) r.flags (compares_of k r.first 0)
 
 abbrev pub counts_skip : Context → ℕ → Result2 → Plan
 counts_skip x k r = skip x (to x.e r.first ∷ to_ac_but_0 x r.first) r.flags (compares_of k r.first 0)
 
--- 300 CAI: AC with 0,,E; 310 CAM: AC with C(E); 320 JUMP: AC with 0; 330 SKIP: C(E), to AC if A is not 0, with 0; 340
--- AOJ, 360 SOJ: AC plus 1, minus 1, with carries; 350 AOS, 370 SOS: the same on C(E)
+-- 300 CAI: AC with 0,,E; 310 CAM: AC with C(E); 320 JUMP: AC with 0; 330 SKIP: C(E), to AC if A is
+-- not 0, with 0; 340 AOJ, 360 SOJ: AC plus 1, minus 1, with carries; 350 AOS, 370 SOS: the same on
+-- C(E)
 unfoldable pub compare_row : Core → Context → CompareOp → ℕ → Planned
 compare_row c x Cai k = Ok (skip x [] 0 (compares_of k (ac c x) (immediate x)))
 compare_row c x Cam k = given (read_of c x.e) (λ w. Ok (skip x [] 0 (compares_of k (ac c x) w)))

@@ -1,5 +1,5 @@
--- What a call looks at as it decides: its own job, the job that it reaches into, of all jobs their names,
--- superiors and channels, what all jobs share, and how many jobs there can be.
+-- What a call looks at as it decides: its own job, the job that it reaches into, of all jobs their
+-- names, superiors and channels, what all jobs share, and how many jobs there can be.
 -- A promise rests on this.
 use Rattle.std.specs.Prelude.{ℕ, Option, Some, None, List, option_map}
 use Rattle.its_plain.specs.Machine.{Chan, File, Console, Pipe, Whole, Machine, mapped, limit}

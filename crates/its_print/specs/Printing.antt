@@ -101,8 +101,8 @@ reason_name reasons.Exists = codes "EXISTS"
 reason_name reasons.Full = codes "FULL"
 reason_name reasons.Cut = codes "CUT"
 
--- the fields of a job after its slot: names, superior, console, RUN or STOP, PC word, pending words,
--- masks and deferrals
+-- the fields of a job after its slot: names, superior, console, RUN or STOP, PC word, pending
+-- words, masks and deferrals
 abbrev pub job_fields : JobShow → List (List ℕ)
 job_fields j =
     octal12_of j.u ∷ octal12_of j.j ∷ number_or_dash j.sup ∷ number_or_dash j.con ∷ run_or_stop j.run ∷ octal12_of j.pc
@@ -117,7 +117,8 @@ symbol_or_dashes None = codes "-" ∷ codes "-" ∷ []
 abbrev pub symbol_fields : ℕ → Option (ℕ × ℕ) → List (List ℕ)
 symbol_fields v symbol = if v == 2 then symbol_or_dashes symbol else []
 
--- the fields of a peek after its slot: state, call, unwinding steps, two words at arguments and the held byte
+-- the fields of a peek after its slot: state, call, unwinding steps, two words at arguments and the
+-- held byte
 abbrev pub peek_fields : Peek → List (List ℕ)
 peek_fields p = state_name p.state ∷ word_or_dash p.name ∷ digits_of p.left ∷ word_or_dash p.a ∷ word_or_dash p.b ∷ word_or_dash p.h ∷ []
 

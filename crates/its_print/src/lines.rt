@@ -1,3 +1,5 @@
+//! The text of each line of a transcript.
+
 ghost use Rattle.std.specs.Prelude.{◌≡◌, ◌≤◌, ◌<◌, ◌+◌, [], length};
 ghost use Rattle.arrayvec.specs.ArrayVec.{array_vec_len};
 ghost use Rattle.its_word.specs.Limits.{slots};
@@ -125,7 +127,8 @@ fn print_listed(s: Slot, a: u32, word: Word, out: &mut ArrayVec<u8, 2048>)
     out.push(b'\n');
 }
 
-/// `S s u j sup con run pc p1 p2 m1 m2 d1 d2`: what STATE shows of slot `s`. In version 2 the symbol follows it.
+/// `S s u j sup con run pc p1 p2 m1 m2 d1 d2`: what STATE shows of slot `s`. In version 2 the
+/// symbol follows it.
 fn print_state(s: Slot, show: &JobShow, version: u8, out: &mut ArrayVec<u8, 2048>)
     requires { out.old.items ≡ [] }
     ensures text { out.new.items ≡ text_of_line (State version s show.now) }

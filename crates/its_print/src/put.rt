@@ -34,7 +34,8 @@ pub fn put_number(out: &mut ArrayVec<u8, 2048>, n: u64)
     put_digits(out, n);
 }
 
-/// The digits of a number, without leading zeros and with no space before them. Most numbers have one or two.
+/// The digits of a number, without leading zeros and with no space before them. Most numbers have
+/// one or two.
 #[inline]
 #[tactic(auto, using(its_word::proofs::DigitLaws::digits_below_8, crate::proofs::PutLaws::one_digit, crate::proofs::PutLaws::two_digits, crate::proofs::PutLaws::two_counted))]
 fn put_digits(out: &mut ArrayVec<u8, 2048>, n: u64)
@@ -52,7 +53,7 @@ fn put_digits(out: &mut ArrayVec<u8, 2048>, n: u64)
     }
 }
 
-/// The same of any number.
+/// The digits of any number, without leading zeros.
 #[tactic(auto, using(its_word::proofs::DigitLaws::digits_below_8, crate::proofs::PutLaws::one_digit, crate::proofs::PutLaws::more_digits, crate::proofs::PutLaws::last_digit))]
 fn put_all_digits(out: &mut ArrayVec<u8, 2048>, n: u64)
     requires room { array_vec_len out.old + length (digits_of n) ≤ 2048 }

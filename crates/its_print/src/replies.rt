@@ -1,3 +1,5 @@
+//! `Reply`: a line of a transcript as a value.
+
 use super::runs::Run;
 use its_records::{FileShow, JobShow, Peek, Reason};
 use its_word::{ConsoleNumber, Slot, Word};

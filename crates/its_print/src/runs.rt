@@ -1,3 +1,5 @@
+//! Letters of a `T` line that are alike in a row.
+
 use its_records::Pace;
 
 /// A tick, and how many more follow it with the same letter.

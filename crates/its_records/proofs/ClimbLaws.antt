@@ -1,5 +1,5 @@
--- Climbing from a job to its superior, and so on: what a removal leaves, and that as many steps as there are slots are
--- enough.
+-- Climbing from a job to its superior, and so on: what a removal leaves, and that as many steps as
+-- there are slots are enough.
 use Rattle.std.specs.Prelude.{if◌then◌else◌, ◌≡◌, ◌≢◌, ◌≤◌, ◌<◌, ◌+◌, ◌==◌, ◌||◌, ◌&&◌, not, ℕ, zero, suc, Bool, true, false, Option, Some, None, IfSome, refl}
 use Rattle.std.proofs.Common.{sym, ◌∙◌, ap, subst, arith, inl, inr, eq-eqb}
 use Rattle.std.proofs.lemmas.Bool.{cases_Bool, cases_eq, ne_eqb}

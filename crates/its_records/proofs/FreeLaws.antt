@@ -1,5 +1,5 @@
--- Least free slots of functions that are alike, what they say of the slot, whether no slot has a job, and how many slots
--- jobs can have.
+-- Least free slots of functions that are alike, what they say of the slot, whether no slot has a
+-- job, and how many slots jobs can have.
 use Rattle.std.specs.Prelude.{if◌then◌else◌, ◌==◌, ◌≡◌, ◌≢◌, ◌≤◌, ◌<◌, ◌+◌, ℕ, zero, suc, true, false, Option, Some, None, is_some, cond, refl}
 use Rattle.std.proofs.Common.{sym, ◌∙◌, ap, arith, inl, inr}
 use Rattle.std.proofs.lemmas.Bool.{cases_eq}

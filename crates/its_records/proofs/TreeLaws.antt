@@ -36,7 +36,8 @@ pub least_end : {X : Type 0} (jobs : ℕ → Option X) (limit k : ℕ) → limit
 unfolding free_from
 least_end jobs limit k l = let e : limit - k ≡ 0 = omega arith in ap (λ n. free_from jobs n k) e
 
--- whether no slot has a job: before the first is looked at, if slot k has one, if it has none, and at the end
+-- whether no slot has a job: before the first is looked at, if slot k has one, if it has none, and
+-- at the end
 pub none_start : {X : Type 0} (jobs : ℕ → Option X) → none_from jobs (slots - 0) 0 ≡ no_job jobs
 unfolding no_job
 none_start jobs = let e : slots - 0 ≡ slots = omega arith in ap (λ n. none_from jobs n 0) e

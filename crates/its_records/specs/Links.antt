@@ -1,4 +1,5 @@
--- Links between jobs: two names, an end for reading and an end for writing (docs/CALLS.md, "Links").
+-- Links between jobs: two names, an end for reading and an end for writing (docs/CALLS.md,
+-- "Links").
 -- A promise rests on this.
 use Rattle.std.specs.Prelude.{if◌then◌else◌, ◌==◌, ◌&&◌, ◌||◌, ℕ, Bool, true, false}
 use Rattle.its_records.specs.declared.link.End.{End}

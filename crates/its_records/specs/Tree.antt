@@ -24,7 +24,8 @@ none_from jobs (suc n) k = cond (is_some (jobs k)) false (none_from jobs n (k + 
 unfoldable pub no_job : {X : Type 0} → (ℕ → Option X) → Bool
 no_job jobs = none_from jobs slots 0
 
--- a job as it is made: stopped, with closed channels; its names and console are given, all else is 0
+-- a job as it is made: stopped, with closed channels; its names and console are given, all else is
+-- 0
 unfoldable pub fresh_job : ℕ → ℕ → Option ℕ → Job
 fresh_job u j console = record {
   pc = 0;
@@ -42,13 +43,15 @@ fresh_job u j console = record {
   channels = replicate 16 Closed;
 }
 
--- one of the jobs that are reached from a slot in n steps or fewer, each from a job to its superior, is that of slot s
+-- one of the jobs that are reached from a slot in n steps or fewer, each from a job to its
+-- superior, is that of slot s
 unfoldable pub climbs_to : (ℕ → Option ℕ) → ℕ → ℕ → Option ℕ → Bool
 climbs_to superiors s zero o = false
 climbs_to superiors s (suc n) (Some k) = (k == s) || climbs_to superiors s n (superiors k)
 climbs_to superiors s (suc n) None = false
 
--- the job of slot k is below that of slot s: that one is reached from k through superiors. No job is below itself
+-- the job of slot k is below that of slot s: that one is reached from k through superiors. No job
+-- is below itself
 unfoldable pub is_below : (ℕ → Option ℕ) → ℕ → ℕ → Bool
 is_below superiors s k = not (k == s) && climbs_to superiors s slots (superiors k)
 

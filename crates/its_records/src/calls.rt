@@ -1,3 +1,6 @@
+//! What a call asks for: its site, its argument block and its arguments; what is pending of a call;
+//! and the letters of ticks.
+
 ghost use Rattle.std.specs.Prelude.{◌≡◌, None};
 ghost use Rattle.its_records.specs.declared.calls.Owed.TheVariants.{GiveBack};
 ghost use Rattle.its_records.specs.declared.calls.Pace.TheVariants.{Off};
@@ -6,8 +9,8 @@ ghost use Rattle.its_records.specs.declared.calls.Arg.TheVariants.{Output};
 use arrayvec::ArrayVec;
 use its_word::{Location, Word};
 
-/// The first word of a call's block, the call's name, and its argument words, of which at most 8 are
-/// read.
+/// The first word of a call's block, the call's name, and its argument words, of which at most 8
+/// are read.
 pub type Block = ArrayVec<Word, 10>;
 
 /// What an argument word is, by its bits 6 to 8; `Other` is no argument.
@@ -72,7 +75,8 @@ impl Default for Operand {
 }
 
 /// A decoded call: its name, 0 or the number 1 to 3 of an error of its decoding, its arguments, the
-/// places of its decode words in the order of reading, and the places of its input and control words.
+/// places of its decode words in the order of reading, and the places of its input and control
+/// words.
 #[derive(Debug, PartialEq, Eq, Drop)]
 pub struct Ask {
     pub name: Word,
@@ -85,9 +89,9 @@ pub struct Ask {
     pub operand: ArrayVec<u32, 16>,
 }
 
-/// The site at which a job enters the monitor: the PC of the call or of the XCT that began the chain, the effective
-/// address, the channel of `.IOT`, the budget of indirect words that is used, and the places of the decode words so
-/// far.
+/// The site at which a job enters the monitor: the PC of the call or of the XCT that began the
+/// chain, the effective address, the channel of `.IOT`, the budget of indirect words that is used,
+/// and the places of the decode words so far.
 #[derive(Debug, PartialEq, Eq, Drop)]
 pub struct Site {
     pub pc: u32,
@@ -129,8 +133,8 @@ impl Default for Owed {
     }
 }
 
-/// What a tick of a job did: a step of the plain machine (`*`), work that the plain machine does not see (`.`), a
-/// wait (`w`), or nothing, because the slot is empty or its job is stopped (`-`).
+/// What a tick of a job did: a step of the plain machine (`*`), work that the plain machine does
+/// not see (`.`), a wait (`w`), or nothing, because the slot is empty or its job is stopped (`-`).
 #[derive(Clone, Copy, Debug, PartialEq, Eq)]
 pub enum Pace {
     Step,

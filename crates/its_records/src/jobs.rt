@@ -1,8 +1,11 @@
+//! A job: its registers, and its channels.
+
 use its_word::Word;
 
-/// What a channel of a job is on. `at` is a position in words; `file` and `draft` are the numbers of a file and of a
-/// draft; `slot` is that of an inferior, which may be written if `write` holds; `link` is the number of a link, to whose
-/// writing end the channel belongs if `write` holds, else to its reading end.
+/// What a channel of a job is on. `at` is a position in words; `file` and `draft` are the numbers
+/// of a file and of a draft; `slot` is that of an inferior, which may be written if `write` holds;
+/// `link` is the number of a link, to whose writing end the channel belongs if `write` holds, else
+/// to its reading end.
 #[derive(Clone, Copy, Debug, PartialEq, Eq)]
 pub enum Channel {
     Closed,
@@ -14,9 +17,9 @@ pub enum Channel {
     Link { link: u8, write: bool },
 }
 
-/// The registers of a job: PC, flags (bits of the left half of a PC word), the stopped mark, pending words, masks and
-/// deferrals of its interrupts, its two names in SIXBIT, its console and its channels. Its core and its place in the
-/// tree of jobs are elsewhere.
+/// The registers of a job: PC, flags (bits of the left half of a PC word), the stopped mark,
+/// pending words, masks and deferrals of its interrupts, its two names in SIXBIT, its console and
+/// its channels. Its core and its place in the tree of jobs are elsewhere.
 #[derive(Clone, Copy, Debug, PartialEq, Eq)]
 pub struct Job {
     pub pc: u32,

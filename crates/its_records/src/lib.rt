@@ -1,9 +1,16 @@
-//! The records that the other crates share: the events of a session and how a line is refused, calls and what they hold, jobs and their
-//! channels, links between jobs, and what is shown of a job, a file or a call in progress.
+//! The records that other crates share: events, calls, jobs, links, and what is shown.
 //!
 //! Proved: the reason of a refusal (`Refusal::reason`), by its definition.
+//!
+//! Tests: test_lines, test_calls.
 #![tactic(auto)]
 
+// The files:
+// - `calls.rt`: what a call asks for, and what is pending of it
+// - `jobs.rt`: a job and its channels
+// - `link.rt`: links between jobs and their ends
+// - `session.rt`: the events of a session, and why a line is refused
+// - `show.rt`: what is shown of a job, a file or a call in progress
 mod calls;
 mod jobs;
 mod link;

@@ -1,3 +1,5 @@
+//! Links between jobs: how many there are, how many words one holds, and its two ends.
+
 use its_word::Word;
 
 /// How many links there can be. Links go by the numbers below it.
@@ -6,8 +8,8 @@ pub const LINKS: usize = 16;
 /// How many words a link holds at most.
 pub const LINK_WORDS: usize = 64;
 
-/// One end of a link: nobody has opened it yet, it is open at a channel of the job of a slot, or it was open and is
-/// closed.
+/// One end of a link: nobody has opened it yet, it is open at a channel of the job of a slot, or it
+/// was open and is closed.
 #[derive(Clone, Copy, Debug, PartialEq, Eq)]
 pub enum End {
     Unopened,

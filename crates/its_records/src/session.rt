@@ -1,11 +1,13 @@
+//! The events of a session, and why a line is refused.
+
 ghost use Rattle.std.specs.Prelude.{◌≡◌};
 ghost use Rattle.its_records.specs.Refusals.{reason_of};
 
 use arrayvec::ArrayVec;
 use its_word::{ConsoleNumber, Slot, Word};
 
-/// A line of a session, read. Addresses `a` are below 2^18, slots `s` are below 64 in version 1 of the
-/// session text and below 96 in version 2; docs/SESSION.md has the numbers of each line.
+/// A line of a session, read. Addresses `a` are below 2^18, slots `s` are below 64 in version 1 of
+/// the session text and below 96 in version 2; docs/SESSION.md has the numbers of each line.
 #[derive(Debug, PartialEq, Eq, Drop)]
 pub enum Event {
     Nothing,
@@ -107,8 +109,8 @@ pub enum Event {
     End,
 }
 
-/// The place of a line in a session: it is line 1, which may have the version; or outside any block, after LOAD and
-/// before its GO, or after FILE and before its EOF.
+/// The place of a line in a session: it is line 1, which may have the version; or outside any
+/// block, after LOAD and before its GO, or after FILE and before its EOF.
 #[derive(Clone, Copy, Debug, PartialEq, Eq)]
 pub enum Place {
     First,
@@ -117,8 +119,8 @@ pub enum Place {
     File,
 }
 
-/// Why a line is no event: it has more than 255 bytes, it is no line of the table or none that may occur at its
-/// place, one of its numbers is outside its range, or its console is above 7.
+/// Why a line is no event: it has more than 255 bytes, it is no line of the table or none that may
+/// occur at its place, one of its numbers is outside its range, or its console is above 7.
 #[derive(Clone, Copy, Debug, PartialEq, Eq)]
 pub enum Bad {
     Long,

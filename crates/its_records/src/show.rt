@@ -1,8 +1,10 @@
+//! What the lines STATE, SHOW and PEEK show.
+
 use its_word::Word;
 
-/// What STATE shows of a job: its names, superior and console, whether it runs, its PC word, its pending words, masks
-/// and deferrals; and of its symbols the one nearest to its PC, if there is one at an address at most the PC: its
-/// name, and how far the PC is past it.
+/// What STATE shows of a job: its names, superior and console, whether it runs, its PC word, its
+/// pending words, masks and deferrals; and of its symbols the one nearest to its PC, if there is
+/// one at an address at most the PC: its name, and how far the PC is past it.
 #[derive(Clone, Copy, Debug, PartialEq, Eq)]
 pub struct JobShow {
     pub u: Word,

@@ -12,12 +12,13 @@ abbrev pub or_else : Option ℕ → Option ℕ → Option ℕ
 or_else (Some s) o = Some s
 or_else None o = o
 
--- whose turn comes after that of the last slot: the slots after it are looked at first, and then those from slot 0 up to it, with
--- itself as the final one
+-- whose turn comes after that of the last slot: the slots after it are looked at first, and then
+-- those from slot 0 up to it, with itself as the final one
 unfoldable pub robin : ℕ → (ℕ → Bool) → ℕ → Option ℕ
 robin n runs last = or_else (first_running runs (n - (last + 1)) (last + 1)) (first_running runs (last + 1) 0)
 
--- how many slots lie between the last one and slot s, on the way around the circle: none before the next one, n - 1 before itself
+-- how many slots lie between the last one and slot s, on the way around the circle: none before the
+-- next one, n - 1 before itself
 abbrev pub between : ℕ → ℕ → ℕ → ℕ
 between n last s = cond (nat_lt last s) (s - (last + 1)) (s + n - (last + 1))
 

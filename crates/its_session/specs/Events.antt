@@ -16,14 +16,15 @@ use Rattle.its_session.specs.Grammar.{line_event}
 abbrev pub most_lines : ℕ
 most_lines = 2 ^ 20
 
--- what an open line at the end of the bytes gives: a line, unless it is empty or the bytes were cut off there
+-- what an open line at the end of the bytes gives: a line, unless it is empty or the bytes were cut
+-- off there
 abbrev pub last_line : Bool → List ℕ → List (List ℕ)
 last_line whole [] = []
 last_line true (b ∷ bs) = (b ∷ bs) ∷ []
 last_line false (b ∷ bs) = []
 
--- the lines of bytes, which LF ends, when some bytes are kept of a line that has begun; `whole` says that the input
--- ends with these bytes
+-- the lines of bytes, which LF ends, when some bytes are kept of a line that has begun; `whole`
+-- says that the input ends with these bytes
 abbrev pub lines_from : Bool → List ℕ → List ℕ → List (List ℕ)
 lines_from whole kept [] = last_line whole kept
 lines_from whole kept (b ∷ bs) = if b == 10 then kept ∷ lines_from whole [] bs else lines_from whole (kept ++ b ∷ []) bs
@@ -62,15 +63,16 @@ item_then (Ok events.End) rest = Read events.End ∷ []
 item_then (Ok e) rest = Read e ∷ rest e
 item_then (Err bad) rest = Unread (unread_reason bad) ∷ []
 
--- the items of lines from line number n on, at a place of a session of version v: up to END, the first line that is not read, or
--- the line past the most
+-- the items of lines from line number n on, at a place of a session of version v: up to END, the
+-- first line that is not read, or the line past the most
 abbrev pub items_from : Bool → ℕ → Place → ℕ → List (List ℕ) → List Item
 items_from whole n place v [] = end_of whole place
 items_from whole n place v (line ∷ rest) =
     if nat_lt most_lines n then Beyond ∷ []
     else item_then (line_event place v line) (λ e. items_from whole (n + 1) (place_after place e) (version_after v e) rest)
 
--- the events of a session of these bytes, which is of version 1 unless its first line says otherwise
+-- the events of a session of these bytes, which is of version 1 unless its first line says
+-- otherwise
 unfoldable pub events_of : List ℕ → List Item
 events_of bytes = items_from true 1 places.First 1 (lines_from true [] bytes)
 

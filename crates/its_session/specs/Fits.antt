@@ -1,4 +1,5 @@
--- The events of lines that can be read: their fields agree with the table of lines (docs/SESSION.md).
+-- The events of lines that can be read: their fields agree with the table of lines
+-- (docs/SESSION.md).
 -- No promise rests on this.
 use Rattle.std.specs.Prelude.{◌≡◌, ℕ, ◌+◌, ◌<◌, ◌≤◌, ◌^◌, true, List, length, IsTrue, IfSome, All}
 use Rattle.its_word.specs.Text.{is_name, sixbit_of}
@@ -18,7 +19,8 @@ pub record IsNameWord (w : ℕ) : Type 0 where
 abbrev pub SpanFits : ℕ → ℕ → ℕ → ℕ → Type 0
 SpanFits v s a n = (s ≤ last_slot v) × (1 ≤ n) × (n ≤ 8) × (a + n ≤ 2 ^ 18)
 
--- the numbers of each event of a session of version v lie in the ranges of its line, and its names are names
+-- the numbers of each event of a session of version v lie in the ranges of its line, and its names
+-- are names
 abbrev pub EventFits : ℕ → Event → Type 0
 EventFits v events.Nothing = Unit {0}
 EventFits v (events.Version w) = (1 ≤ w) × (w ≤ 2)

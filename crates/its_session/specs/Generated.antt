@@ -1,5 +1,5 @@
--- The generated session of `its gen` (docs/SESSION.md, "its gen"): eight jobs, each of which echoes what is typed at a
--- console of its own. Numbers of the text are octal.
+-- The generated session of `its gen` (docs/SESSION.md, "its gen"): eight jobs, each of which echoes
+-- what is typed at a console of its own. Numbers of the text are octal.
 -- No promise rests on this.
 use Rattle.std.specs.Prelude.{if◌then◌else◌, ℕ, zero, suc, ◌+◌, ◌*◌, ◌%◌, ◌==◌, Some, List, [], ◌∷◌, ◌++◌, codes}
 use Rattle.its_word.specs.Text.{sixbit_of}
@@ -19,7 +19,8 @@ jobs = 8
 abbrev pub placed : ℕ → List ℕ → Event
 placed a ws = events.Words a (record { items = ws })
 
--- `LOAD U E c`, the program, which opens its console for input and for output and then echoes for ever, and `GO 1000`
+-- `LOAD U E c`, the program, which opens its console for input and for output and then echoes for
+-- ever, and `GO 1000`
 unfoldable pub started : ℕ → List Event
 started c =
     events.Load (sixbit_of (codes "U")) (sixbit_of (codes "E")) (Some c)
@@ -59,7 +60,8 @@ round r = for_each jobs (echoed r)
 unfoldable pub all_emptied : List Event
 all_emptied = for_each jobs emptied
 
--- the session of n rounds: the jobs are started, the rounds are made, the consoles are emptied, and `END`
+-- the session of n rounds: the jobs are started, the rounds are made, the consoles are emptied, and
+-- `END`
 unfoldable pub generated_session : ℕ → List Event
 generated_session n = all_started ++ (for_each n round ++ (all_emptied ++ events.End ∷ []))
 

@@ -80,7 +80,8 @@ console_given w = if is_dash w then None else Some (octal_value w)
 abbrev pub with_count : ℕ → List (List ℕ) → Result Event Bad → Result Event Bad
 with_count most ws line = if nat_le 1 (length ws) && nat_le (length ws) most then line else Err Syntax
 
--- The table of lines: what may follow each first word, a definition a row. The version v counts if a slot is named.
+-- The table of lines: what may follow each first word, a definition a row. The version v counts if
+-- a slot is named.
 
 -- `VERSION v`, 1 or 2
 unfoldable pub version_line : List (List ℕ) → Result Event Bad
@@ -228,7 +229,8 @@ kind_of w =
     else (if is_place w then Some kinds.Words
     else None))))))))))))))))))))))))
 
--- the place in which each kind of line may occur: line 1, after LOAD until GO, after FILE until EOF, or elsewhere
+-- the place in which each kind of line may occur: line 1, after LOAD until GO, after FILE until
+-- EOF, or elsewhere
 abbrev pub place_of_kind : Kind → Place
 place_of_kind kinds.Version = places.First
 place_of_kind kinds.Words = places.Load

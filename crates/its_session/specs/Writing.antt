@@ -18,7 +18,8 @@ abbrev pub console_text : Option ℕ → List ℕ
 console_text None = codes "-"
 console_text (Some c) = digits_of c
 
--- an event's line: an address has six digits, a machine word twelve, and any other number no leading zeros
+-- an event's line: an address has six digits, a machine word twelve, and any other number no
+-- leading zeros
 abbrev pub text_of_event : Event → List ℕ
 text_of_event events.Nothing = []
 text_of_event (events.Version v) = spaced (codes "VERSION") (digits_of v ∷ [])

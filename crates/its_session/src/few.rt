@@ -1,4 +1,5 @@
-//! The words of a line that has few: an array for the words of any line costs more to make than all else that is done to read one.
+//! The words of a line that has few: an array for the words of any line costs more to make than all
+//! else that is done to read one.
 ghost use Rattle.std.specs.Prelude.{◌≡◌, ◌<◌, ◌+◌, ◌++◌, ◌==◌, [], true, length, map, position, IfNone, IfSome};
 ghost use Rattle.its_word.specs.Text.{word_of_run, words_of};
 
@@ -7,7 +8,8 @@ use arrayvec::ArrayVec;
 /// The words of a line that has few: an address, and the 16 words that may follow it.
 pub type Few<'a> = ArrayVec<&'a [u8], 17>;
 
-/// Puts the words of a line, its runs of bytes other than space, into an empty array; false if there are too many.
+/// Puts the words of a line, its runs of bytes other than space, into an empty array; false if
+/// there are too many.
 pub fn few_words<'a>(line: &'a [u8], words: &mut Few<'a>) -> bool
     requires empty { words.old.items ≡ [] }
     ensures { result ≡ true → map (λ w. w.now) words.new.items ≡ words_of line.now }

@@ -70,7 +70,7 @@ pub fn generated(n: u32, k: u32) -> Option<Event>
     line(u64::from(n), u64::from(k))
 }
 
-/// The same, for numbers that are far from the largest.
+/// The k-th line of the generated session of n rounds, if both numbers are below 2^32.
 #[tactic(auto, using(crate::proofs::GeneratedLaws::in_start, crate::proofs::GeneratedLaws::in_rounds, crate::proofs::GeneratedLaws::in_end))]
 fn line(n: u64, k: u64) -> Option<Event>
     requires rounds { n < 2 ^ 32 }
@@ -122,7 +122,8 @@ fn placed(a: u32, values: &[u64]) -> Event
     Event::Words { a, words }
 }
 
-/// How many lines the rounds before round r have: three for each job, and one more for every third of these jobs.
+/// How many lines the rounds before round r have: three for each job, and one more for every third
+/// of these jobs.
 fn lines_before(r: u64) -> u64
     requires { r < 2 ^ 32 }
     ensures { result ≡ (80 * r + 1) / 3 }

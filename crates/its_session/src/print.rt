@@ -12,8 +12,9 @@ use arrayvec::ArrayVec;
 use its_records::Event;
 use its_word::{ConsoleNumber, Slot, Word, octal6};
 
-/// Writes the line of an event of version 2, without LF: addresses with six digits, machine words with twelve. `read_line` reads it in version 2 as that event at
-/// the event's place, and `Nothing` at any place. The event's numbers and names are in the ranges of its line.
+/// Writes the line of an event of version 2, without LF: addresses with six digits, machine words
+/// with twelve. `read_line` reads it in version 2 as that event at the event's place, and `Nothing`
+/// at any place. The event's numbers and names are in the ranges of its line.
 #[tactic(auto, using(crate::proofs::RoundTrip::reads_back, crate::proofs::RoundTrip::reads_anywhere))]
 pub fn print_event(e: &Event, out: &mut ArrayVec<u8, 256>)
     requires empty { out.old.items ≡ [] }

@@ -12,9 +12,10 @@ use arrayvec::ArrayVec;
 use its_records::{Bad, Event, Place};
 use its_word::words;
 
-/// The event of a line (without its LF) at a place of a session of this version, or the first reason why it is none: `Long` for more
-/// than 255 bytes, `Syntax` for a line that may not occur there, `Range` for a number outside its range, `NoConsole` for a console
-/// above 7. What is read fits the table of lines, and may occur there.
+/// The event of a line (without its LF) at a place of a session of this version, or the first
+/// reason why it is none: `Long` for more than 255 bytes, `Syntax` for a line that may not occur
+/// there, `Range` for a number outside its range, `NoConsole` for a console above 7. What is read
+/// fits the table of lines, and may occur there.
 #[tactic(auto, using(crate::proofs::FitsLaws::words_fit, crate::proofs::FitsLaws::words_stand), unfolding(crate::specs::Grammar::line_event))]
 pub fn read_line(line: &[u8], place: Place, version: u8) -> Result<Event, Bad>
     ensures event { result ≡ line_event place version line.now }
@@ -35,7 +36,8 @@ pub fn read_line(line: &[u8], place: Place, version: u8) -> Result<Event, Bad>
     }
 }
 
-/// The event of a line of many words. Its array for them is made here alone, since most lines have few.
+/// The event of a line of many words. Its array for them is made here alone, since most lines have
+/// few.
 #[inline(never)]
 fn event_of_many(line: &[u8], place: Place, version: u8) -> Result<Event, Bad>
     requires { length line.now ≤ 255 }

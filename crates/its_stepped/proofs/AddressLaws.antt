@@ -36,7 +36,7 @@ use Rattle.its_plain.proofs.UnitLaws.{unit_keeps}
 use Rattle.its_stepped.specs.Address.{Addressed}
 use Rattle.its_stepped.proofs.TestLaws.{by_test, first_holds}
 use Rattle.its_plain.proofs.StepLaws.{AllOf, step_has}
-use Rattle.its_stepped.proofs.CallWays.{Ways, Apart, call_ways}
+use Rattle.its_stepped.proofs.CallWays.{Any, Ways, Apart, call_ways}
 
 -- at the start of a session
 pub addressed_starts : Addressed no_machine
@@ -185,7 +185,7 @@ usrvar_leaves x a = go (party x (input a 0))
     go _ = advanced_addressed 1 x.own.job
 
 -- the ways in which a call goes on or ends
-ways_leave : (x : View) (a : Ask) → x.own.job.pc < 2 ^ 18 → Ways LeavesAddress x a
+ways_leave : (x : View) (a : Ask) → x.own.job.pc < 2 ^ 18 → Ways LeavesAddress Any x a
 ways_leave x a h = record {
   failing = λ k. advanced_addressed 1 x.own.job;
   faulting = λ f. h;
@@ -255,7 +255,7 @@ pub decided_leaves : (x : View) (a : Ask) → x.own.job.pc < 2 ^ 18 → LeavesAd
 unfolding decided
 decided_leaves x a h =
     let o = call_named a.name in
-    by_test LeavesAddress (a.fail == 0) (decided_by x a o) (fails x a a.fail) (λ t. call_ways LeavesAddress x a o (ways_leave x a h) (λ r. tt) (apart_leaves x a h))
+    by_test LeavesAddress (a.fail == 0) (decided_by x a o) (fails x a a.fail) (λ t. call_ways LeavesAddress Any x a o (ways_leave x a h) (λ c i s at write is reaches on. tt) (λ r. tt) (apart_leaves x a h))
     (λ t. advanced_addressed 1 x.own.job)
 
 pub decision_leaves : (m : Machine) (j : ℕ) (q : Whole) (a : Ask) → q.job.pc < 2 ^ 18 → LeavesAddress (decision m j q a)

@@ -1,5 +1,5 @@
--- The state after a line: it is sound, its plain machine is the one after that line, and it has the frames of all slots
--- that the line does not disturb (docs/STEPS.md, "Lines").
+-- The state after a line: it is sound, its plain machine is the one after that line, and it has the
+-- frames of all slots that the line does not disturb (docs/STEPS.md, "Lines").
 use Rattle.std.specs.Prelude.{◌≡◌, ℕ, false, refl}
 use Rattle.std.proofs.Common.{sym, ◌∙◌, ap}
 use Rattle.its_records.specs.declared.session.Event.{Event}

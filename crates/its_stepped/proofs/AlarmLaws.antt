@@ -1,5 +1,5 @@
--- Alarms are to come, through the steps of the plain machine and through its lines; and CLOCK makes the same alarms go on the raw
--- machine as on the plain one.
+-- Alarms are to come, through the steps of the plain machine and through its lines; and CLOCK makes
+-- the same alarms go on the raw machine as on the plain one.
 use Rattle.std.specs.Prelude.{if◌then◌else◌, ◌==◌, ◌≡◌, ◌≤◌, ◌<◌, ◌⊎◌, ℕ, ◌+◌, ◌-◌, ◌*◌, ◌/◌, ◌&&◌, Bool, true, false, Option, Some, None, IfSome, List, [], ◌∷◌, option_map, nat_lt, refl}
 use Rattle.std.proofs.Common.{sym, ◌∙◌, ap, subst, inl, inr, arith}
 use Rattle.std.proofs.Math.Nat.{add-mul, one-mul, lt-div-mul-add}

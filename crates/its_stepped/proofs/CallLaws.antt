@@ -1,6 +1,7 @@
--- A call with pending words decides the same on its raw job as on the job after the stores of these words. SLEEP asks
--- of its core only whether its word can be stored, which stores do not change; so does SIOT, except for its byte's
--- word, which is outside the footprint if it asks for it; the other calls have no pending words.
+-- A call with pending words decides the same on its raw job as on the job after the stores of these
+-- words. SLEEP asks of its core only whether its word can be stored, which stores do not change; so
+-- does SIOT, except for its byte's word, which is outside the footprint if it asks for it; the
+-- other calls have no pending words.
 use Rattle.std.specs.Prelude.{◌≡◌, ◌≤◌, ℕ, Bool, true, false, not, Option, Some, None, List, [], ◌∷◌, slice_get, is_some, unwrap_or, refl}
 use Rattle.std.proofs.Common.{sym, ◌∙◌, ap, inl, inr, arith}
 use Rattle.std.proofs.lemmas.Bool.{cases_Bool}

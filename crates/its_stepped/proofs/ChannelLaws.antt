@@ -1,12 +1,11 @@
 -- What the tests of a call say of its channel, and what a search for a link finds.
 use Rattle.std.specs.Prelude.{if◌then◌else◌, ◌≡◌, ◌≢◌, ◌<◌, ◌+◌, ◌&&◌, ℕ, zero, suc, Bool, true, false, not, Option, Some, None, cond, find, nat_lt, refl}
 use Rattle.std.specs.List.{range_with_len}
-use Rattle.std.proofs.Common.{sym, ◌∙◌, ap, subst, arith}
+use Rattle.std.proofs.Common.{sym, ◌∙◌, ap, arith}
 use Rattle.std.proofs.lemmas.Bool.{not-false}
 use Rattle.its_records.specs.Links.{most_links}
 use Rattle.its_plain.specs.CallBasic.{channel_at, is_shut}
 use Rattle.its_plain.specs.CallLink.{has_link_names, link_named, can_open}
-use Rattle.its_plain.specs.Integrity.{IsNamed}
 use Rattle.its_plain.specs.Machine.{Chan, Shut, Pipe}
 
 -- a channel that is open has one of the 16 numbers
@@ -39,19 +38,10 @@ found_in_range p k (suc n) s h = go (p k) refl h (λ later. found_in_range p (k 
     go true e here later = let same : k ≡ s = cc in (ap p (sym same) ∙ e, omega arith)
     go false e here later = let more = later here in (more.0, let l = more.1 in omega arith)
 
--- the link of some names
-named_is : (x y : ℕ) (o : Option Pipe) → has_link_names x y o ≡ true → IsNamed x y o
-named_is x y (Some p) h = h
-named_is x y None h = tt
+-- the link of some names has them
+pub named_link : (ls : ℕ → Option Pipe) (x y l : ℕ) → link_named ls x y ≡ Some l → (has_link_names x y (ls l) ≡ true) × (l < most_links)
+named_link ls x y l h = found_in_range (λ k. has_link_names x y (ls k)) 0 most_links l h
 
-pub named_link : (ls : ℕ → Option Pipe) (x y l : ℕ) → link_named ls x y ≡ Some l → IsNamed x y (ls l) × (l < most_links)
-named_link ls x y l h =
-    let found = found_in_range (λ k. has_link_names x y (ls k)) 0 most_links l h in
-    (named_is x y (ls l) found.0, found.1)
-
--- a link that is not there can be opened under any names
-pub absent_named : (x y : ℕ) (o : Option Pipe) → o ≡ None → IsNamed x y o
-absent_named x y o e = subst (IsNamed x y) (sym e) tt
-
+-- both ends of a link that is not there can be opened
 pub absent_opens : (write : Bool) (o : Option Pipe) → o ≡ None → can_open write o ≡ true
 absent_opens write o e = ap (can_open write) e

@@ -1,4 +1,5 @@
--- The clock stays below its end: no step of the plain machine changes it, and of the lines CLOCK alone does.
+-- The clock stays below its end: no step of the plain machine changes it, and of the lines CLOCK
+-- alone does.
 use Rattle.std.specs.Prelude.{◌≡◌, ◌<◌, ℕ, Bool, Some, List, [], ◌∷◌, refl}
 use Rattle.std.proofs.Common.{sym, ◌∙◌, subst, inl, inr}
 use Rattle.its_records.specs.declared.calls.Ask.{Ask}

@@ -1,5 +1,5 @@
--- The console of each job stays one of eight through LOAD and through the steps of the plain machine: a step changes no
--- console, and gives that of its own job to one that it makes.
+-- The console of each job stays one of eight through LOAD and through the steps of the plain
+-- machine: a step changes no console, and gives that of its own job to one that it makes.
 use Rattle.std.specs.Prelude.{if◌then◌else◌, ◌==◌, ◌≡◌, ◌<◌, ℕ, ◌+◌, Bool, true, false, Option, Some, None, IfSome, List, [], ◌∷◌, Result, Ok, Err, option_map, refl}
 use Rattle.std.proofs.Common.{sym, subst, inl, inr}
 use Rattle.std.proofs.lemmas.Bool.{cases_Bool}

@@ -1,4 +1,5 @@
--- What holds of every moment of a run: it is shown of a letter, of a turn and of a line, and then of the run of any lines.
+-- What holds of every moment of a run: it is shown of a letter, of a turn and of a line, and then
+-- of the run of any lines.
 use Rattle.std.specs.Prelude.{◌≡◌, ℕ, zero, suc, Bool, Option, Some, None, List, [], ◌∷◌, ◌++◌, length, drop, unwrap_or, refl}
 use Rattle.std.proofs.Common.{sym, subst}
 use Rattle.its_records.specs.Item.{Item, Read}

@@ -38,8 +38,8 @@ use Rattle.its_stepped.proofs.TickLaws.{told_quiet, seen_at, seen_none, Trying, 
 use Rattle.its_plain.proofs.StepLaws.{transition_delivers}
 use Rattle.its_stepped.proofs.CommitLaws.{Acts}
 
--- a call that has ended has four pending steps at most; then come entry, block, arguments, preparation, and the four
--- quarters of a page. After a part of a call the count begins anew
+-- a call that has ended has four pending steps at most; then come entry, block, arguments,
+-- preparation, and the four quarters of a page. After a part of a call the count begins anew
 abbrev pub cleared : Option ℕ → ℕ
 cleared (Some p) = p
 cleared None = 0
@@ -58,8 +58,8 @@ bound (Some (Ending f)) = 4 - length f.owed.items
 pub record Dotted (d : Dots) (frames : ℕ → Option Frame) : Type 0 where
   pub each : (k : ℕ) → d k ≤ bound (frames k)
 
--- what a row of a tick does to the bounds: it is one more at its own slot for a `.`, and no less for `w` and `-`;
--- and the frames of slots that it does not disturb are as they were
+-- what a row of a tick does to the bounds: it is one more at its own slot for a `.`, and no less
+-- for `w` and `-`; and the frames of slots that it does not disturb are as they were
 abbrev pub OwnDots : Pace → ℕ → ℕ → Type 0
 OwnDots Step b after = Unit {0}
 OwnDots Work b after = b + 1 ≤ after

@@ -1,5 +1,5 @@
--- The alarms that CLOCK makes go: they are the same on the raw machine as on the plain one, before the jobs are unwound as afterwards, and
--- the jobs are then in user mode.
+-- The alarms that CLOCK makes go: they are the same on the raw machine as on the plain one, before
+-- the jobs are unwound as afterwards, and the jobs are then in user mode.
 use Rattle.std.specs.Prelude.{◌≡◌, ℕ, ◌&&◌, Bool, true, false, Option, Some, None, option_map, nat_lt, refl}
 use Rattle.std.specs.List.{range_with_len}
 use Rattle.std.proofs.Common.{sym, ◌∙◌, ap, arith}

@@ -1,4 +1,5 @@
--- The changes of calls on the stepped machine: under the plain view they are those of the plain machine.
+-- The changes of calls on the stepped machine: under the plain view they are those of the plain
+-- machine.
 use Rattle.std.specs.Prelude.{if◌then◌else◌, ◌≡◌, ◌≢◌, ℕ, cond, Bool, true, false, Option, Some, None, List, [], ◌∷◌, ◌++◌, option_map, is_some, refl}
 use Rattle.std.proofs.Common.{sym, ◌∙◌, ap, subst, inl, inr}
 use Rattle.std.proofs.lemmas.Bool.{cases_eq}
@@ -29,8 +30,8 @@ use Rattle.its_stepped.proofs.FrameLaws.{stores_none, seen_superior, seen_channe
 use Rattle.its_stepped.proofs.DebtLaws.{debts_none}
 use Rattle.its_stepped.proofs.JoinedLaws.{opened_link}
 
--- a change of a job that looks at no core and no registers, and leaves them, is the same before and after the pending
--- steps of a frame
+-- a change of a job that looks at no core and no registers, and leaves them, is the same before and
+-- after the pending steps of a frame
 module _ (h : Whole → Whole) (core : (q : Whole) → (h q).core ≡ q.core) (stores : (ss : List Store) (q : Whole) → with_stores ss (h q) ≡ h (with_stores ss q))
     (leaves : (e : Exit) (q : Whole) → after_leave e (h q) ≡ h (after_leave e q)) where
   owed_moves : (os : List Owed) (q : Whole) → after_owed os (h q) ≡ h (after_owed os q)

@@ -1,5 +1,5 @@
--- OPEN, CLOSE and `.IOT` if their device is DSK, ACCESS, FILLEN, DELETE and RENAME do their duty: no close is half made
--- if one of them changes the directory.
+-- OPEN, CLOSE and `.IOT` if their device is DSK, ACCESS, FILLEN, DELETE and RENAME do their duty:
+-- no close is half made if one of them changes the directory.
 use Rattle.std.specs.Prelude.{◌≡◌, ℕ, ◌+◌, ◌%◌, ◌^◌, ◌&&◌, true, not, Option, Some, None, [], ◌∷◌, ◌++◌, nat_lt, length, slice_get, unwrap_or, refl}
 use Rattle.std.proofs.Common.{◌∙◌, ap, arith, inl}
 use Rattle.std.proofs.lemmas.Bool.{eq-eqb, not-false}

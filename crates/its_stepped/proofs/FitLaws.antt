@@ -1,5 +1,6 @@
--- Every call keeps how jobs lie to each other: OPEN makes inferiors of the caller and opens channels on them alone, UCLOSE removes
--- one of them, and TTYLND gives a console to the caller or to one of them.
+-- Every call keeps how jobs lie to each other: OPEN makes inferiors of the caller and opens
+-- channels on them alone, UCLOSE removes one of them, and TTYLND gives a console to the caller or
+-- to one of them.
 use Rattle.std.specs.Prelude.{if◌then◌else◌, ◌==◌, ◌&&◌, ◌≡◌, ◌≢◌, ℕ, Bool, true, false, not, Option, Some, None, IfSome, List, [], ◌∷◌, find, cond, option_map, is_some, ◌<◌, ◌≤◌, nat_lt, refl, unwrap_or, Result, Ok, Err}
 use Rattle.std.specs.List.{range_with_len}
 use Rattle.std.proofs.Common.{sym, ◌∙◌, ap, subst, inl, inr, arith, subst}
@@ -38,7 +39,7 @@ use Rattle.its_stepped.proofs.FrameLaws.{changed_only}
 use Rattle.its_stepped.proofs.JoinedLaws.{IsUnlinked, Opens}
 use Rattle.its_stepped.proofs.TestLaws.{by_test, first_holds}
 use Rattle.its_stepped.proofs.ForestLaws.{CanOpen, MakesInferior, ChangeFits, AllFit, FitsAll, channel_of, inferior_stands, made_inferior, steps_where}
-use Rattle.its_stepped.proofs.CallWays.{OpensMildly, Joinable, Mild, AllStill, AllMild, Ways, Apart, call_ways}
+use Rattle.its_stepped.proofs.CallWays.{Any, OpensMildly, Joinable, Mild, AllStill, AllMild, Ways, Apart, call_ways}
 
 dismissed_fits : (x : View) (p w j : ℕ) (m : Machine) (r : Result Exit Fault) → FitsAll (dismissed_by x p w r) j m
 dismissed_fits x p w j m (Ok e) = tt
@@ -126,7 +127,7 @@ join_fits x n l j write u y m see h = record {
   unopened = not_opened_by write (m.links l) (ap (can_open write) (sym (see.links l)) ∙ h.unopened);
 }
 
-mild_fits : (x : View) (c : Change) (j : ℕ) (m : Machine) → Sees x j m → Mild x c → ChangeFits c j m
+mild_fits : (x : View) (c : Change) (j : ℕ) (m : Machine) → Sees x j m → Mild Any x c → ChangeFits c j m
 mild_fits x (changes.Open n on) j m see h = (opens_fit on j m h.0, free_fits x n j m Shut see h.1 tt)
 mild_fits x (changes.Shut n) j m see h = free_fits x n j m (x.own.channels n) see refl h
 mild_fits x (changes.Close n) j m see h = free_fits x n j m (Writes h.file) see (at_open x.own.channels n (Writes h.file) h.is (λ e. cc)) tt
@@ -143,7 +144,7 @@ still_fit j [] m h = tt
 still_fit j (changes.Move n at ∷ cs) m h = (tt, still_fit j cs (effect (changes.Move n at) j m) h.1)
 still_fit j (c ∷ cs) m h = absurd h.0
 
-all_fit : (x : View) (j : ℕ) (cs : List Change) (m : Machine) → Sees x j m → AllMild x cs → AllFit cs j m
+all_fit : (x : View) (j : ℕ) (cs : List Change) (m : Machine) → Sees x j m → AllMild Any x cs → AllFit cs j m
 all_fit x j [] m see h = tt
 all_fit x j (c ∷ cs) m see h = (mild_fits x c j m see h.0, still_fit j cs (effect c j m) h.1)
 
@@ -158,7 +159,7 @@ armed_fits c n h = elim (cases_eq n 0) [
   | inr ne ↦ let some : 1 ≤ n = omega arith in rw (ne_eqb n 0 ne) (record { some = some; most = ltb-false longest_period n h; next = omega arith })
 ]
 
-ways_fit : (x : View) (a : Ask) (j : ℕ) (m : Machine) → Sees x j m → Ways (λ d. FitsAll d j m) x a
+ways_fit : (x : View) (a : Ask) (j : ℕ) (m : Machine) → Sees x j m → Ways (λ d. FitsAll d j m) Any x a
 ways_fit x a j m see = record {
   failing = λ k. tt;
   faulting = λ f. tt;
@@ -291,7 +292,7 @@ unfolding decided
 decided_fits x a j m see =
     let o = call_named a.name in
     by_test (λ d. FitsAll d j m) (a.fail == 0) (decided_by x a o) (fails x a a.fail)
-    (λ t. call_ways (λ d. FitsAll d j m) x a o (ways_fit x a j m see) (λ r. tt) (apart_fits x a j m see)) (λ t. tt)
+    (λ t. call_ways (λ d. FitsAll d j m) Any x a o (ways_fit x a j m see) (λ c i s at write is reaches on. tt) (λ r. tt) (apart_fits x a j m see)) (λ t. tt)
 
 sees : (m : Machine) (j : ℕ) (q : Whole) (t : Option ℕ) → Forest m → m.jobs j ≡ Some q → Sees (view m j q t) j m
 unfolding view

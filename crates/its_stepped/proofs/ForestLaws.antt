@@ -1,4 +1,5 @@
--- How jobs lie to each other: what it says of one job, and that the steps of the plain machine keep it.
+-- How jobs lie to each other: what it says of one job, and that the steps of the plain machine keep
+-- it.
 use Rattle.std.specs.Prelude.{if◌then◌else◌, ◌==◌, ◌≡◌, ◌≢◌, ◌≤◌, ◌<◌, ◌||◌, nat_lt, ℕ, suc, Bool, true, false, Option, Some, None, IfSome, is_some, option_map, List, [], ◌∷◌, refl}
 use Rattle.std.proofs.Common.{sym, ◌∙◌, ap, subst, inl, inr, arith, eq-eqb}
 use Rattle.std.proofs.lemmas.Bool.{cases_Bool, cases_eq, cases_lt, ne_eqb, or_parts}
@@ -57,7 +58,8 @@ superior_few m d k = go (superiors m k) (d.standing k)
     go None h = tt
     go (Some s) h = job_few m d s h
 
--- a job from which s is not reached in one step more is not s, and s is not reached from its superior
+-- a job from which s is not reached in one step more is not s, and s is not reached from its
+-- superior
 unreached : (sup : ℕ → Option ℕ) (s n k : ℕ) → climbs_to sup s (suc n) (Some k) ≡ false → (k ≢ s) × (climbs_to sup s n (sup k) ≡ false)
 unfolding climbs_to
 unreached sup s n k h =
@@ -128,8 +130,8 @@ forest_starts = record {
   links = joined_starts;
 }
 
--- a machine with the superiors of another and with all its jobs, whose channels are on inferiors and on the consoles of their
--- jobs, whose holders are jobs, and whose links and channels agree
+-- a machine with the superiors of another and with all its jobs, whose channels are on inferiors
+-- and on the consoles of their jobs, whose holders are jobs, and whose links and channels agree
 pub record SameTree (m n : Machine) : Type 0 where
   pub few : (k : ℕ) → limit n ≤ k → n.jobs k ≡ None
   pub tree : (k : ℕ) → superiors n k ≡ superiors m k
@@ -274,7 +276,7 @@ links_forest : (m : Machine) (ls : ℕ → Option Pipe) → Joined (record m { l
 links_forest m ls joined d = same_forest m (record m { links = ls })
     (record { few = d.few; tree = λ k. refl; jobs = λ k x. x; channels = d.channels; consoles = d.consoles; holders = d.holders; links = joined }) d
 
--- the same superior, channels and console
+-- a change of a slot that leaves superior, channels and console keeps how jobs are related
 calm : (m : Machine) (s : ℕ) (f : Whole → Whole) → ((q : Whole) → (f q).superior ≡ q.superior) → ((q : Whole) → (f q).channels ≡ q.channels)
     → ((q : Whole) → m.jobs s ≡ Some q → (f q).job.console ≡ q.job.console) → Keeps m s f
 calm m s f e g h = record {
@@ -325,10 +327,11 @@ channel_keeps m j n g h k = record {
 shut_keeps : (m : Machine) (j : ℕ) → KeepsOn m j (λ c. Shut)
 shut_keeps m j = record { inferior = λ c h. tt; console = λ c h. tt }
 
--- a change that keeps jobs as they lie: a channel on a job is opened on an inferior, one on a console if the job has
--- one, a job that exists makes another in a free slot, an inferior is removed, and a console is held by a job; a channel
--- that is opened or closed is on no link; an end of a link is opened that nobody has opened, and one is closed with its
--- channel; and an alarm that is set is to come
+-- a change that keeps jobs as they lie: a channel on a job is opened on an inferior, one on a
+-- console if the job has one, a job that exists makes another in a free slot, an inferior is
+-- removed, and a console is held by a job; a channel that is opened or closed is on no link; an end
+-- of a link is opened that nobody has opened, and one is closed with its channel; and an alarm that
+-- is set is to come
 abbrev pub CanOpen : Opened → ℕ → Machine → Type 0
 CanOpen (opened.Usr s write) j m = superiors m s ≡ Some j
 CanOpen opened.TtyIn j m = is_some (console_in (m.jobs j)) ≡ true
@@ -535,7 +538,8 @@ pub made_inferior : (m : Machine) (s j u n : ℕ) → superiors (effect (changes
 unfolding effect
 made_inferior m s j u n = (makes m s j u n).tree
 
--- a removal: what is above a job that stays stays too, and so does the superior of the job that is removed
+-- a removal: what is above a job that stays stays too, and so does the superior of the job that is
+-- removed
 left_few : (gone : ℕ → Bool) (b : Bool) (o : Option Whole) → o ≡ None → job_after_removal gone b o ≡ None
 left_few gone true o h = refl
 left_few gone false o h = ap (option_map (after_shut gone)) h

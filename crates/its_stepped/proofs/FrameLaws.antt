@@ -1,4 +1,5 @@
--- Reading a job through its frame: what frames do not touch, and turns of one slot under the plain view.
+-- Reading a job through its frame: what frames do not touch, and turns of one slot under the plain
+-- view.
 use Rattle.std.specs.Prelude.{if◌then◌else◌, ◌==◌, ◌≡◌, ◌≢◌, ℕ, Bool, true, false, Option, Some, None, List, [], ◌∷◌, option_map, is_some, sum_by, refl}
 use Rattle.std.specs.List.{range_with_len}
 use Rattle.std.proofs.Common.{sym, ◌∙◌, ap, inl, inr}
@@ -35,7 +36,8 @@ pub stores_cons : (s : Store) (ss : List Store) (q : Whole) → with_stores (s �
 unfolding stored
 stores_cons s ss q = refl
 
--- what no single store and no leaving of a call touches is the same in the raw job and in its plain job
+-- what no single store and no leaving of a call touches is the same in the raw job and in its plain
+-- job
 module _ {X : Type 0} (g : Whole → X) (stores : (s : Store) (q : Whole) → g (with_stores (s ∷ []) q) ≡ g q) (leaves : (e : Exit) (q : Whole) → g (after_leave e q) ≡ g q) where
   stores_alike : (ss : List Store) (q : Whole) → g (with_stores ss q) ≡ g q
   stores_alike [] q = ap g (stores_none q)

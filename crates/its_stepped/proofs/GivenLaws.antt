@@ -1,5 +1,5 @@
--- Every call does its duty: what a tick takes as given follows from soundness, from what the decoding has looked at,
--- and from how jobs lie to each other.
+-- Every call does its duty: what a tick takes as given follows from soundness, from what the
+-- decoding has looked at, and from how jobs lie to each other.
 use Rattle.std.specs.Prelude.{if◌then◌else◌, ◌==◌, ◌||◌, ◌≡◌, ◌≢◌, ℕ, Bool, true, false, Option, Some, None, IfSome, List, [], ◌∷◌, ◌++◌, refl}
 use Rattle.std.specs.List.{range_with_len}
 use Rattle.std.proofs.Common.{sym, ◌∙◌, ap, subst, inl, inr}

@@ -1,4 +1,5 @@
--- The pending parts of a marked close, performed by another call: the plain machine has them already.
+-- The pending parts of a marked close, performed by another call: the plain machine has them
+-- already.
 use Rattle.std.specs.Prelude.{◌≡◌, ℕ, Bool, true, false, None, refl}
 use Rattle.its_stepped.specs.State.{State, after_help, plain}
 use Rattle.its_stepped.specs.Unwind.{help}
@@ -29,7 +30,7 @@ pub help_unmarked : (w : State) → (help w).mark ≡ None
 unfolding help
 help_unmarked w = refl
 
--- the same whether help is given or not
+-- the plain machine is the same whether help is given or not
 pub helped_if_plain : (b : Bool) (w : State) → plain (after_help_if b w) ≡ plain w
 helped_if_plain true w = help_plain w
 helped_if_plain false w = refl

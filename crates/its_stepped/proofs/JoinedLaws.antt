@@ -1,5 +1,6 @@
--- Links and channels agree: an end is open at a slot and channel exactly if that channel is on that link in that direction. What a
--- change leaves of that: opening an end, closing one, words that come and go, and a removal.
+-- Links and channels agree: an end is open at a slot and channel exactly if that channel is on that
+-- link in that direction. What a change leaves of that: opening an end, closing one, words that
+-- come and go, and a removal.
 use Rattle.std.specs.Prelude.{if◌then◌else◌, ◌≡◌, ◌≢◌, ◌<◌, ◌⊎◌, ℕ, Bool, true, false, Option, Some, None, option_map, is_some, refl}
 use Rattle.std.proofs.Common.{sym, ◌∙◌, ap, subst, inl, inr}
 use Rattle.std.proofs.lemmas.Bool.{cases_eq, eq-eqb, ne_eqb, or_parts}

@@ -1,5 +1,5 @@
--- A line of a session keeps the stepped machine sound, and the frame of each slot that it does not disturb
--- (docs/STEPS.md, "Lines").
+-- A line of a session keeps the stepped machine sound, and the frame of each slot that it does not
+-- disturb (docs/STEPS.md, "Lines").
 use Rattle.std.specs.Prelude.{◌≡◌, ◌≢◌, ℕ, ◌+◌, Bool, true, false, Option, Some, None, List, [], ◌∷◌, Result, Ok, Err, is_some, length, nat_lt, refl}
 use Rattle.std.proofs.Common.{sym, ◌∙◌, ap, subst, inl, inr}
 use Rattle.std.proofs.lemmas.Bool.{cases_Bool, cases_eq, eq-eqb}

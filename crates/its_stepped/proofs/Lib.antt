@@ -46,7 +46,6 @@ pub mod GivenLaws
 pub mod ForestLaws
 pub mod FitLaws
 pub mod WrittenLaws
-pub mod IntegrityLaws
 pub mod DecodingLaws
 pub mod CallLaws
 pub mod AddressLaws
@@ -58,8 +57,6 @@ pub mod PcLaws
 pub mod CourseLaws
 pub mod StretchLaws
 pub mod LinkMovesLaws
-pub mod ReaderLaws
-pub mod RunIntegrityLaws
 pub mod WaitLaws
 pub mod AlarmLaws
 pub mod TwoLaws

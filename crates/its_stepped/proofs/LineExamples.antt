@@ -142,8 +142,9 @@ filed : stepped (Read (events.File 1 2 3) ∷ Read (events.Append (record { item
 unfolding lined operate after_calm help after_help with_file_made with_word_added blocks_of_drafts same_names files_in file_shown no_state no_machine
 filed = refl
 
--- a job that is inside a CLOSE: the old file left the directory, and the draft is still to become its last file. DIR
--- shows the directory whole; of the job, which it does not disturb, the registers alone are pending
+-- a job that is inside a CLOSE: the old file left the directory, and the draft is still to become
+-- its last file. DIR shows the directory whole; of the job, which it does not disturb, the
+-- registers alone are pending
 file_of : ℕ → List ℕ → File
 file_of x words = record { names = names_of 1 x 3; words = words }
 

@@ -1,4 +1,5 @@
--- A line of a session is the same on the stepped machine and on its plain machine (docs/STEPS.md, "Lines").
+-- A line of a session is the same on the stepped machine and on its plain machine (docs/STEPS.md,
+-- "Lines").
 use Rattle.std.specs.Prelude.{◌≡◌, ℕ, ◌+◌, Bool, true, false, Option, Some, None, IfSome, List, [], ◌∷◌, ◌++◌, Result, Ok, Err, option_map, is_some, length, nat_lt, refl, if◌then◌else◌}
 use Rattle.std.proofs.Common.{sym, ◌∙◌, ap, subst, inl, inr}
 use Rattle.std.proofs.lemmas.Bool.{cases_eq, eq-eqb, ne_eqb}
@@ -298,7 +299,8 @@ peek_lifted : (v : State) (s : ℕ) (f : Option Frame) (o : Option Whole) → pe
 peek_lifted v s f (Some q) = refl
 peek_lifted v s f None = refl
 
--- the line of a state in which the job that it speaks of is in user mode, and what it looks at is whole
+-- the line of a state in which the job that it speaks of is in user mode, and what it looks at is
+-- whole
 pub line_calm : (v : State) (b : Block) (e : Event) → Sound v → IfSome (called_on b e) (λ s. v.frames s ≡ None) → HushedFor v e → (looks_at_files e ≡ true → v.mark ≡ None)
     → lined (plain v) b e ≡ lifted_line v (lined v.raw b e)
 unfolding lined operate plain after_load after_clock
@@ -365,7 +367,8 @@ for_none : (w : State) (b : Block) (e : Event) (h : Bool) → Sound w → IfSome
 for_none w b (events.Clock n) h sound = tt
 for_none w b e h sound = at_none w (called_on b e) h sound
 
--- what a line disturbs is in user mode, what it looks at is whole, and the state is sound and the same plain machine
+-- what a line disturbs is in user mode, what it looks at is whole, and the state is sound and the
+-- same plain machine
 pub calmed_plain : (w : State) (b : Block) (e : Event) → Sound w → plain (after_calm w b e) ≡ plain w
 unfolding after_calm
 calmed_plain w b e sound = helped_if_plain (looks_at_files e) (unwound_for w b e) ∙ for_plain w b e sound

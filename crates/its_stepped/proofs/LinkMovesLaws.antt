@@ -1,5 +1,6 @@
--- What a step of a job moves through links, and the ledger of the links: the words that were in a link and those that were sent are
--- those that were received and those that are in it (docs/MACHINE.md, "The ledger").
+-- What a step of a job moves through links, and the ledger of the links: the words that were in a
+-- link and those that were sent are those that were received and those that are in it
+-- (docs/MACHINE.md, "The ledger").
 use Rattle.std.specs.Prelude.{◌==◌, ◌&&◌, ◌≡◌, ◌≢◌, ℕ, Bool, true, false, not, Option, Some, None, is_some, option_map, unwrap_or, List, [], ◌∷◌, ◌++◌, flat_map, Result, Ok, Err, refl}
 use Rattle.std.proofs.Common.{sym, ◌∙◌, ap, subst, inl, inr, append_assoc, append-nil}
 use Rattle.std.proofs.lemmas.Bool.{cases_eq, eq-eqb, ne_eqb}
@@ -39,7 +40,7 @@ use Rattle.its_plain.specs.Turns.{highest}
 use Rattle.its_plain.specs.View.{View, view}
 use Rattle.its_plain.proofs.CallLineLaws.{LineKeepsBy, line_keeps}
 use Rattle.its_plain.proofs.StepLaws.{AllOf, EachCase, transition_has}
-use Rattle.its_stepped.proofs.CallWays.{AllStill, AllMild, Ways, Apart, call_ways}
+use Rattle.its_stepped.proofs.CallWays.{Any, AllStill, AllMild, Ways, Apart, call_ways}
 use Rattle.its_stepped.proofs.CourseLaws.{Linked, EachMoment, run_course, linked_middle}
 use Rattle.its_stepped.proofs.ForestLaws.{forest_starts}
 use Rattle.its_stepped.proofs.JoinedLaws.{opened_link}
@@ -224,11 +225,11 @@ still_links [] h = tt
 still_links (changes.Move n at ∷ cs) h = (tt, still_links cs h.1)
 still_links (c ∷ cs) h = absurd h.0
 
-mild_links : (x : View) (cs : List Change) → AllMild x cs → FirstLinks cs
+mild_links : (x : View) (cs : List Change) → AllMild Any x cs → FirstLinks cs
 mild_links x [] h = tt
 mild_links x (c ∷ cs) h = still_links cs h.1
 
-ways_first : (x : View) (a : Ask) → Ways LinksFirst x a
+ways_first : (x : View) (a : Ask) → Ways LinksFirst Any x a
 ways_first x a = record {
   failing = λ k. tt;
   faulting = λ f. tt;
@@ -344,7 +345,7 @@ unfolding decided
 decided_first x a =
     let o = call_named a.name in
     by_test LinksFirst (a.fail == 0) (decided_by x a o) (fails x a a.fail)
-    (λ t. call_ways LinksFirst x a o (ways_first x a) (λ r. tt) (apart_first x a)) (λ t. tt)
+    (λ t. call_ways LinksFirst Any x a o (ways_first x a) (λ c i s at write is reaches on. tt) (λ r. tt) (apart_first x a)) (λ t. tt)
 
 decision_first : (m : Machine) (j : ℕ) (q : Whole) (a : Ask) → LinksFirst (decision m j q a)
 unfolding decision

@@ -21,8 +21,8 @@ use Rattle.its_stepped.specs.Duty.{parts_in}
 use Rattle.its_stepped.proofs.FrameLaws.{changed_only}
 use Rattle.its_stepped.proofs.OwedLaws.{parts_owned, owed_files}
 
--- while changes are made a mark is the caller's and has a pending part, or it is another's, whose frame has its parts;
--- and at most so many parts are pending for the caller
+-- while changes are made a mark is the caller's and has a pending part, or it is another's, whose
+-- frame has its parts; and at most so many parts are pending for the caller
 abbrev pub MarkedAt : ℕ → (ℕ → Option Frame) → Mark → Type 0
 MarkedAt j frames m = ((m.owner ≡ j) × (m.parts ≢ [])) ⊎ ((m.owner ≢ j) × MarkBy m frames)
 

@@ -1,4 +1,5 @@
--- Each step of a SIOT moves one byte and leaves the call at the rest, or ends the call and moves none.
+-- Each step of a SIOT moves one byte and leaves the call at the rest, or ends the call and moves
+-- none.
 use Rattle.std.specs.Prelude.{if◌then◌else◌, ◌==◌, ◌&&◌, ◌≡◌, ◌≢◌, ℕ, ◌+◌, ◌-◌, ◌%◌, ◌^◌, Bool, true, false, Option, Some, None, IfSome, not, is_some, List, [], ◌∷◌, ◌++◌, length, take, drop, slice_get, unwrap_or, refl, option_map, Ok}
 use Rattle.std.proofs.lemmas.Bool.{cases_eq, ne_eqb, not-false, or_parts}
 use Rattle.std.proofs.lemmas.Option.{same_Some}

@@ -1,5 +1,5 @@
--- What is pending of a call that has ended: at most four steps, its own words among them, Leave as the last, and the
--- parts of its close before all else.
+-- What is pending of a call that has ended: at most four steps, its own words among them, Leave as
+-- the last, and the parts of its close before all else.
 use Rattle.std.specs.Prelude.{if◌then◌else◌, ◌==◌, ◌≡◌, ℕ, ◌+◌, Bool, true, false, Option, Some, None, List, [], ◌∷◌, ◌++◌, map, length, refl}
 use Rattle.std.proofs.Common.{◌∙◌, ap, arith}
 use Rattle.std.proofs.lemmas.Bool.{eq-eqb}

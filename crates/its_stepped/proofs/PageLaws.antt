@@ -1,5 +1,5 @@
--- Which calls reserve a page: a call with no pending argument that is never found not ready. If it is tried, all
--- quarters of its page are clear.
+-- Which calls reserve a page: a call with no pending argument that is never found not ready. If it
+-- is tried, all quarters of its page are clear.
 use Rattle.std.specs.Prelude.{◌==◌, ◌&&◌, ◌≡◌, ◌≤◌, ℕ, ◌-◌, Bool, true, false, Option, Some, None, IfSome, List, [], ◌∷◌, ◌++◌, is_some, length, take, drop, refl}
 use Rattle.std.proofs.Common.{◌∙◌, ap, arith}
 use Rattle.std.proofs.lemmas.Bool.{ltb-false}

@@ -1,4 +1,5 @@
--- Whether a call is still there depends on the core and the PC of its job alone, whatever the other registers are.
+-- Whether a call is still there depends on the core and the PC of its job alone, whatever the other
+-- registers are.
 use Rattle.std.specs.Prelude.{◌≡◌, ℕ, zero, suc, ◌+◌, List, Result, Ok, Err, nat_lt, refl}
 use Rattle.std.proofs.Common.{◌∙◌, ap, inl, inr}
 use Rattle.std.proofs.lemmas.Bool.{cases_Bool}

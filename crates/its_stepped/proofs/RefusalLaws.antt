@@ -1,5 +1,5 @@
--- A line is refused alike by the raw machine, by the one that it finds calmed, and by the plain one: so its refusal is
--- tested first (docs/STEPS.md, "Lines").
+-- A line is refused alike by the raw machine, by the one that it finds calmed, and by the plain
+-- one: so its refusal is tested first (docs/STEPS.md, "Lines").
 use Rattle.std.specs.Prelude.{◌≡◌, ℕ, zero, suc, ◌+◌, ◌%◌, ◌^◌, ◌&&◌, ◌||◌, not, Bool, true, false, Option, Some, None, List, Result, Ok, Err, option_map, is_some, nat_lt, refl}
 use Rattle.std.proofs.Common.{sym, ◌∙◌, ap}
 use Rattle.its_word.specs.Core.{Core, Page, page_of, word_at, can_store}
@@ -266,8 +266,8 @@ refusal_lifted v (Done (Ticks s k)) = refl
 refusal_lifted v (Done Quits) = refl
 refusal_lifted v (Peeks s) = refl
 
--- a line is refused before anything is unwound exactly if it is refused afterwards, and for the same reason; one that
--- looks at files, once the parts of a close are made
+-- a line is refused before anything is unwound exactly if it is refused afterwards, and for the
+-- same reason; one that looks at files, once the parts of a close are made
 pub refused_calmed : (w : State) (b : Block) (e : Event) → Sound w → refusal (lined (plain w) b e) ≡ refusal (lined (after_calm w b e).raw b e)
 refused_calmed w b e sound = ap refusal (line_plain w b e sound) ∙ refusal_lifted (after_calm w b e) (lined (after_calm w b e).raw b e)
 
@@ -282,7 +282,7 @@ pub barred_first : (w : State) (s a n : ℕ) → Sound w → words_barred w.raw 
 barred_first w s a n sound =
     sym (barred_plain w s a n) ∙ ap (λ m. words_barred m s a n) (sym (unwound_plain w s sound)) ∙ barred_plain (unwound w s) s a n
 
--- the same for one word
+-- whether one word is refused is the same before and after the unwinding
 pub word_refused_first : (w : State) (s a x : ℕ) → Sound w → error_of (with_word_loaded w.raw s a x) ≡ error_of (with_word_loaded (unwound w s).raw s a x)
 word_refused_first w s a x sound =
     sym (word_alike w s a x) ∙ ap (λ m. error_of (with_word_loaded m s a x)) (sym (unwound_plain w s sound)) ∙ word_alike (unwound w s) s a x

@@ -1,5 +1,5 @@
--- A row of unwinding, whole: the contents of the slot afterwards, that its plain job is the same, that it is sound, and that
--- user mode is one step nearer.
+-- A row of unwinding, whole: the contents of the slot afterwards, that its plain job is the same,
+-- that it is sound, and that user mode is one step nearer.
 use Rattle.std.specs.Prelude.{◌==◌, ◌≡◌, ℕ, ◌+◌, true, Option, Some, None, IfSome, option_map, refl}
 use Rattle.std.proofs.Common.{sym, ◌∙◌, ap, inl, inr}
 use Rattle.std.proofs.lemmas.Bool.{cases_eq, eq-eqb}

@@ -1,4 +1,5 @@
--- The lines that the stepped machine writes are a transcript of the plain machine (docs/STEPS.md, "Lines").
+-- The lines that the stepped machine writes are a transcript of the plain machine (docs/STEPS.md,
+-- "Lines").
 use Rattle.std.specs.Prelude.{◌≡◌, ◌<◌, ℕ, zero, suc, ◌+◌, not, Option, Some, None, option_map, List, ◌∷◌, length, refl}
 use Rattle.std.proofs.Common.{sym, ap, subst, arith}
 use Rattle.its_records.specs.Item.{Item, Read}
@@ -28,8 +29,8 @@ HoldsAfter Good d v (Done (Ticks s k)) = Unit {0}
 HoldsAfter Good d v (Done Quits) = Unit {0}
 HoldsAfter Good d v (Peeks s) = Unit {0}
 
--- a predicate that holds at the start and that ticks and lines keep; if it holds, the letter of a tick is licensed, and
--- a line is that of the plain machine
+-- a predicate that holds at the start and that ticks and lines keep; if it holds, the letter of a
+-- tick is licensed, and a line is that of the plain machine
 pub record Upkeep (Good : Dots → State → Type 0) : Type 0 where
   pub starts : Good (λ _. 0) (no_state no_machine)
   pub paced : (d : Dots) (w : State) (j : ℕ) → Good d w → Licensed (plain w) j (tick w j).pace (plain (tick w j).state)

@@ -1,4 +1,5 @@
--- SIOT does its duty: pointer and count are pending with each byte, and the byte's word is outside the footprint.
+-- SIOT does its duty: pointer and count are pending with each byte, and the byte's word is outside
+-- the footprint.
 use Rattle.std.specs.Prelude.{◌||◌, ◌≡◌, ◌≤◌, ℕ, zero, suc, ◌+◌, ◌-◌, ◌%◌, ◌^◌, Bool, true, false, not, Option, Some, None, IfSome, List, [], ◌∷◌, ◌++◌, length, take, drop, slice_get, is_some, unwrap_or, refl}
 use Rattle.std.proofs.Common.{◌∙◌, ap, subst, sym, arith, inl, inr}
 use Rattle.std.proofs.lemmas.Bool.{cases_eq, not-false, or_parts}
@@ -228,8 +229,8 @@ siot_loads d m v j x s a n ts cs w i c e t sized quiet spare parts each =
     first_holds (Duty v j x.own s a n) (read_tests x (right_of w) ++ ts) (goes cs None (w ∷ i ∷ [])) (λ t. faults_duty m v j x s a n Mpv c, each)
     (λ r. siot_goes d m v j x s a n cs None w i c e t quiet spare parts tt sized)
 
--- after the tests of its arguments: whether words alone are moved, and whether there is none left, depends on the
--- device
+-- after the tests of its arguments: whether words alone are moved, and whether there is none left,
+-- depends on the device
 pub siot_by_duty : (m : Machine) (v : State) (j : ℕ) (x : View) (s : Site) (a : Ask) (n : ℕ) (words ended : Bool) (moves : Decision) → Calling m v j x.own s a n
     → call_named a.name ≡ Some Siot → a.fail ≡ 0
     → (Moving x.own.core a → has_size (next_pointer (input a 1)) ≡ true → in_footprint (right_of (next_pointer (input a 1))) a ≡ false → Duty v j x.own s a n moves)

@@ -38,7 +38,8 @@ use Rattle.its_stepped.proofs.OneByteLaws.{rest_pointer, rest_count, decides_err
 use Rattle.its_stepped.proofs.PcLaws.{stands_same}
 use Rattle.its_stepped.proofs.CallDuties.{named_same}
 
--- the moments of a run: each finds a forest of jobs, and one that is a letter leads to the machine after the letter
+-- the moments of a run: each finds a forest of jobs, and one that is a letter leads to the machine
+-- after the letter
 abbrev Leads : Deed → Machine → Machine → Type 0
 Leads (Letter i p) m n = n ≡ machine_after m i p
 Leads (Turns s) m n = Unit {0}
@@ -179,8 +180,8 @@ stretches es lines = record {
       (stands_at (begin_of u x.section) j x.job x.site x.ask x.there x.stands) x.siot x.stretch);
 }
 
--- lines that end no stretch: EXAM and STATE look at a job, STOP and CONT change its stopped mark and its pending bits, and INT
--- its pending bits
+-- lines that end no stretch: EXAM and STATE look at a job, STOP and CONT change its stopped mark
+-- and its pending bits, and INT its pending bits
 abbrev pub SparesBy : Option Whole → ℕ → Operated → Type 0
 SparesBy o j (Does n out touched b) = Untouched o (n.jobs j)
 SparesBy o j _ = Unit {0}

@@ -1,4 +1,5 @@
--- How calls decide: the first test that holds, and what every call shows that ends without a change.
+-- How calls decide: the first test that holds, and what every call shows that ends without a
+-- change.
 use Rattle.std.specs.Prelude.{if◌then◌else◌, ◌≡◌, ◌≢◌, ◌≤◌, ℕ, ◌+◌, Bool, true, false, Option, Some, None, IfSome, List, [], ◌∷◌, length, refl}
 use Rattle.std.proofs.Common.{inl, arith}
 use Rattle.its_word.specs.declared.access.Fault.{Fault}
@@ -23,7 +24,8 @@ use Rattle.its_stepped.specs.Calling.{Calling}
 use Rattle.its_stepped.proofs.PageLaws.{reserves_none}
 use Rattle.its_stepped.proofs.UnwindLaws.{most_few}
 
--- the first test that holds: what each stop shows if its test holds, and the rest if each test fails
+-- the first test that holds: what each stop shows if its test holds, and the rest if each test
+-- fails
 abbrev pub EachStops : (Decision → Type 0) → List Test → Type 0
 EachStops P [] = Unit {0}
 EachStops P (t ∷ ts) = (t.holds ≡ true → P t.stop) × EachStops P ts
@@ -61,7 +63,8 @@ room_by a n (Some p) few h = let z = h.owes in omega arith
 pub room : (m : Machine) (v : State) (j : ℕ) (own : Whole) (s : Site) (a : Ask) (n : ℕ) → Calling m v j own s a n → kept (v.reserved j) + n ≤ 2
 room m v j own s a n c = room_by a n (v.reserved j) c.debts.few c.page
 
--- a call that ends: it changes what spares its own job, and closes nothing, and stores one word at most
+-- a call that ends: it changes what spares its own job, and closes nothing, and stores one word at
+-- most
 pub ending_duty : (m : Machine) (v : State) (j : ℕ) (own : Whole) (s : Site) (a : Ask) (n : ℕ) (cs : List Change) (ss : List Store) → Calling m v j own s a n
     → AllQuiet cs j v → AllSpare cs j v → parts_in cs ≡ 0 → Stored own.core ss → length ss ≤ 1 → Ending_by v j own n cs ss
 ending_duty m v j own s a n cs ss c quiet spare parts stores few = record {

@@ -1,5 +1,5 @@
--- A call that is tried: what its commit finds, and that it is decided on the raw machine as on the plain one, whether a
--- close is half made or not.
+-- A call that is tried: what its commit finds, and that it is decided on the raw machine as on the
+-- plain one, whether a close is half made or not.
 use Rattle.std.specs.Prelude.{if◌then◌else◌, ◌≡◌, ◌==◌, ℕ, Bool, true, false, Option, Some, None, refl}
 use Rattle.std.proofs.Common.{◌∙◌, ap}
 use Rattle.its_records.specs.declared.calls.Ask.{Ask}
@@ -40,7 +40,8 @@ decision_by w j own a false still e h = decision_unhelped w j own a still e
 pub decision_helped : (w : State) (j : ℕ) (own : Whole) (a : Ask) → StillAt w (target own a) → (helps own a ≡ true → w.mark ≡ None) → decision (plain w) j own a ≡ decision w.raw j own a
 decision_helped w j own a still h = decision_by w j own a (helps own a) still refl h
 
--- no call on files, on an inferior or on pages is found not ready: its channel is on no console and on no link
+-- no call on files, on an inferior or on pages is found not ready: its channel is on no console and
+-- on no link
 disk_off : (c : Chan) → is_disk c ≡ true → CanWait c → ⊥
 disk_off TtyIn h k = cc
 disk_off TtyOut h k = cc

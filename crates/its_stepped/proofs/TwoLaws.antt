@@ -162,7 +162,7 @@ ask_fetched c s b r e h = e ∙ sym (ask_after_parse c s b h)
 pub ask_unparsed : (c : Core) (s : Site) (r : Result (ArrayVec ℕ) Fault) (f : Fault) → r ≡ parse_of c s → r ≡ Err f → ask c s ≡ Err f
 ask_unparsed c s r f e h = ask_in_parts c s ∙ ap (λ r. given r (λ b. fetch_of c s b)) (sym e ∙ h)
 
--- the same over the words of the block
+-- the second part of the decoding, over the words of the block
 items_given : (c : Core) (s : Site) (r : Result (ArrayVec ℕ) Fault) → given r (λ b. fetch_of c s b) ≡ given (block_of r) (λ b. fetch_of c s (record { items = b }))
 items_given c s (Ok b) = refl
 items_given c s (Err f) = refl

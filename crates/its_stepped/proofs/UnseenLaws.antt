@@ -17,7 +17,7 @@ use Rattle.its_plain.specs.CallDevice.{open_by, open_call, close_on, close_call,
 use Rattle.its_plain.specs.Decide.{call_named, decided_by, decided}
 use Rattle.its_stepped.specs.Tick.{is_disk, helps_by, helps}
 
--- the same job with another directory before it
+-- what a call sees, with another directory
 abbrev pub with_files : View → List File → View
 with_files v fs = record v { files = fs }
 

@@ -1,5 +1,5 @@
--- Unwinding: it changes nothing that the plain machine has, keeps soundness, and leaves other slots alone; four
--- steps are enough (docs/STEPS.md, "Unwinding").
+-- Unwinding: it changes nothing that the plain machine has, keeps soundness, and leaves other slots
+-- alone; four steps are enough (docs/STEPS.md, "Unwinding").
 use Rattle.std.specs.Prelude.{if◌then◌else◌, ◌≡◌, ◌≢◌, ◌≤◌, ◌<◌, ℕ, zero, suc, ◌+◌, Bool, true, false, Option, Some, None, List, [], ◌∷◌, filter, option_map, refl}
 use Rattle.std.specs.List.{range_with_len}
 use Rattle.std.proofs.Common.{sym, ◌∙◌, ap, subst, inl, inr, arith}

@@ -1,4 +1,5 @@
--- Upkeep from soundness: ticks and lines keep a state sound, and few `.` come in a row (docs/STEPS.md, "Lines").
+-- Upkeep from soundness: ticks and lines keep a state sound, and few `.` come in a row
+-- (docs/STEPS.md, "Lines").
 use Rattle.std.specs.Prelude.{◌≡◌, ◌≤◌, ℕ, Bool, true, false, Some, List, refl}
 use Rattle.std.proofs.Common.{sym, subst, arith}
 use Rattle.its_records.specs.Item.{Item}
@@ -25,8 +26,8 @@ use Rattle.its_stepped.proofs.KeptLaws.{KeptBy, line_kept}
 use Rattle.its_stepped.proofs.SessionLaws.{HoldsAfter, Upkeep, stepped_transcript}
 use Rattle.its_stepped.proofs.StartLaws.{no_state_plain, no_state_sound}
 
--- facts of the plain machine that hold at the start, that its steps and lines keep, and from which, in a sound state,
--- each call does its duty
+-- facts of the plain machine that hold at the start, that its steps and lines keep, and from which,
+-- in a sound state, each call does its duty
 pub record Lasting (Placed : Machine → Type 0) : Type 0 where
   pub starts : Placed no_machine
   pub steps : (m n : Machine) (j : ℕ) → Placed m → step m j ≡ Some n → Placed n

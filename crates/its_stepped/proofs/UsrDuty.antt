@@ -1,4 +1,5 @@
--- The calls on inferiors do their duty: OPEN of USR; `.IOT` and SIOT if the channel is on one; USRMEM and UCLOSE.
+-- The calls on inferiors do their duty: OPEN of USR; `.IOT` and SIOT if the channel is on one;
+-- USRMEM and UCLOSE.
 use Rattle.std.specs.Prelude.{◌≡◌, ◌≢◌, ◌==◌, ℕ, ◌+◌, ◌-◌, ◌%◌, ◌^◌, Bool, true, false, not, Option, Some, None, [], ◌∷◌, ◌++◌, option_map, unwrap_or, refl}
 use Rattle.std.proofs.Common.{sym, ◌∙◌, ap, subst, inl, inr, arith}
 use Rattle.std.proofs.lemmas.Bool.{cases_eq, not-false}

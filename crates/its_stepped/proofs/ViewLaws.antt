@@ -1,5 +1,5 @@
--- What a call looks at is the same on the raw machine and on the plain one, if the job that it reaches into is in user
--- mode and no close is half made. So it may be decided on raw jobs.
+-- What a call looks at is the same on the raw machine and on the plain one, if the job that it
+-- reaches into is in user mode and no close is half made. So it may be decided on raw jobs.
 use Rattle.std.specs.Prelude.{if◌then◌else◌, ◌==◌, ◌≡◌, ℕ, false, Option, Some, None, [], ◌∷◌, ◌++◌, option_map, refl}
 use Rattle.std.proofs.Common.{◌∙◌, ap}
 use Rattle.its_records.specs.Tree.{slots_below}

@@ -1,5 +1,6 @@
--- A call that is found not ready: it has the one reason that its name, its channel and its console determine, it passes
--- its other tests, and it passes them whatever consoles, links and the clock do.
+-- A call that is found not ready: it has the one reason that its name, its channel and its console
+-- determine, it passes its other tests, and it passes them whatever consoles, links and the clock
+-- do.
 use Rattle.std.specs.Prelude.{if◌then◌else◌, ◌≡◌, ◌==◌, ◌&&◌, ◌^◌, ◌+◌, ◌-◌, ℕ, Bool, true, false, not, Option, Some, None, List, [], ◌∷◌, ◌++◌, nat_lt, length, slice_index_or, unwrap_or, refl}
 use Rattle.std.proofs.Common.{sym, ◌∙◌, ap, subst, inl, inr, arith}
 use Rattle.std.proofs.lemmas.Bool.{cases_Bool}
@@ -32,7 +33,7 @@ use Rattle.its_plain.specs.Reasons.{Doors, doors, held_up, of_transfer, of_finis
 use Rattle.its_plain.specs.Tests.{Test, ◌⇒◌, first, goes, finishes, fails, faults, out}
 use Rattle.its_plain.specs.View.{View, view}
 use Rattle.its_stepped.specs.Sound.{IsWaitable, Stuck}
-use Rattle.its_stepped.proofs.CallWays.{Ways, CanWait, iot_ways, siot_ways}
+use Rattle.its_stepped.proofs.CallWays.{Any, Ways, CanWait, iot_ways, siot_ways}
 
 -- a decision that does not wait
 abbrev pub Goes_on : Decision → Type 0
@@ -41,7 +42,7 @@ Goes_on (Goes cs h vs) = Unit {0}
 Goes_on (Ends cs ss e) = Unit {0}
 Goes_on (Gone cs) = Unit {0}
 
-pub goes_ways : (x : View) (a : Ask) → Ways Goes_on x a
+pub goes_ways : (x : View) (a : Ask) → Ways Goes_on Any x a
 goes_ways x a = record {
   failing = λ k. tt;
   faulting = λ f. tt;
@@ -56,11 +57,11 @@ goes_ways x a = record {
 -- a transfer whose channel is on no console and on no link never waits
 pub iot_ready : (x : View) (a : Ask) → (CanWait (channel_at x.own.channels (input a 0)) → ⊥) → Goes_on (decided_by x a (Some Iot))
 unfolding iot_call
-iot_ready x a h = iot_ways Goes_on x a (slice_index_or a.outputs.items 0 0) (input a 0) (channel_at x.own.channels (input a 0)) (goes_ways x a) refl (λ k r. h k)
+iot_ready x a h = iot_ways Goes_on Any x a (slice_index_or a.outputs.items 0 0) (input a 0) (channel_at x.own.channels (input a 0)) (goes_ways x a) (λ s at write on. tt) refl (λ k r. h k)
 
 pub siot_ready : (x : View) (a : Ask) → (CanWait (channel_at x.own.channels (input a 0)) → ⊥) → Goes_on (decided_by x a (Some Siot))
 unfolding siot_call
-siot_ready x a h = siot_ways Goes_on x a (input a 0) (channel_at x.own.channels (input a 0)) (goes_ways x a) refl (λ k r. h k)
+siot_ready x a h = siot_ways Goes_on Any x a (input a 0) (channel_at x.own.channels (input a 0)) (goes_ways x a) (λ s at write on. tt) refl (λ k r. h k)
 
 -- tests of which none waits
 abbrev pub AllGo : List Test → Type 0

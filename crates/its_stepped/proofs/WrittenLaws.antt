@@ -1,5 +1,5 @@
--- The lines that the monitor writes are a transcript of the plain machine, if the decoding of calls looks at what it
--- has to.
+-- The lines that the monitor writes are a transcript of the plain machine, if the decoding of calls
+-- looks at what it has to.
 use Rattle.std.specs.Prelude.{◌≡◌, ◌≤◌, ℕ, Bool, true, Option, Some, None, IfSome, List, option_map, is_some, refl}
 use Rattle.std.proofs.Common.{sym, ◌∙◌, ap, subst, inl, inr, arith}
 use Rattle.std.proofs.lemmas.Option.{IfSome_then}
@@ -83,7 +83,8 @@ holder_kept m n c h (Keeps e) d =
     (IfSome_then (m.holders c) d (λ s x. slot_some (m.jobs s) (n.jobs s) (h.slots s) x))
 holder_kept m n c h (Takes s u j none free is e) d = subst (λ (o : Option ℕ). IfSome o (λ s. is_some (n.jobs s) ≡ true)) (sym e) (ap is_some is)
 
--- no slot past the number of jobs that there can be has a job: if that number changes, no slot has one
+-- no slot past the number of jobs that there can be has a job: if that number changes, no slot has
+-- one
 keeps_few : (m n : Machine) (k : ℕ) → LineKeeps m n → Forest m → limit n ≤ k → n.jobs k ≡ None
 keeps_few m n k h d l = elim h.version [
   | inl same ↦ let past : limit m ≤ k = subst (λ (i : ℕ). limit_of i ≤ k) same l in h.few k past (d.few k past)

@@ -5,8 +5,8 @@ use Rattle.its_plain.specs.CallBasic.{longest_period}
 use Rattle.its_plain.specs.Machine.{Machine}
 use Rattle.its_plain.specs.OperatorClock.{alarm_in}
 
--- an alarm that is to come at clock c: its period is at least 1 and at most 2 ^ 34, and its next time is above the
--- clock
+-- an alarm that is to come at clock c: its period is at least 1 and at most 2 ^ 34, and its next
+-- time is above the clock
 pub record Coming (c : ℕ) (a : ℕ × ℕ) : Type 0 where
   pub some : 1 ≤ a.0
   pub most : a.0 ≤ longest_period

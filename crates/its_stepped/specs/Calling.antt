@@ -1,5 +1,6 @@
--- What a call may rely on when it decides, in addition to its tests: what its decoding looked at, what is pending and
--- reserved, and that the jobs that it reaches are in user mode (docs/STEPS.md, "Commit").
+-- What a call may rely on when it decides, in addition to its tests: what its decoding looked at,
+-- what is pending and reserved, and that the jobs that it reaches are in user mode (docs/STEPS.md,
+-- "Commit").
 -- No promise rests on this.
 use Rattle.std.specs.Prelude.{◌≡◌, ◌≢◌, ℕ, ◌%◌, ◌^◌, true, false, Some, None, IfSome, [], ◌∷◌, slice_index_or}
 use Rattle.its_word.specs.Core.{Core, can_store, store}
@@ -28,8 +29,9 @@ pub record Transfer (a : Ask) (p q : ℕ) : Type 0 where
   pub count : ℕ
   pub inputs : a.inputs.items ≡ channel ∷ variable pointer p ∷ variable count q ∷ []
 
--- what the decoding has checked: the error address and, except for `.IOT`, the output address allow a store; places
--- are addresses, and those of inputs are words of the footprint; SLEEP has one argument, and SIOT three
+-- what the decoding has checked: the error address and, except for `.IOT`, the output address allow
+-- a store; places are addresses, and those of inputs are words of the footprint; SLEEP has one
+-- argument, and SIOT three
 pub record Fetched (c : Core) (a : Ask) : Type 0 where
   pub error : (w : ℕ) → Stored c (number_at a.error w)
   pub output : call_named a.name ≢ Some Iot → (w : ℕ) → Stored c (out a.outputs.items w)
@@ -39,8 +41,9 @@ pub record Fetched (c : Core) (a : Ask) : Type 0 where
   pub sleeper : (p : ℕ) → call_named a.name ≡ Some Sleep → a.fail ≡ 0 → place_of_input a 0 ≡ Some p → (v : ℕ) × (a.inputs.items ≡ record { value = v; place = Some p } ∷ [])
   pub mover : (p q : ℕ) → call_named a.name ≡ Some Siot → a.fail ≡ 0 → place_of_input a 1 ≡ Some p → place_of_input a 2 ≡ Some q → Transfer a p q
 
--- that the decoding looks at these, that a call is still there after a store outside its footprint, that a call of
--- SLEEP is still there after its new time, and one of SIOT after its new pointer and count
+-- that the decoding looks at these, that a call is still there after a store outside its footprint,
+-- that a call of SLEEP is still there after its new time, and one of SIOT after its new pointer and
+-- count
 pub record Decoding : Type 0 where
   pub fetched : (c : Core) (j : Job) (s : Site) (a : Ask) → Stands c j s a → Fetched c a
   pub slept : (c : Core) (j : Job) (s : Site) (a : Ask) (p v w : ℕ) → Stands c j s a → a.inputs.items ≡ record { value = v; place = Some p } ∷ [] → is_shared p a ≡ false
@@ -50,8 +53,8 @@ pub record Decoding : Type 0 where
       → is_shared p a ≡ false → is_shared q a ≡ false → can_store c p ≡ true → can_store c q ≡ true
       → Stands (store (store c p w) q n) j s (with_inputs a (x ∷ variable w p ∷ variable n q ∷ []))
 
--- the call of job own in slot j, with its last n arguments pending: m is the plain machine that it decides on, and v
--- the state that its commit finds. A page that it reserves exists, and is clear
+-- the call of job own in slot j, with its last n arguments pending: m is the plain machine that it
+-- decides on, and v the state that its commit finds. A page that it reserves exists, and is clear
 pub record Calling (m : Machine) (v : State) (j : ℕ) (own : Whole) (s : Site) (a : Ask) (n : ℕ) : Type 0 where
   pub stands : Stands own.core own.job s a
   pub fetched : Fetched own.core a

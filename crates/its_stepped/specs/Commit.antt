@@ -1,5 +1,5 @@
--- The commit of a call: its changes on the stepped machine, and the frame that it leaves (docs/STEPS.md,
--- "Commit").
+-- The commit of a call: its changes on the stepped machine, and the frame that it leaves
+-- (docs/STEPS.md, "Commit").
 -- No promise rests on this.
 use Rattle.std.specs.Prelude.{if◌then◌else◌, ◌==◌, ℕ, Bool, true, false, Option, Some, None, List, [], ◌∷◌, ◌++◌, map, length}
 use Rattle.its_records.specs.declared.calls.Ask.{Ask}
@@ -24,8 +24,8 @@ use Rattle.its_plain.specs.Arguments.{debts, with_new_values}
 use Rattle.its_plain.specs.Decide.{call_named}
 use Rattle.its_stepped.specs.State.{Part, UnlinkOld, LinkNew, FreeOld, Mark, State, mark_of_close, with_slot, same, holding, waiting, moving, ending}
 
--- a change on the stepped machine: a close is marked, and its parts are pending; a page that is made is the reserved
--- one; a removed job has no frame
+-- a change on the stepped machine: a close is marked, and its parts are pending; a page that is
+-- made is the reserved one; a removed job has no frame
 unfoldable pub effect_on : Change → ℕ → State → State
 effect_on (changes.Close n) j w =
     record w { raw = in_job w.raw j (on_channel n (λ c. Shut)); mark = mark_of_close j (channel_in (w.raw.jobs j) n) w.raw.files }
@@ -41,7 +41,8 @@ abbrev pub effects_on : List Change → ℕ → State → State
 effects_on [] j w = w
 effects_on (c ∷ cs) j w = effects_on cs j (effect_on c j w)
 
--- after a part of a call: a held byte is still to be stored; a sleeper waits; else the job is at the call again
+-- after a part of a call: a held byte is still to be stored; a sleeper waits; else the job is at
+-- the call again
 abbrev pub sleeps : Option CallName → Bool
 sleeps (Some Sleep) = true
 sleeps _ = false
@@ -54,8 +55,8 @@ abbrev pub after_going_on : Site → Ask → ℕ → Option Held → Frame
 after_going_on s a n (Some h) = moving s a h
 after_going_on s a n None = stays (sleeps (call_named a.name)) s a n
 
--- what is pending of a call that ends: the parts of its close, its reserved page, the words of its arguments that are
--- not in core, its own stores, and its registers
+-- what is pending of a call that ends: the parts of its close, its reserved page, the words of its
+-- arguments that are not in core, its own stores, and its registers
 abbrev pub owed_part : Part → Owed
 owed_part UnlinkOld = Unlink
 owed_part LinkNew = Link

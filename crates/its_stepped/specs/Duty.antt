@@ -1,5 +1,5 @@
--- What a call has to show of its decision. That its commit is the step of the plain machine, and that it keeps the
--- state sound, follows from this alone (docs/STEPS.md, "Commit").
+-- What a call has to show of its decision. That its commit is the step of the plain machine, and
+-- that it keeps the state sound, follows from this alone (docs/STEPS.md, "Commit").
 -- No promise rests on this.
 use Rattle.std.specs.Prelude.{◌≡◌, ◌≢◌, ◌≤◌, ◌⊎◌, ℕ, ◌+◌, ◌%◌, ◌^◌, true, false, Option, Some, None, IfSome, List, [], ◌∷◌, length, nat_lt}
 use Rattle.its_word.specs.Byte.{has_size}
@@ -27,7 +27,8 @@ use Rattle.its_stepped.specs.Tick.{reserves, with_preparation, quarters}
 use Rattle.its_stepped.specs.Sound.{Stands, Stored, Debts, IsWaitable, Transfers}
 use Rattle.its_stepped.specs.Quiet.{AllQuiet}
 
--- a change after which the caller is there with the registers that it had; its words and pages may be others
+-- a change after which the caller is there with the registers that it had; its words and pages may
+-- be others
 abbrev pub Remains : Change → ℕ → State → Type 0
 Remains (changes.Set s v x) j w = s ≢ j
 Remains (changes.Make s u n) j w = s ≢ j
@@ -75,8 +76,8 @@ abbrev pub Within : List Store → List Store → Type 0
 Within [] news = Unit {0}
 Within (s ∷ olds) news = AtSome (place s) news × Within olds news
 
--- a byte that is held can be stored, its word is distinct from the pending ones, and pointer and count are pending
--- with it
+-- a byte that is held can be stored, its word is distinct from the pending ones, and pointer and
+-- count are pending with it
 pub record HeldFits (c : Core) (owed : List Store) (count : ℕ) (h : Held) : Type 0 where
   pub two : count ≡ 2
   pub placed : h.place % 2 ^ 18 ≡ h.place
@@ -88,7 +89,8 @@ pub record Waiting_by (v : State) (j : ℕ) (a : Ask) : Type 0 where
   pub page : v.reserved j ≡ None
   pub waitable : IsWaitable (call_named a.name)
 
--- a part of a call: its new words include those that were pending, and the call is still there after they are stored
+-- a part of a call: its new words include those that were pending, and the call is still there
+-- after they are stored
 pub record Going (v : State) (j : ℕ) (own : Whole) (s : Site) (a : Ask) (n : ℕ) (cs : List Change) (h : Option Held) (vs : List ℕ) : Type 0 where
   pub quiet : AllQuiet cs j v
   pub spare : AllSpare cs j v
@@ -102,8 +104,9 @@ pub record Going (v : State) (j : ℕ) (own : Whole) (s : Site) (a : Ask) (n : �
   pub debts : Debts own.core (with_new_values a vs) (length vs)
   pub stands : Stands (after_moves a h vs own).core own.job s (with_new_values a vs)
 
--- the end of a call: either it spares its own words except for stores that are possible, or it changes its own pages
--- and stores no word; and its pending steps are at most four including the last
+-- the end of a call: either it spares its own words except for stores that are possible, or it
+-- changes its own pages and stores no word; and its pending steps are at most four including the
+-- last
 pub record Ending_by (v : State) (j : ℕ) (own : Whole) (n : ℕ) (cs : List Change) (ss : List Store) : Type 0 where
   pub quiet : AllQuiet cs j v
   pub stores : (AllSpare cs j v × Stored own.core ss) ⊎ (AllRemain cs j v × (n ≡ 0) × (ss ≡ []))
@@ -115,16 +118,16 @@ pub record Leaving (v : State) (j : ℕ) (cs : List Change) : Type 0 where
   pub closes : parts_in cs ≡ 0
   pub page : v.reserved j ≡ None
 
--- the duty of the call with this site and ask, of job own in slot j, over the state that its commit finds, when its
--- last n arguments are pending
+-- the duty of the call with this site and ask, of job own in slot j, over the state that its commit
+-- finds, when its last n arguments are pending
 abbrev pub Duty : State → ℕ → Whole → Site → Ask → ℕ → Decision → Type 0
 Duty v j own s a n (Waits r) = Waiting_by v j a
 Duty v j own s a n (Goes cs h vs) = Going v j own s a n cs.items h vs.items
 Duty v j own s a n (Ends cs ss e) = Ending_by v j own n cs.items ss.items
 Duty v j own s a n (Gone cs) = Leaving v j cs.items
 
--- a call that is tried reaches other jobs than its own alone, all quarters of the page that it reserves are clear,
--- and it does its duty
+-- a call that is tried reaches other jobs than its own alone, all quarters of the page that it
+-- reserves are clear, and it does its duty
 pub record Meets (w : State) (j : ℕ) (own : Whole) (s : Site) (a : Ask) (n : ℕ) : Type 0 where
   pub apart : among j (reach (plain w) j own a) ≡ false
   pub page : reserves a ≡ true → w.reserved j ≡ Some quarters
@@ -135,7 +138,8 @@ abbrev pub IsTried : Option ℕ → Type 0
 IsTried None = Unit {0}
 IsTried (Some p) = nat_lt p quarters ≡ false
 
--- what the tick of a slot takes as given: the call does its duty if it is tried, and no job is its own superior
+-- what the tick of a slot takes as given: the call does its duty if it is tried, and no job is its
+-- own superior
 abbrev pub GivenBy : State → ℕ → Whole → Option Frame → Type 0
 GivenBy w j q None = q.superior ≢ Some j
 GivenBy w j q (Some (Holding f)) = IsTried f.page → Meets w j (seen (Some (Holding f)) q) f.site f.ask f.owes

@@ -1,4 +1,5 @@
--- How the jobs of a machine lie to each other, to consoles and to links (docs/STEPS.md, "Soundness").
+-- How the jobs of a machine lie to each other, to consoles and to links (docs/STEPS.md,
+-- "Soundness").
 -- No promise rests on this.
 use Rattle.std.specs.Prelude.{◌≡◌, ◌≤◌, ◌<◌, ℕ, Bool, true, false, Option, Some, None, IfSome, is_some}
 use Rattle.its_word.specs.Limits.{slots}
@@ -25,19 +26,21 @@ abbrev pub end_at : Bool → Option Pipe → End
 end_at write (Some p) = link_end write p.link
 end_at write None = Unopened
 
--- channel n of the job of slot k, if it is on a link, is the one at which that end of the link is open
+-- channel n of the job of slot k, if it is on a link, is the one at which that end of the link is
+-- open
 abbrev pub OnLink : Machine → ℕ → ℕ → Chan → Type 0
 OnLink m k n (Linked l write) = (l < most_links) × (end_at write (m.links l) ≡ Opened k n)
 OnLink m k n _ = Unit {0}
 
--- an end of a link is open at a slot and channel exactly if that channel is on that link in that direction
+-- an end of a link is open at a slot and channel exactly if that channel is on that link in that
+-- direction
 pub record Joined (m : Machine) : Type 0 where
   pub channels : (k n : ℕ) → OnLink m k n (channel_in (m.jobs k) n)
   pub ends : (l k n : ℕ) (write : Bool) → end_at write (m.links l) ≡ Opened k n → channel_in (m.jobs k) n ≡ Linked l write
 
--- jobs have the slots below the limit; a superior is a job, and no job is reached from itself through superiors; a
--- channel on a job is on an inferior; a job with a channel on a console has one; who holds a console is a job; and links and
--- channels agree
+-- jobs have the slots below the limit; a superior is a job, and no job is reached from itself
+-- through superiors; a channel on a job is on an inferior; a job with a channel on a console has
+-- one; who holds a console is a job; and links and channels agree
 pub record Forest (m : Machine) : Type 0 where
   pub few : (k : ℕ) → limit m ≤ k → m.jobs k ≡ None
   pub standing : (k : ℕ) → IfSome (superiors m k) (λ s. is_some (m.jobs s) ≡ true)

@@ -1,5 +1,5 @@
--- The lines of a session over the stepped machine: what PEEK shows, the jobs that a line finds in user mode, and all
--- lines that the monitor writes (docs/STEPS.md, "Lines").
+-- The lines of a session over the stepped machine: what PEEK shows, the jobs that a line finds in
+-- user mode, and all lines that the monitor writes (docs/STEPS.md, "Lines").
 -- No promise rests on this.
 use Rattle.std.specs.Prelude.{Bool, true, false, ℕ, zero, suc, ◌+◌, Option, Some, None, List, [], ◌∷◌, ◌++◌, slice_get}
 use Rattle.its_word.specs.Core.{Core, word_at}
@@ -53,7 +53,8 @@ ask_in (Some (Entered f)) = None
 ask_in (Some (Parsed f)) = None
 ask_in None = None
 
--- its name: that of `.IOT`, which has no block, or the second word of the block; none before that is read
+-- its name: that of `.IOT`, which has no block, or the second word of the block; none before that
+-- is read
 abbrev pub name_read : Option ℕ → List ℕ → Option ℕ
 name_read (Some channel) block = Some (sixbit Iot)
 name_read None block = slice_get block 1
@@ -122,13 +123,14 @@ abbrev pub unwound_at : Option ℕ → State → State
 unwound_at (Some s) w = unwound w s
 unwound_at None w = w
 
--- the state with what a line disturbs unwound: of CLOCK the jobs whose alarm is due at the new clock, by slot number
+-- the state with what a line disturbs unwound: of CLOCK the jobs whose alarm is due at the new
+-- clock, by slot number
 abbrev pub unwound_for : State → Block → Event → State
 unwound_for w b (events.Clock n) = all_unwound (due_slots (w.raw.clock + n) w.raw.jobs) w
 unwound_for w b e = unwound_at (called_on b e) w
 
--- a line that looks at the directory first performs the pending parts of a close; the job that is in the close is not
--- disturbed by it
+-- a line that looks at the directory first performs the pending parts of a close; the job that is
+-- in the close is not disturbed by it
 abbrev pub looks_at_files : Event → Bool
 looks_at_files (events.File d x y) = true
 looks_at_files (events.Append words) = true
@@ -144,8 +146,8 @@ after_calm w b e = after_help_if (looks_at_files e) (unwound_for w b e)
 abbrev pub with_raw : State → Machine → State
 with_raw v m = record v { raw = m }
 
--- the state after a line. A line tests first whether it is refused. If it is, it leaves the state as it was, except for
--- the parts of a close that it has performed to look at the directory
+-- the state after a line. A line tests first whether it is refused. If it is, it leaves the state
+-- as it was, except for the parts of a close that it has performed to look at the directory
 abbrev pub state_after : State → State → Lined → State
 state_after w v (Done (Does m out touched b)) = with_raw v m
 state_after w v (Done (Refuses r)) = w

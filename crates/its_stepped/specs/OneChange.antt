@@ -1,5 +1,6 @@
--- One step of unwinding changes, beside the frame of its slot, at most one small thing: a word of core, a reserved
--- page's place, a part of a marked close, or the registers (docs/STEPS.md, "Unwinding").
+-- One step of unwinding changes, beside the frame of its slot, at most one small thing: a word of
+-- core, a reserved page's place, a part of a marked close, or the registers (docs/STEPS.md,
+-- "Unwinding").
 -- No promise rests on this.
 use Rattle.std.specs.Prelude.{◌≡◌, ℕ, Some, None, List, [], ◌∷◌}
 use Rattle.its_records.specs.declared.calls.Exit.{Exit}

@@ -1,6 +1,6 @@
--- When a change of a call in progress is the same on the stepped machine and on the plain one: what it reaches has
--- nothing pending, no close is half made if it looks at the directory, and a page of zeros that it makes is the
--- caller's reserved one (docs/STEPS.md, "Commit").
+-- When a change of a call in progress is the same on the stepped machine and on the plain one: what
+-- it reaches has nothing pending, no close is half made if it looks at the directory, and a page of
+-- zeros that it makes is the caller's reserved one (docs/STEPS.md, "Commit").
 -- No promise rests on this.
 use Rattle.std.specs.Prelude.{◌≡◌, ◌≢◌, ℕ, true, Option, Some, None, List, [], ◌∷◌}
 use Rattle.its_frame.specs.declared.change.Change.{Change}
@@ -23,13 +23,14 @@ IsStill (Some (Waiting f)) = f.owes ≡ 0
 IsStill (Some (Moving f)) = ⊥
 IsStill (Some (Ending f)) = ⊥
 
--- a job that the call of slot j reaches: it has nothing pending, and another one than the caller is in user mode
+-- a job that the call of slot j reaches: it has nothing pending, and another one than the caller is
+-- in user mode
 pub record Reached (w : State) (j s : ℕ) : Type 0 where
   pub still : IsStill (w.frames s)
   pub other : s ≢ j → w.frames s ≡ None
 
--- a page can be made for a job that the call of slot j reaches: all quarters of the page that slot j has reserved are
--- clear
+-- a page can be made for a job that the call of slot j reaches: all quarters of the page that slot
+-- j has reserved are clear
 pub record MakesPage (w : State) (j s : ℕ) : Type 0 where
   pub reached : Reached w j s
   pub page : w.reserved j ≡ Some quarters

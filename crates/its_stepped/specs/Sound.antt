@@ -1,5 +1,5 @@
--- What holds of a state between two calls of the monitor (docs/STEPS.md, "Soundness"). The facts of a slot speak
--- of that slot alone: of its raw job, its frame and its reserved page.
+-- What holds of a state between two calls of the monitor (docs/STEPS.md, "Soundness"). The facts of
+-- a slot speak of that slot alone: of its raw job, its frame and its reserved page.
 -- No promise rests on this.
 use Rattle.std.specs.Prelude.{◌≡◌, ◌≢◌, ◌≤◌, ◌<◌, ℕ, ◌+◌, ◌^◌, Bool, true, false, Option, Some, None, IfSome, List, [], ◌∷◌, is_some, length, Ok}
 use Rattle.its_word.specs.Byte.{has_size}
@@ -60,7 +60,8 @@ pub record Debts (c : Core) (a : Ask) (n : ℕ) : Type 0 where
   pub read : length (debts a n) ≡ n
   pub stored : Stored c (debts a n)
 
--- only a call that reserves has a page, of which at most four quarters are clear; none of its arguments is pending
+-- only a call that reserves has a page, of which at most four quarters are clear; none of its
+-- arguments is pending
 pub record Paged (a : Ask) (n clear : ℕ) : Type 0 where
   pub most : clear ≤ 4
   pub reserves : reserves a ≡ true
@@ -116,10 +117,10 @@ backs (Link ∷ os) = backs os
 backs (Free ∷ os) = backs os
 backs (Leave e ∷ os) = backs os
 
--- the pending stores of a frame are possible in the raw core; and the slot has a reserved page exactly if the frame
--- says so. A call that is held has a page exactly if it reserves one: it got the page when it was prepared, and has
--- it until it ends or is unwound. So a page that a call makes is the one that it has reserved. (A call that waits or
--- holds a byte reserves none)
+-- the pending stores of a frame are possible in the raw core; and the slot has a reserved page
+-- exactly if the frame says so. A call that is held has a page exactly if it reserves one: it got
+-- the page when it was prepared, and has it until it ends or is unwound. So a page that a call
+-- makes is the one that it has reserved. (A call that waits or holds a byte reserves none)
 pub record HoldingPays (c : Core) (r : Option ℕ) (a : Ask) (page : Option ℕ) (n : ℕ) : Type 0 where
   pub debts : Debts c a n
   pub page_is : r ≡ page
@@ -160,8 +161,8 @@ Pays (Waiting f) c r = WaitingPays c r f.ask f.owes
 Pays (Moving f) c r = MovingPays c r f.ask f.place
 Pays (Ending f) c r = EndingPays c r f.owed.items
 
--- a call that was found not ready passes its other tests, whatever consoles and the clock do: it waits wherever its one
--- reason to wait holds
+-- a call that was found not ready passes its other tests, whatever consoles and the clock do: it
+-- waits wherever its one reason to wait holds
 pub record Stuck (q : Whole) (a : Ask) : Type 0 where
   pub again : (m : Machine) (j : ℕ) (r : Wait) → reason_in q a ≡ Some r → held_up (doors m) j (input a 0) r ≡ true → decision m j q a ≡ Waits r
 
@@ -189,7 +190,8 @@ abbrev pub parts_in_frame : Option Frame → List Part
 parts_in_frame (Some (Ending f)) = file_parts f.owed.items
 parts_in_frame _ = []
 
--- a marked close has at least one part pending, and its owner's frame has exactly these parts pending
+-- a marked close has at least one part pending, and its owner's frame has exactly these parts
+-- pending
 pub record MarkBy (m : Mark) (frames : ℕ → Option Frame) : Type 0 where
   pub some : m.parts ≢ []
   pub parts : parts_in_frame (frames m.owner) ≡ m.parts

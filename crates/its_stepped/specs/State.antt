@@ -1,5 +1,5 @@
--- The stepped machine: a raw machine, and beside it the frames of calls in progress, the pages that they reserve, and
--- a close that is half made (docs/STEPS.md). It has a plain machine.
+-- The stepped machine: a raw machine, and beside it the frames of calls in progress, the pages that
+-- they reserve, and a close that is half made (docs/STEPS.md). It has a plain machine.
 -- No promise rests on this.
 use Rattle.std.specs.Prelude.{◌==◌, ℕ, Bool, true, false, Option, Some, None, List, [], ◌∷◌, ◌++◌, option_map}
 use Rattle.its_records.specs.declared.calls.Ask.{Ask}
@@ -16,14 +16,15 @@ use Rattle.its_plain.specs.CallFile.{has_file}
 use Rattle.its_plain.specs.Arguments.{debts}
 use Rattle.its_plain.specs.CallStep.{with_held}
 
--- the parts of a close: the old file leaves the directory, the draft becomes its last file, and the blocks of
--- the old one are given up
+-- the parts of a close: the old file leaves the directory, the draft becomes its last file, and the
+-- blocks of the old one are given up
 pub data Part : Type 0 where
   UnlinkOld : Part
   LinkNew : Part
   FreeOld : Part
 
--- a close that is half made: the slot that performs it, the draft, and the parts that are still pending
+-- a close that is half made: the slot that performs it, the draft, and the parts that are still
+-- pending
 pub record Mark : Type 0 where
   pub owner : ℕ
   pub draft : File
@@ -99,7 +100,8 @@ plain w = record w.raw { jobs = seen_jobs w.frames w.raw.jobs; files = after_hel
 unfoldable pub no_state : Machine → State
 no_state m = record { raw = m; frames = λ _. None; reserved = λ _. None; mark = None }
 
--- the raw job and the frame of one slot changed: every row of a tick or of unwinding is such a change
+-- the raw job and the frame of one slot changed: every row of a tick or of unwinding is such a
+-- change
 abbrev pub with_slot : State → ℕ → (Whole → Whole) → Option Frame → State
 with_slot w j h f = record w { raw = in_job w.raw j h; frames = changed w.frames j f }
 

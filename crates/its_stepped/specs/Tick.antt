@@ -69,8 +69,8 @@ abbrev pub fetched_on : State → ℕ → Site → Result Ask Fault → Ticked
 fetched_on w j s (Ok a) = works (with_slot w j same (Some (asked s a)))
 fetched_on w j s (Err f) = faults_on w j f
 
--- a call that makes a page, by its operation 1, and whose decoding gave no error, reserves a page, which is cleared a
--- quarter at a tick
+-- a call that makes a page, by its operation 1, and whose decoding gave no error, reserves a page,
+-- which is cleared a quarter at a tick
 abbrev pub makes_page : Option CallName → ℕ → Bool
 makes_page (Some n) operation = (call_row n).reserves && (operation == 1)
 makes_page None operation = false
@@ -105,7 +105,8 @@ abbrev pub after_help_if : Bool → State → State
 after_help_if true w = help w
 after_help_if false w = w
 
--- what a commit finds: the jobs that it reaches are in user mode, and a marked close is helped by a call on files
+-- what a commit finds: the jobs that it reaches are in user mode, and a marked close is helped by a
+-- call on files
 unfoldable pub with_preparation : State → ℕ → Whole → Ask → State
 with_preparation w j own a = after_help_if (helps own a) (all_unwound (reach (plain w) j own a) w)
 

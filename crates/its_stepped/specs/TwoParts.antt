@@ -1,5 +1,6 @@
--- The decoding of a call in two parts, which the stepped machine performs at two ticks: at one the words of the block, at the
--- other addresses and values. `.IOT` has no block. The law `TwoLaws.in_two` says that both together give what one pass gives.
+-- The decoding of a call in two parts, which the stepped machine performs at two ticks: at one the
+-- words of the block, at the other addresses and values. `.IOT` has no block. The law
+-- `TwoLaws.in_two` says that both together give what one pass gives.
 -- No promise rests on this.
 use Rattle.std.specs.Prelude.{ℕ, ◌%◌, ◌^◌, List, [], ◌++◌, length, map, Option, Some, None, Result, Ok, Err}
 use Rattle.std.specs.List.{range_with_len}
@@ -13,8 +14,8 @@ use Rattle.its_plain.specs.UnitPlan.{given}
 use Rattle.its_plain.specs.Decode.{arguments, ask_of, iot_ask, parsed, words_of}
 use Rattle.its_plain.specs.Traced.{Traced}
 
--- the second half of the decoding of a call by a block, when the block is read already: the places of its words are
--- known
+-- the second half of the decoding of a call by a block, when the block is read already: the places
+-- of its words are known
 abbrev pub block_places : ℕ → List ℕ → List ℕ
 block_places e block = map (λ k. k % 2 ^ 18) (range_with_len e (length block))
 

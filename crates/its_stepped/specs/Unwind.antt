@@ -1,5 +1,5 @@
--- Unwinding a job to user mode, one step at a time (docs/STEPS.md, "Unwinding"; Bawden, "PCLSRing: Keeping
--- Process State Modular").
+-- Unwinding a job to user mode, one step at a time (docs/STEPS.md, "Unwinding"; Bawden, "PCLSRing:
+-- Keeping Process State Modular").
 -- No promise rests on this.
 use Rattle.std.specs.Prelude.{ℕ, zero, suc, Bool, true, false, Option, Some, None, List, [], ◌∷◌}
 use Rattle.its_records.specs.declared.calls.Ask.{Ask}
@@ -16,7 +16,8 @@ use Rattle.its_plain.specs.Arguments.{debts}
 use Rattle.its_plain.specs.CallStep.{with_held}
 use Rattle.its_stepped.specs.State.{Part, Mark, State, after_part, mine, after_help, held_at, with_slot, same, reserving, asked, holding, waiting, ending}
 
--- a call with pending words that is still there stores the first one; a call without any drops its frame
+-- a call with pending words that is still there stores the first one; a call without any drops its
+-- frame
 abbrev pub first_debt : List stores.Store → List stores.Store
 first_debt (s ∷ ss) = s ∷ []
 first_debt [] = []

@@ -1,5 +1,5 @@
--- What follows at once from the promises of the top call: what its answers say if no object failed, and of all commands
--- together.
+-- What follows at once from the promises of the top call: what its answers say if no object failed,
+-- and of all commands together.
 use Rattle.std.specs.Prelude.{◌≡◌, ◌≢◌, ◌⊎◌, ◌<◌, ◌+◌, ℕ, true, false, Option, Some, None, IfSome, List, [], refl}
 use Rattle.std.proofs.Common.{sym, subst, append-nil, arith, inl, inr}
 use Rattle.std.specs.Io.KnownBytes.{Appends, Consumes}

@@ -1,4 +1,5 @@
--- Lines on files: calls that look at files one after another, words that are added, and lines that are written one by one.
+-- Lines on files: calls that look at files one after another, words that are added, and lines that
+-- are written one by one.
 use Rattle.std.specs.Prelude.{◌≡◌, ◌<◌, ◌≤◌, ◌+◌, ◌-◌, ◌*◌, ◌/◌, ◌%◌, ℕ, suc, Bool, true, false, Option, Some, None, Result, Ok, Err, List, [], ◌∷◌, ◌++◌, length, map, take, drop, min, option_map, unwrap_or, find, cond, slice_get, slice_index, get_or, OnOk, IfErr, refl}
 use Rattle.std.proofs.Common.{sym, ◌∙◌, ap, subst, arith, add-one, append_assoc, append-nil, inl, inr}
 use Rattle.std.proofs.KnownBytes.{Appends-nil, Appends-trans}

@@ -1,5 +1,5 @@
--- The words of an a/ line: all are tested for read-only pages, and then stored one after another. The first store brings the
--- job to user mode.
+-- The words of an a/ line: all are tested for read-only pages, and then stored one after another.
+-- The first store brings the job to user mode.
 use Rattle.std.specs.Prelude.{◌≡◌, ◌<◌, ◌+◌, ℕ, true, false, None, Result, Ok, Err, OnOk, IfErr, List, [], ◌∷◌, length, drop, slice_index, refl}
 use Rattle.std.proofs.Common.{sym, ◌∙◌, ap, arith, drop-cons, add-one}
 use Rattle.its_records.specs.declared.session.Reason.{Reason}
@@ -48,7 +48,8 @@ loading_start v s a words = record {
   whole = ap (λ x. with_words_stored (unwound v s).raw s x words) (omega arith);
 }
 
--- here v is the state that the line finds, `now` the state before word k, which is x, and `then` that after it
+-- here v is the state that the line finds, `now` the state before word k, which is x, and `then`
+-- that after it
 pub loading_next : (v now then : State) (s a k at x : ℕ) (words : List ℕ) → Sound now → k < length words → at ≡ a + k → x ≡ slice_index words k → LoadSo v now s a k words (drop k words)
     → Lands (unwound now s) then (with_word_loaded (unwound now s).raw s at x) → LoadSo v then s a (k + 1) words (drop (k + 1) words)
 loading_next v now then s a k at x words sound h e f so d =

@@ -1,5 +1,5 @@
--- What a step of a job moves: each console is as it was, except for the bytes that are taken from it and put to it
--- (docs/MACHINE.md, "The ledger").
+-- What a step of a job moves: each console is as it was, except for the bytes that are taken from
+-- it and put to it (docs/MACHINE.md, "The ledger").
 use Rattle.std.specs.Prelude.{◌≡◌, ◌≢◌, ◌==◌, ℕ, Bool, true, false, Option, Some, None, List, [], ◌∷◌, ◌++◌, flat_map, refl, option_map}
 use Rattle.std.proofs.Common.{sym, ◌∙◌, ap, subst, inl, inr, append_assoc, append-nil}
 use Rattle.std.proofs.lemmas.Bool.{cases_Bool, cases_eq, eq-eqb, ne_eqb}

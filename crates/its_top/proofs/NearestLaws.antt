@@ -1,5 +1,6 @@
--- The nearest symbol in other words: it is one of the symbols, its address is at most the PC, and no symbol has an
--- address at most the PC that is greater, or equal and kept later. If there is none, all addresses are above the PC.
+-- The nearest symbol in other words: it is one of the symbols, its address is at most the PC, and
+-- no symbol has an address at most the PC that is greater, or equal and kept later. If there is
+-- none, all addresses are above the PC.
 use Rattle.std.specs.Prelude.{◌≡◌, ◌≤◌, ◌<◌, ◌&&◌, not, ℕ, Bool, true, false, Option, Some, None, List, [], ◌∷◌, ◌++◌, nat_lt, cond, refl}
 use Rattle.std.proofs.Common.{sym, ap, subst, arith}
 use Rattle.std.proofs.lemmas.Bool.{ltb-false, ltb-true}

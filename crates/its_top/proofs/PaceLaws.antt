@@ -90,7 +90,7 @@ same_pace Wait Wait h = refl
 same_pace Off Off h = refl
 same_pace _ _ h = absurd cc
 
--- the same under other names
+-- the letters that were made, with their numbers under other names
 pub pacing_as : (m next : State) (s n k j c d : ℕ) (ps qs : List Pace) (p q : Pace) → PacesSo m next s n k (ps ++ replicate c p) → j ≡ k → qs ≡ ps → d ≡ c → q ≡ p
     → PacesSo m next s n j (qs ++ replicate d q)
 pacing_as m next s n k j c d ps qs p q so e f g h =

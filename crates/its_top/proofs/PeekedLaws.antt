@@ -1,4 +1,5 @@
--- What the monitor writes of its peeks is short: their slots and their counts of steps are small numbers.
+-- What the monitor writes of its peeks is short: their slots and their counts of steps are small
+-- numbers.
 use Rattle.std.proofs.Common.{◌≡◌, ◌≤◌, ◌<◌, ◌+◌, ◌/◌, ◌^◌, ℕ, zero, suc, Bool, true, false, Option, Some, None, Result, Ok, Err, List, [], ◌∷◌, ◌++◌, length, map, drop, ltb, leb, refl, inl, inr, arith}
 use Rattle.std.specs.Prelude.{IfOk}
 use Rattle.std.specs.List.{AllByRecursion, list_all}

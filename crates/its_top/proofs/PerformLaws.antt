@@ -282,6 +282,6 @@ show_refused v b b' d x y e ps w k h =
     refuses v (help v) b b' (events.Show d x y) e ps w
     (record { calm = refl; is = ap (λ r. Done (shows (help v).raw b r)) (shown_found v d x y None h) ∙ ap (λ r. Done (Refuses (reason_of r))) (sym k) })
 
--- the same event, by another name
+-- what is performed for an event, if that is given by another name
 pub at_event : (r : Result Shown Over) (v : State) (b : Block) (e f : Event) (ps : List Pace) (w : World) (b' : Block) → e ≡ f → Performed r v b f ps w b' → Performed r v b e ps w b'
 at_event r v b e f ps w b' h p = subst (λ x. Performed r v b x ps w b') (sym h) p

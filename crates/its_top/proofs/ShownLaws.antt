@@ -1,5 +1,5 @@
--- What a line of a session does to the consoles: TYPE adds what has room, DRAIN takes what it shows, and any other line
--- leaves them and shows no byte of them (docs/MACHINE.md, "The ledger").
+-- What a line of a session does to the consoles: TYPE adds what has room, DRAIN takes what it
+-- shows, and any other line leaves them and shows no byte of them (docs/MACHINE.md, "The ledger").
 use Rattle.std.specs.Prelude.{if◌then◌else◌, ◌≡◌, ◌≤◌, ℕ, zero, suc, ◌+◌, ◌-◌, ◌/◌, Bool, true, false, Option, Some, None, List, [], ◌∷◌, ◌++◌, Result, Ok, Err, length, map, take, drop, min, flat_map, is_some, nat_lt, refl}
 use Rattle.std.proofs.Common.{sym, ◌∙◌, ap, subst, inl, inr, arith, append-nil, take-append-drop}
 use Rattle.std.proofs.Math.Seq.{take-append-add}

@@ -9,7 +9,8 @@ use Rattle.its_plain.proofs.FairLaws.{fair_all}
 use Rattle.its_stepped.specs.Lines.{stepped}
 use Rattle.its_stepped.proofs.DecodingLaws.{decoding}
 use Rattle.its_stepped.proofs.StretchLaws.{stretches}
-use Rattle.its_stepped.proofs.RunIntegrityLaws.{integrity}
+use Rattle.its_security.proofs.RunIntegrityLaws.{integrity}
+use Rattle.its_security.proofs.ConfidentialLaws.{confidential}
 use Rattle.its_stepped.proofs.WrittenLaws.{written_transcript}
 use Rattle.its_top.proofs.FewDotsLaws.{few_dots}
 use Rattle.its_top.specs.declared.status.Status.{Status}
@@ -102,6 +103,7 @@ transcribed st bytes old new e a = record {
   dots = few_dots decoding (events_of bytes);
   fair = fair_all (events_of bytes) (shown bytes);
   integrity = integrity (events_of bytes) (shown bytes);
+  confidential = confidential (events_of bytes) (shown bytes);
 }
 
 pub session_transcribed : (st : Status) (left rest old new : Option (List ℕ)) → ((st ≡ statuses.Done) ⊎ (st ≡ statuses.Refused)) ⊎ (st ≡ statuses.TooLong) → Session st left rest old new

@@ -61,7 +61,8 @@ run_accepted bytes =
       text = record { texts = map text_of_line told.lines; said = lines_said told.lines (session_small decoding bytes); whole = texts_whole told.lines };
     }
 
--- after a session with an END line, with which the bytes that were run begin, what was written is answered Yes
+-- after a session with an END line, with which the bytes that were run begin, what was written is
+-- answered Yes
 pub run_verified : (bytes session rest : List ℕ) (count : ℕ) → session ++ rest ≡ bytes → EndsSession session count
     → count + length (lines_in (text (stepped (events_of bytes)).lines)) ≤ most_lines
     → verified (session ++ text (stepped (events_of bytes)).lines) ≡ Judged (Yes (length (lines_in (text (stepped (events_of bytes)).lines))))

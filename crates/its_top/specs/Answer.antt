@@ -81,7 +81,8 @@ pub record ExamSo (m : Machine) (s a n k : ℕ) (ws : List ℕ) : Type 0 where
   pub whole : examined m s a n ≡ behind ws (examined m s (a + k) (n - k))
   pub there : 0 < k → is_some (m.jobs s) ≡ true
 
--- after k calls that find the job of slot s in user mode, the state is now `now`; v is the state with the job unwound
+-- after k calls that find the job of slot s in user mode, the state is now `now`; v is the state
+-- with the job unwound
 pub record Calm (v now : State) (s k : ℕ) : Type 0 where
   pub found : unwound now s ≡ v
   pub reached : 0 < k → now ≡ v
@@ -92,12 +93,14 @@ pub record Looked (old now : World) (k : ℕ) : Type 0 where
   pub reached : 0 < k → state_of now ≡ help (state_of old)
   pub unmarked : 0 < k → now.files.mark ≡ None
 
--- if no part of a close was pending, calls that look at files left the state and the files as they were
+-- if no part of a close was pending, calls that look at files left the state and the files as they
+-- were
 pub record Stood (old now : World) : Type 0 where
   pub state : state_of now ≡ state_of old
   pub files : now.files ≡ old.files
 
--- k of these words were added to the file with these names; v is the state with the parts of a close performed
+-- k of these words were added to the file with these names; v is the state with the parts of a
+-- close performed
 pub record AddSo (v now : State) (n : Names) (k : ℕ) (words rest : List ℕ) : Type 0 where
   pub raw : help now ≡ with_raw v (help now).raw
   pub reached : 0 < k → now ≡ help now

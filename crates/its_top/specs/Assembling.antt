@@ -14,8 +14,9 @@ use Rattle.its_assembly.specs.Made.{IsRefusal, IsSession}
 use Rattle.its_top.specs.declared.status.Status.{Status}
 use Rattle.its_top.specs.declared.status.Status.TheVariants as statuses
 
--- an assembly of the text of these bytes, of which some were read, has this status, and wrote w. If the source failed,
--- the bytes that were read decide nothing. Want of memory does not hide that the text is too long
+-- an assembly of the text of these bytes, of which some were read, has this status, and wrote w. If
+-- the source failed, the bytes that were read decide nothing. Want of memory does not hide that the
+-- text is too long
 abbrev pub AsmOf : Status → List ℕ → List ℕ → List ℕ → Type 0
 AsmOf statuses.Done bytes read w = (runs_past bytes ≡ false) × IsSession (assembly bytes) w × (read ≡ bytes)
 AsmOf statuses.Refused bytes read w = (runs_past bytes ≡ false) × IsRefusal (assembly bytes) w
@@ -25,8 +26,8 @@ AsmOf statuses.ReadFault bytes read w = WithinLimits read × (w ≡ [])
 AsmOf statuses.NoMemory bytes read w = (runs_past bytes ≡ false) × (w ≡ [])
 AsmOf statuses.Usage bytes read w = ⊥
 
--- how an assembly ended, from what its source had left and has left now, and from what its sink was given. If memory
--- was refused, nothing was written
+-- how an assembly ended, from what its source had left and has left now, and from what its sink was
+-- given. If memory was refused, nothing was written
 pub record Asm (status : Status) (left rest old new : Option (List ℕ)) : Type 0 where
   pub read : List ℕ
   pub wrote : List ℕ

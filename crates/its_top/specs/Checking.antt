@@ -1,4 +1,5 @@
--- What `its check` finds in a session: it looks at its lines by the grammar alone (docs/SESSION.md, "its check").
+-- What `its check` finds in a session: it looks at its lines by the grammar alone (docs/SESSION.md,
+-- "its check").
 -- No promise rests on this.
 use Rattle.std.specs.Prelude.{if◌then◌else◌, ◌≡◌, ℕ, ◌+◌, ◌-◌, true, false, Option, Some, None, IfSome, IfOk, Result, Ok, Err, List, [], ◌∷◌, ◌++◌, codes}
 use Rattle.std.specs.Io.KnownBytes.{Appends, Consumes}
@@ -70,7 +71,8 @@ pub record CheckSoFar (r : Items) (n : ℕ) (left rest : Option (List ℕ)) : Ty
   pub found : FoundSoFar items r left rest
   pub checks : (behind : List Item) → checked (items ++ behind) ≡ checked_from n behind
 
--- what was found in the bytes of a source, or in those that were read before it failed, which decide nothing
+-- what was found in the bytes of a source, or in those that were read before it failed, which
+-- decide nothing
 abbrev pub FoundIn : Result Checked Failed → List ℕ → List ℕ → Type 0
 FoundIn (Ok c) bytes read = checked (events_of bytes) ≡ c
 FoundIn (Err e) bytes read = GoesOn (checked (whole_events_of read)) × WithinLimits read
@@ -112,7 +114,8 @@ abbrev pub CheckOf : Status → List ℕ → List ℕ → List ℕ → Type 0
 CheckOf statuses.ReadFault bytes read w = GoesOn (checked (whole_events_of read)) × WithinLimits read × (w ≡ [])
 CheckOf status bytes read w = CheckedAs status (checked (events_of bytes)) w
 
--- how a check ended, from what its source had left and had left then, and from what its sink was given
+-- how a check ended, from what its source had left and had left then, and from what its sink was
+-- given
 pub record Check (status : Status) (left rest old new : Option (List ℕ)) : Type 0 where
   pub read : List ℕ
   pub wrote : List ℕ

@@ -50,7 +50,8 @@ WasRun statuses.ReadFault = Unit {0}
 WasRun statuses.WriteFault = Unit {0}
 WasRun statuses.TooLong = Unit {0}
 
--- how a session ended, from what its source had left and had left then, and from what its sink was given
+-- how a session ended, from what its source had left and had left then, and from what its sink was
+-- given
 pub record Session (status : Status) (left rest old new : Option (List ℕ)) : Type 0 where
   pub read : List ℕ
   pub wrote : List ℕ
@@ -60,8 +61,8 @@ pub record Session (status : Status) (left rest old new : Option (List ℕ)) : T
   pub concluded : IfSome left (λ bytes. Concluded status bytes read wrote)
   pub input : status ≡ statuses.Done → IfSome left (λ bytes. ReadOut bytes rest)
 
--- a session so far: the items that were found, and what is written of them before line number n is taken. Slot i had
--- the last turn
+-- a session so far: the items that were found, and what is written of them before line number n is
+-- taken. Slot i had the last turn
 pub record SoFar (r : Items) (n : ℕ) (v : State) (b : Block) (i : ℕ) (left rest old new : Option (List ℕ)) : Type 0 where
   pub items : List Item
   pub found : FoundSoFar items r left rest
@@ -80,13 +81,14 @@ status_of flows.Fault = statuses.WriteFault
 abbrev pub Over : Flow → ℕ → State → Block → ℕ → Found → List ℕ → Type 0
 Over flow n v b i f w = (behind : List Item) → (is_last f ≡ true → behind ≡ []) → Finished (status_of flow) (session_says n v b i (last_items f ++ behind)) w
 
--- what was found did this, and wrote w: the session goes on with another state and block, or it is over
+-- what was found did this, and wrote w: the session goes on with another state and block, or it is
+-- over
 abbrev pub TakenBy : Flow → ℕ → State → Block → ℕ → Found → State → Block → ℕ → List ℕ → Type 0
 TakenBy flows.On n v b i f v' b' i' w = (is_last f ≡ false) × ((behind : List Item) → session_says n v b i (last_items f ++ behind) ≡ after w (session_says (n + 1) v' b' i' behind))
 TakenBy flows.Ended n v b i f v' b' i' w = (is_end f ≡ true) × Over flows.Ended n v b i f w
 TakenBy flow n v b i f v' b' i' w = Over flow n v b i f w
 
--- the same, with what the sink was given
+-- what was found did this, with what the sink was given
 pub record Takes (flow : Flow) (n : ℕ) (v : State) (b : Block) (i : ℕ) (f : Found) (v' : State) (b' : Block) (i' : ℕ) (old new : Option (List ℕ)) : Type 0 where
   pub wrote : List ℕ
   pub appended : Appends old new wrote

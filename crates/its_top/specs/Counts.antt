@@ -1,4 +1,5 @@
--- The lines that the commands `check` and `gen` write of their counts (docs/SESSION.md, "its check", "its gen").
+-- The lines that the commands `check` and `gen` write of their counts (docs/SESSION.md, "its
+-- check", "its gen").
 -- No promise rests on this.
 use Rattle.std.specs.Prelude.{ℕ, List, [], ◌∷◌, ◌++◌}
 use Rattle.its_word.specs.Text.{digits_of, spaced}

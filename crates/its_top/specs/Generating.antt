@@ -1,4 +1,5 @@
--- What `its gen N` counts in a generated session, and what it writes of it (docs/SESSION.md, "its gen").
+-- What `its gen N` counts in a generated session, and what it writes of it (docs/SESSION.md, "its
+-- gen").
 -- No promise rests on this.
 use Rattle.std.specs.Prelude.{◌≡◌, ℕ, ◌+◌, Bool, true, false, Result, Ok, List, [], ◌∷◌, ◌++◌, map, length, codes}
 use Rattle.its_records.specs.Item.{Item, Read}
@@ -53,7 +54,8 @@ items_of es = map (λ e. Read e) es
 unfoldable pub generated_tally : ℕ → Tally
 generated_tally n = tally (stepped (items_of (generated_session n))).lines
 
--- three lines: how many lines a session has, how many ticks are marked, and how many bytes were drained
+-- three lines: how many lines a session has, how many ticks are marked, and how many bytes were
+-- drained
 abbrev pub tally_text : Tally → List ℕ
 tally_text t = count_line (codes "STEPS") t.steps ++ count_line (codes "DRAINED") t.drained
 

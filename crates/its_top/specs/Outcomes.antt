@@ -1,5 +1,6 @@
--- What each answer of the program says: why it comes, what was written, and what was read (docs/PROVED.md, "Answers"). What is written
--- of a session is a function of its events, by the stepped machine; that it is a transcript is said in Promise.
+-- What each answer of the program says: why it comes, what was written, and what was read
+-- (docs/PROVED.md, "Answers"). What is written of a session is a function of its events, by the
+-- stepped machine; that it is a transcript is said in Promise.
 -- No promise rests on this.
 use Rattle.std.specs.Prelude.{◌≡◌, ◌≢◌, ◌⊎◌, ℕ, ◌+◌, true, false, Option, Some, IfSome, Err, List, [], ◌++◌, codes}
 use Rattle.std.specs.Io.KnownBytes.{Appends, Consumes}
@@ -44,8 +45,8 @@ Unfailed statuses.ReadFault = ⊥
 Unfailed statuses.WriteFault = ⊥
 Unfailed _ = Unit {0}
 
--- an object's count of faults rose by one if the answer is the fault of this object, and is unchanged with any other
--- answer
+-- an object's count of faults rose by one if the answer is the fault of this object, and is
+-- unchanged with any other answer
 pub record Faults (fault status : Status) (before now : ℕ) : Type 0 where
   pub once : status ≡ fault → now ≡ before + 1
   pub unfailed : status ≢ fault → now ≡ before
@@ -57,7 +58,8 @@ pub record Begins (all : List ℕ) (old new : Option (List ℕ)) : Type 0 where
   pub whole : all ≡ first ++ more
   pub wrote : Appends old new first
 
--- what `its run` wrote, line by line: the lines of the transcript are those that the stepped machine shows
+-- what `its run` wrote, line by line: the lines of the transcript are those that the stepped
+-- machine shows
 pub record Writes (status : Status) (bytes : List ℕ) (old new : Option (List ℕ)) : Type 0 where
   pub transcribed : Transcribed status bytes old new
   pub lines : transcribed.lines ≡ (stepped (events_of bytes)).lines
@@ -73,13 +75,15 @@ pub record Refuses (bytes : List ℕ) (old new : Option (List ℕ)) : Type 0 whe
   pub refused : (stepped (events_of bytes)).fate ≡ Refused
   pub wrote : Appends old new (text (stepped (events_of bytes)).lines)
 
--- a line past the most begins before END and before a refused line; what the lines before it show was written
+-- a line past the most begins before END and before a refused line; what the lines before it show
+-- was written
 pub record RunsOn (bytes : List ℕ) (old new : Option (List ℕ)) : Type 0 where
   pub too_long : (stepped (events_of bytes)).fate ≡ TooLong
   pub wrote : Appends old new (text (stepped (events_of bytes)).lines)
 
--- the source failed: what was written is what the whole lines that were read show. None of them is END or refused. No
--- line that was read is too long or past the most, not even the one that had begun
+-- the source failed: what was written is what the whole lines that were read show. None of them is
+-- END or refused. No line that was read is too long or past the most, not even the one that had
+-- begun
 pub record Breaks (bytes : List ℕ) (rest old new : Option (List ℕ)) : Type 0 where
   pub read : List ℕ
   pub consumed : Consumes (Some bytes) rest read
@@ -121,8 +125,8 @@ pub record CheckRunsOn (bytes : List ℕ) (old new : Option (List ℕ)) : Type 0
   pub too_long : checked (events_of bytes) ≡ checks.TooLong
   pub wrote : Appends old new []
 
--- the source failed: no whole line that was read is END or refused, no line is too long or past the most, not even the
--- one that had begun, and nothing was written
+-- the source failed: no whole line that was read is END or refused, no line is too long or past the
+-- most, not even the one that had begun, and nothing was written
 pub record CheckBreaks (bytes : List ℕ) (rest old new : Option (List ℕ)) : Type 0 where
   pub read : List ℕ
   pub consumed : Consumes (Some bytes) rest read
@@ -160,15 +164,16 @@ pub record OfNoCommand (status : Status) (left rest old new : Option (List ℕ))
   pub ends : (status ≡ statuses.Usage) ⊎ (status ≡ statuses.WriteFault)
   pub unread : rest ≡ left
 
--- what `its verify` wrote: the transcript of so many lines is one of the session, and `YES n` was written. The input was read to its end
+-- what `its verify` wrote: the transcript of so many lines is one of the session, and `YES n` was
+-- written. The input was read to its end
 pub record Verifies (bytes : List ℕ) (rest old new : Option (List ℕ)) : Type 0 where
   pub lines : ℕ
   pub licensed : Licensed bytes lines
   pub wrote : Appends old new (answer_text (Judged (Yes lines)))
   pub over : rest ≡ Some []
 
--- a line of the transcript is not licensed or is missing, a line of the session is too long, or there is no END line;
--- the one line that says so was written, with the number of the line
+-- a line of the transcript is not licensed or is missing, a line of the session is too long, or
+-- there is no END line; the one line that says so was written, with the number of the line
 pub record VerifyRefuses (bytes : List ℕ) (old new : Option (List ℕ)) : Type 0 where
   pub answer : Answer
   pub refused : status_of answer ≡ statuses.Refused
@@ -219,19 +224,20 @@ pub record AsmRunsOn (bytes : List ℕ) (old new : Option (List ℕ)) : Type 0 w
   pub beyond : runs_past bytes ≡ true
   pub wrote : Appends old new []
 
--- the sink failed: what was written begins the text of the assembly's result, and the text of the source is not too
--- long
+-- the sink failed: what was written begins the text of the assembly's result, and the text of the
+-- source is not too long
 pub record AsmBegins (bytes : List ℕ) (old new : Option (List ℕ)) : Type 0 where
   pub few : runs_past bytes ≡ false
   pub begins : Begins (assembly_text (assembly bytes)) old new
 
--- a text that is too long is TooLong, even if memory was refused; any other one has its answer, or memory was refused
+-- a text that is too long is TooLong, even if memory was refused; any other one has its answer, or
+-- memory was refused
 pub record AsmAnswers (status : Status) (bytes : List ℕ) : Type 0 where
   pub past : runs_past bytes ≡ true → status ≡ statuses.TooLong
   pub within : runs_past bytes ≡ false → (status ≡ answer_to (assembly bytes)) ⊎ (status ≡ statuses.NoMemory)
 
--- the source failed: no line that was read is too long or past the most, not even the one that had begun, and nothing
--- was written
+-- the source failed: no line that was read is too long or past the most, not even the one that had
+-- begun, and nothing was written
 pub record AsmBreaks (bytes : List ℕ) (rest old new : Option (List ℕ)) : Type 0 where
   pub read : List ℕ
   pub consumed : Consumes (Some bytes) rest read

@@ -37,7 +37,8 @@ lines_of (shows.Peeked s peek) ps w = printed.Peeked s peek ∷ []
 lines_of (shows.Files d n) ps w = listing d (files_in d (state_of w).raw.files)
 lines_of (shows.File id d x y) ps w = shown_lines d x y (words_at w.files id)
 
--- words that are typed out begin at an address; the files that are shown exist, and no part of a close is pending
+-- words that are typed out begin at an address; the files that are shown exist, and no part of a
+-- close is pending
 abbrev pub CanShow : Shown → World → Type 0
 CanShow (shows.Listed s a words) w = a < 2 ^ 18
 CanShow (shows.Files d n) w = (w.files.mark ≡ None) × (n ≡ length (files_in d (state_of w).raw.files))
@@ -73,7 +74,8 @@ GoesBy (Ok s) e = goes_on_after e ≡ true
 GoesBy (Err overs.Ended) e = goes_on_after e ≡ false
 GoesBy (Err (overs.Refused r)) e = Unit {0}
 
--- in state v an event had this result; world w and block b' are left, and these are the letters of the ticks
+-- in state v an event had this result; world w and block b' are left, and these are the letters of
+-- the ticks
 pub record Performed (r : Result Shown Over) (v : State) (b : Block) (e : Event) (ps : List Pace) (w : World) (b' : Block) : Type 0 where
   pub tells : (n : ℕ) (next : State → Block → Told) → line_told n v b e next ≡ telling (lines_shown n r ps w) (told_behind r (next (state_of w) b'))
   pub goes : GoesBy r e

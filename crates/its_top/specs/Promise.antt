@@ -1,6 +1,7 @@
--- What the program promises, for a reader who opens one file: of `run`, that what it writes is a transcript of its session
--- (`Transcribed`), and that `verify` accepts it (`Vouched`); what YES of `verify` means (`Licensed`), and what Done of `asm` means
--- (`Assembled`). What else each answer says, and which text is written, is in Outcomes.
+-- What the program promises, for a reader who opens one file: of `run`, that what it writes is a
+-- transcript of its session (`Transcribed`), and that `verify` accepts it (`Vouched`); what YES of
+-- `verify` means (`Licensed`), and what Done of `asm` means (`Assembled`). What else each answer
+-- says, and which text is written, is in Outcomes.
 -- A promise rests on this.
 use Rattle.std.specs.Prelude.{◌≡◌, ◌≤◌, ℕ, ◌+◌, length, false, Option, Some, Ok, List, [], ◌∷◌, ◌++◌}
 use Rattle.std.specs.Io.KnownBytes.{Appends}
@@ -15,7 +16,8 @@ use Rattle.its_plain.specs.LinkLedger.{LinkLedger}
 use Rattle.its_plain.specs.Stretch.{Stretches}
 use Rattle.its_plain.specs.Fair.{FairTurns}
 use Rattle.its_plain.specs.FewDots.{FewDots}
-use Rattle.its_plain.specs.RunIntegrity.{Integrity}
+use Rattle.its_security.specs.RunIntegrity.{Integrity}
+use Rattle.its_security.specs.Confidential.{Confidential}
 use Rattle.its_verify.specs.Accepted.{Accepted}
 use Rattle.its_verify.specs.Rulings.{Yes}
 use Rattle.its_verify.specs.Verified.{Judged, Both, parts_from, verified}
@@ -34,7 +36,8 @@ answer_of Open = statuses.Done
 answer_of Refused = statuses.Refused
 answer_of TooLong = statuses.TooLong
 
--- what `its run` wrote of the session that these bytes are, if its answer is Done, Refused or TooLong
+-- what `its run` wrote of the session that these bytes are, if its answer is Done, Refused or
+-- TooLong
 pub record Transcribed (status : Status) (bytes : List ℕ) (old new : Option (List ℕ)) : Type 0 where
   -- Lines were written.
   pub lines : List Line
@@ -52,7 +55,8 @@ pub record Transcribed (status : Status) (bytes : List ℕ) (old new : Option (L
   pub answer : status ≡ answer_of fate
   -- No byte between a console and the jobs is lost, doubled or put out of its order.
   pub ledger : Ledger events lines
-  -- No word that goes through a link is lost, doubled or put out of its order, as long as the link exists.
+  -- No word that goes through a link is lost, doubled or put out of its order, as long as the link
+  -- exists.
   pub links : LinkLedger events lines
   -- Each stretch of a transfer moves its bytes once and in their order.
   pub stretches : Stretches events lines
@@ -62,6 +66,8 @@ pub record Transcribed (status : Status) (bytes : List ℕ) (old new : Option (L
   pub fair : FairTurns events lines
   -- Each step and each line changes only what it may, and what a reader reads is unchanged.
   pub integrity : Integrity events lines
+  -- A job learns of jobs that are neither above nor below it only what is listed.
+  pub confidential : Confidential events lines
 
 -- these bytes are a session of so many lines, the last of which is its only END line, with its LF
 pub record EndsSession (session : List ℕ) (count : ℕ) : Type 0 where
@@ -82,14 +88,14 @@ pub record Vouched (bytes : List ℕ) (old new : Option (List ℕ)) : Type 0 whe
   pub count : ℕ
   -- That is their number.
   pub counted : count ≡ length (lines_in written)
-  -- If the input begins with a session up to its END line, and there is room for the lines of both, `verify` says YES
-  -- of this session followed by what was written.
+  -- If the input begins with a session up to its END line, and there is room for the lines of both,
+  -- `verify` says YES of this session followed by what was written.
   pub vouched : (session rest : List ℕ) (lines : ℕ)
       → session ++ rest ≡ bytes → EndsSession session lines → lines + count ≤ most_lines
       → verified (session ++ written) ≡ Judged (Yes count)
 
--- an input, cut after its first END line: the bytes of the session, which are so many lines, and those of the
--- transcript
+-- an input, cut after its first END line: the bytes of the session, which are so many lines, and
+-- those of the transcript
 pub record IsCut (bytes session : List ℕ) (count : ℕ) (transcript : List ℕ) : Type 0 where
   -- The input is the one and then the other.
   pub whole : session ++ transcript ≡ bytes

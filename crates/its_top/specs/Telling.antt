@@ -20,7 +20,7 @@ pub record Says : Type 0 where
 abbrev pub said : Told → Says
 said t = record { text = text t.lines; fate = t.fate }
 
--- the same, after some text
+-- what a session says after some text
 abbrev pub after : List ℕ → Says → Says
 after w s = record { text = w ++ s.text; fate = s.fate }
 
@@ -45,8 +45,8 @@ abbrev pub goes_on_after : Event → Bool
 goes_on_after events.End = false
 goes_on_after _ = true
 
--- what an event did, and what it wrote: the session goes on with another state and block, it is over
--- by END or by a refused line, or a write failed
+-- what an event did, and what it wrote: the session goes on with another state and block, it is
+-- over by END or by a refused line, or a write failed
 abbrev pub Answers : Flow → ℕ → State → Block → Event → State → Block → List ℕ → Type 0
 Answers flows.On n v b e v' b' w =
     (goes_on_after e ≡ true) × ((next : State → Block → Told) → line_says n v b e next ≡ after w (said (next v' b')))
@@ -55,8 +55,8 @@ Answers flows.Refused n v b e v' b' w = (next : State → Block → Told) → li
 Answers flows.TooLong n v b e v' b' w = ⊥
 Answers flows.Fault n v b e v' b' w = (next : State → Block → Told) → BeginsText (line_says n v b e next) w
 
--- the same of a line with the turns that it asks for, when slot i had the last turn before them, and slot j has it
--- then
+-- a line with the turns that it asks for, when slot i had the last turn before them, and slot j has
+-- it then
 abbrev pub FollowsBy : Flow → ℕ → State → Block → ℕ → Event → State → Block → ℕ → List ℕ → Type 0
 FollowsBy flows.On n v b i e v' b' j w =
     (goes_on_after e ≡ true) × ((items : List Item) → session_says n v b i (Read e ∷ items) ≡ after w (session_says (n + 1) v' b' j items))

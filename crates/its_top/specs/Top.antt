@@ -22,8 +22,9 @@ DoneFor (Some VerifyCommand) st left rest old new = Verify st left rest old new
 DoneFor (Some AsmCommand) st left rest old new = Asm st left rest old new
 DoneFor None st left rest old new = WroteText st statuses.Usage usage old new × (rest ≡ left)
 
--- if memory was refused, nothing was written, and only a command that keeps what it reads has read anything. Words that
--- are no command need no memory, and a check needs none; that a text is too long is found without memory
+-- if memory was refused, nothing was written, and only a command that keeps what it reads has read
+-- anything. Words that are no command need no memory, and a check needs none; that a text is too
+-- long is found without memory
 abbrev pub Refrains : Option Command → Option (List ℕ) → Option (List ℕ) → Option (List ℕ) → Option (List ℕ) → Type 0
 Refrains (Some VerifyCommand) left rest old new = new ≡ old
 Refrains (Some AsmCommand) left rest old new = (new ≡ old) × IfSome left (λ bytes. runs_past bytes ≡ false)

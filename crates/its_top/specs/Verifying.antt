@@ -12,8 +12,8 @@ use Rattle.its_top.specs.Promise.{IsCut, Licensed}
 use Rattle.its_top.specs.declared.status.Status.{Status}
 use Rattle.its_top.specs.declared.status.Status.TheVariants as statuses
 
--- line n of the transcript is the first that is not licensed, or that is missing, and there is room for all lines or
--- for this one
+-- line n of the transcript is the first that is not licensed, or that is missing, and there is room
+-- for all lines or for this one
 pub record Unlicensed (bytes : List ℕ) (n : ℕ) : Type 0 where
   pub session : List ℕ
   pub count : ℕ
@@ -60,14 +60,15 @@ pub record TellsAnswer (status : Status) (a : Answer) (old new : Option (List �
   pub appended : Appends old new wrote
   pub told : ToldAs status a wrote
 
--- a verification of these bytes has this status, and wrote w. If the source failed, what was read decides nothing, and
--- nothing was written; if memory was refused, nothing was written
+-- a verification of these bytes has this status, and wrote w. If the source failed, what was read
+-- decides nothing, and nothing was written; if memory was refused, nothing was written
 abbrev pub VerifyOf : Status → List ℕ → Option (List ℕ) → List ℕ → Type 0
 VerifyOf statuses.ReadFault bytes rest w = Breaks bytes rest × (w ≡ [])
 VerifyOf statuses.NoMemory bytes rest w = w ≡ []
 VerifyOf status bytes rest w = ToldAs status (verified bytes) w
 
--- how a verification ended, from what its source had left and had left then, and from what its sink was given
+-- how a verification ended, from what its source had left and had left then, and from what its sink
+-- was given
 pub record Verify (status : Status) (left rest old new : Option (List ℕ)) : Type 0 where
   pub wrote : List ℕ
   pub appended : Appends old new wrote

@@ -95,8 +95,8 @@ fn put_run(runs: &mut Runs, pace: Pace, count: u32)
     }
 }
 
-/// The letters of the first ticks of a slot, n at most: of one, and if the tick before it had the same letter, `last`, of all that surely have
-/// it too.
+/// The run of letters that the next ticks of a slot begin with, of n ticks at most: one tick; and if its
+/// letter is `last`, that of the tick before, also all after it that surely have this letter.
 #[tactic(auto, using(crate::proofs::PaceLaws::one_more, crate::proofs::PaceLaws::one_and_more))]
 fn run_of(m: &mut Monitor, s: Slot, n: u32, last: Pace) -> Run
     requires sound { Kept m.old.world }
@@ -114,8 +114,9 @@ fn run_of(m: &mut Monitor, s: Slot, n: u32, last: Pace) -> Run
     Run { pace, more: 0 }
 }
 
-/// How many ticks of a slot, n at most, surely have the letter of the two before them: after steps all that follow in user mode, or all bytes
-/// that SIOT moves one after the other, and if the slot waits, all ticks. They are made.
+/// Makes the next ticks of a slot that surely have the letter of the two before them, n at most, and
+/// says how many: after steps all that follow in user mode, or all bytes that SIOT moves one after
+/// the other; and all n if the slot waits.
 #[tactic(auto, using(crate::proofs::PaceLaws::like_these))]
 fn more_of(m: &mut Monitor, s: Slot, pace: Pace, n: u32) -> u32
     requires sound { Kept m.old.world }

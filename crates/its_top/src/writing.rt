@@ -13,7 +13,8 @@ use its_io::{Sink, write_all};
 use its_print::{Reply, print_reply};
 use its_records::{Reason, Refusal};
 
-/// Writes a line, after which the turn is `good`. The room for its bytes loses what it had before.
+/// Writes a line. The session then goes on as `good` says, or is over if the write failed. The room
+/// for its bytes loses what it had before.
 #[tactic(auto, using(crate::proofs::WritingLaws::told_all, crate::proofs::WritingLaws::told_begun))]
 pub fn tell<K: Sink>(line: &mut Bytes, out: &mut K, reply: &Reply, good: Flow) -> Flow
     requires few { FewParts reply.now }

@@ -1,9 +1,13 @@
-//! The program as a library: one call takes the words of a command and its input, and gives what the program writes for
-//! them, with its exit status. tools/weblib/its.h declares it for C; docs/WEB.md says how a page calls it.
+//! The program as a library for C and for pages: one call, its bytes and its exit status. The call
+//! takes the words of a command and its input, and gives what the program writes for them, with its
+//! exit status. tools/weblib/its.h declares it for C; docs/WEB.md says how a page calls it.
 //!
-//! Proved of `its_call`: the contract says of the bytes in `out` what `its_top::its` says of what it writes, for each
-//! command and each status that comes with bytes (`run`, `check`, `generate`, `verify`, `asm`, `usage`). Otherwise
-//! nothing is given (`nothing`). No clause says when 4 and 5 occur.
+//! Proved of `its_call`: the contract says of the bytes in `out` what `its_top::its` says of what
+//! it writes, for each command and each status that comes with bytes (`run`, `check`, `generate`,
+//! `verify`, `asm`, `usage`). Otherwise nothing is given (`nothing`). No clause says when 4 and 5
+//! occur.
+//!
+//! Tests: its_web/src/tests.rt.
 #![tactic(auto)]
 
 ghost use Rattle.std.specs.Prelude.{◌≡◌, ◌≢◌, ◌≤◌, ◌⊎◌, true, take, length, map, string_bytes, IfOk, IfErr, IfSome, Some, None};

@@ -1,4 +1,5 @@
--- The laws of reading and storing words of core. They close `word_at`, `can_store` and `store` off: no other proof opens these.
+-- The laws of reading and storing words of core. They close `word_at`, `can_store` and `store` off:
+-- no other proof opens these.
 use Rattle.std.specs.Prelude.{if◌then◌else◌, ◌≡◌, ◌≢◌, ℕ, zero, suc, ◌/◌, ◌%◌, Bool, true, false, Option, Some, None, List, [], ◌∷◌, nat_lt, slice_get, slice_set, is_some, Ok, Err, refl}
 use Rattle.std.proofs.Common.{sym, ◌∙◌, ap, inl, inr, arith}
 use Rattle.std.proofs.lemmas.Bool.{cases_Bool, cases_eq}

@@ -128,7 +128,7 @@ unfolding pages_mapped
 pages_mapped-only old new i x o h =
     rw (sym o.here) (sum_only (λ k. pages_present (old k)) (λ k. pages_present (new k)) i 0 slots (omega arith) h (λ k ne. ap pages_present (o.others k ne)))
 
--- the same cores have the same pages
+-- if the cores are alike, so are their pages
 pub pages_mapped-same : (old new : ℕ → Core) → Same old new → pages_mapped new ≡ pages_mapped old
 unfolding pages_mapped
 pages_mapped-same old new s = sum_alike (λ k. pages_present (old k)) (λ k. pages_present (new k)) 0 slots (λ k le. ap pages_present (s.each k))

@@ -74,7 +74,8 @@ can_by true x r h = (refl, h)
 can_by false None r h = cc
 can_by false (Some w) r h = cc
 
--- stores that are being made: nothing that is left is refused, and it makes of the core what all make of it
+-- stores that are being made: nothing that is left is refused, and it makes of the core what all
+-- make of it
 pub record Making (old now : ℕ → Core) (slot : ℕ) (all rest : List Store) : Type 0 where
   pub others : (k : ℕ) → k ≢ slot → now k ≡ old k
   pub same : stored (now slot) rest ≡ stored (old slot) all

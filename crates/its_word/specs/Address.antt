@@ -9,8 +9,8 @@ use Rattle.its_word.specs.declared.access.Address.{Address}
 use Rattle.its_word.specs.declared.access.Fault.{Fault}
 use Rattle.its_word.specs.declared.access.Fault.TheVariants.{Mpv, Ilo}
 
--- what the calculation gives: the address, with the last index register or indirect word that it used, or a fault;
--- the places that it read, in their order; and how much of the budget is used
+-- what the calculation gives: the address, with the last index register or indirect word that it
+-- used, or a fault; the places that it read, in their order; and how much of the budget is used
 pub record Addressed : Type 0 where
   pub answer : Result Address Fault
   pub reads : List ℕ
@@ -36,7 +36,7 @@ index_places w = if index_of w == 0 then [] else index_of w ∷ []
 unfoldable pub last_used : Core → ℕ → Option ℕ → Option ℕ
 last_used c w last = if index_of w == 0 then last else Some (acc_at c (index_of w))
 
--- the same, after these places were read
+-- an address that is found after these places were read
 abbrev pub reading : List ℕ → Addressed → Addressed
 reading places r = record r { reads = places ++ r.reads }
 
@@ -52,8 +52,8 @@ abbrev pub followed : ℕ → (ℕ → Addressed) → Option ℕ → Addressed
 followed n rest (Some w) = rest w
 followed n rest None = failed n Mpv
 
--- the calculation from an address word on, with n of the budget left. If I is 1, the word at the address is the next
--- address word; if nothing is left for it, that is ILO
+-- the calculation from an address word on, with n of the budget left. If I is 1, the word at the
+-- address is the next address word; if nothing is left for it, that is ILO
 unfoldable pub calculation : ℕ → Core → ℕ → Option ℕ → Addressed
 calculation zero c w last =
     reading (index_places w) (if is_indirect w then failed 0 Ilo else found 0 (indexed c w) (last_used c w last))

@@ -1,5 +1,5 @@
--- Integer arithmetic (processor reference manual, "Fixed point arithmetic" and "Arithmetic testing").
--- a is AC and s the source of the row; both are words.
+-- Integer arithmetic (processor reference manual, "Fixed point arithmetic" and "Arithmetic
+-- testing"). a is AC and s the source of the row; both are words.
 -- A promise rests on this.
 use Rattle.std.specs.Prelude.{if◌then◌else◌, ◌==◌, ◌&&◌, ◌||◌, not, ℕ, ℤ, pos, negsuc, ◌+◌, ◌*◌, ◌/◌, ◌%◌, ◌^◌, ◌+ℤ◌, ◌*ℤ◌, Bool, true, false, Option, Some, None, [], ◌∷◌, nat_le, nat_lt, int_lt, int_div, int_rem, slice_index_or}
 use Rattle.std.specs.Ordering.{int_eq}
@@ -73,8 +73,8 @@ imul_of a s = if fits (product_of a s) then one_word (word_of (product_of a s)) 
 
 -- IDIV, DIV: none means overflow and no divide, with no operand changed
 
--- the quotient towards 0, and the remainder with the dividend's sign; none if the divisor is 0 or the quotient does
--- not fit one word
+-- the quotient towards 0, and the remainder with the dividend's sign; none if the divisor is 0 or
+-- the quotient does not fit one word
 unfoldable pub divided : ℤ → ℤ → Option Result2
 divided n d =
     if int_eq d (pos 0) || not (fits (int_div n d)) then None

@@ -1,5 +1,5 @@
--- The bytes that wait at a console: those that were typed and not taken, and those that were put out and not drained, each
--- in the order in which they came.
+-- The bytes that wait at a console: those that were typed and not taken, and those that were put
+-- out and not drained, each in the order in which they came.
 -- A promise rests on this.
 use Rattle.std.specs.Prelude.{ℕ, List, []}
 

@@ -97,7 +97,8 @@ pages_present c = count_by is_some c.pages
 unfoldable pub pages_mapped : (ℕ → Core) → ℕ
 pages_mapped cores = sum_by (λ k. pages_present (cores k)) (range_with_len 0 slots)
 
--- a core as any slot has it: sixteen accumulators, 256 possible pages, and 1024 words on each page that is present
+-- a core as any slot has it: sixteen accumulators, 256 possible pages, and 1024 words on each page
+-- that is present
 pub record IsWhole (c : Core) : Type 0 where
   pub accs : length c.accs ≡ 16
   pub pages : length c.pages ≡ 256

@@ -1,4 +1,5 @@
--- A directory of files in their order, each with three names (those of its directory and its own two) and its words.
+-- A directory of files in their order, each with three names (those of its directory and its own
+-- two) and its words.
 -- A promise rests on this.
 use Rattle.std.specs.Prelude.{ℕ, Bool, true, false, ◌&&◌, eqb, List, [], ◌∷◌, ◌++◌, slice_index_or}
 

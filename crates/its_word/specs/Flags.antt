@@ -1,12 +1,13 @@
--- The flags of a PC word, and the bits of pending word 1 (docs/MACHINE.md, "Instructions" and "Interrupts").
+-- The flags of a PC word, and the bits of pending word 1 (docs/MACHINE.md, "Instructions" and
+-- "Interrupts").
 -- A promise rests on this.
 use Rattle.std.specs.Prelude.{ℕ, bit_and, bit_or}
 use Rattle.its_word.specs.Word.{left_of, pair_of}
 use Rattle.its_word.specs.declared.access.Fault.{Fault}
 use Rattle.its_word.specs.declared.access.Fault.TheVariants.{Mpv, Wro, Ilo}
 
--- the flags, as bits of the left half of a PC word (processor reference manual, "Program control"): overflow, carry 0,
--- carry 1, floating overflow, first part done, user and no divide
+-- the flags, as bits of the left half of a PC word (processor reference manual, "Program control"):
+-- overflow, carry 0, carry 1, floating overflow, first part done, user and no divide
 abbrev pub OVERFLOW : ℕ
 OVERFLOW = 0o400000
 
@@ -32,8 +33,9 @@ NO_DIVIDE = 0o000040
 abbrev pub NAMED_FLAGS : ℕ
 NAMED_FLAGS = 0o760040
 
--- the bits of pending word 1: `.BREAK`; an illegal operation; an absent page; a store to a read-only page; an `.IOT` that
--- failed; an interrupt that cannot be delivered; a pushdown count that ran out; an inferior that stopped or logged out
+-- the bits of pending word 1: `.BREAK`; an illegal operation; an absent page; a store to a
+-- read-only page; an `.IOT` that failed; an interrupt that cannot be delivered; a pushdown count
+-- that ran out; an inferior that stopped or logged out
 abbrev pub BRK : ℕ
 BRK = 0o1
 

@@ -10,8 +10,8 @@ slots = 96
 abbrev pub consoles : ℕ
 consoles = 8
 
--- jobs that a session can have: 64 in version 1 of the session text, one for each place in version 2. The slots of jobs
--- are below this number
+-- jobs that a session can have: 64 in version 1 of the session text, one for each place in version
+-- 2. The slots of jobs are below this number
 unfoldable pub limit_of : ℕ → ℕ
 limit_of version = if version == 2 then slots else 64
 

@@ -4,8 +4,9 @@
 use Rattle.std.specs.Prelude.{◌==◌, not, ℕ, ◌-◌, ◌*◌, ◌/◌, ◌^◌, Bool, true, false, List, [], ◌∷◌, bit_and, bit_or, bit_xor, slice_index, slice_index_or}
 use Rattle.its_word.specs.Word.{complement_of, left_of, pair_of, right_of}
 
--- the sixteen Boolean functions of AC and the source m, in the order of their opcodes 400, 404 .. 474:
--- SETZ, AND, ANDCA, SETM, ANDCM, SETA, XOR, IOR, ANDCB, EQV, SETCA, ORCA, SETCM, ORCM, ORCB, SETO
+-- the sixteen Boolean functions of AC and the source m, in the order of their opcodes 400, 404 ..
+-- 474: SETZ, AND, ANDCA, SETM, ANDCM, SETA, XOR, IOR, ANDCB, EQV, SETCA, ORCA, SETCM, ORCM, ORCB,
+-- SETO
 abbrev pub boolean_table : ℕ → ℕ → List ℕ
 boolean_table a m =
     0
@@ -37,10 +38,10 @@ ones = 2 ^ 18 - 1
 abbrev pub copies : ℕ → ℕ
 copies half = half / 2 ^ 17 * ones
 
--- the sixteen half moves from the source s to d, in the order of their opcodes 500, 504 .. 574: HLL,
--- HRL, HLLZ, HRLZ, HLLO, HRLO, HLLE, HRLE, HRR, HLR, HRRZ, HLRZ, HRRO, HLRO, HRRE, HLRE. The first
--- letter after H is the source's half, the second the destination's; d's other half stays, or is made
--- zeros, ones, or copies of the moved half's leftmost bit
+-- the sixteen half moves from the source s to d, in the order of their opcodes 500, 504 .. 574:
+-- HLL, HRL, HLLZ, HRLZ, HLLO, HRLO, HLLE, HRLE, HRR, HLR, HRRZ, HLRZ, HRRO, HLRO, HRRE, HLRE. The
+-- first letter after H is the source's half, the second the destination's; d's other half stays, or
+-- is made zeros, ones, or copies of the moved half's leftmost bit
 abbrev pub half_table : ℕ → ℕ → List ℕ
 half_table s d =
     pair_of (left_of s) (right_of d)
@@ -64,14 +65,15 @@ half_table s d =
 unfoldable pub half_of : ℕ → ℕ → ℕ → ℕ
 half_of k s d = slice_index (half_table s d) k
 
--- TR, TL, TD, TS: whether a test of AC under a mask skips, before AC is changed: never; if all masked bits are 0 (E);
--- always (A); if not all are 0 (N)
+-- TR, TL, TD, TS: whether a test of AC under a mask skips, before AC is changed: never; if all
+-- masked bits are 0 (E); always (A); if not all are 0 (N)
 unfoldable pub tested_of : ℕ → ℕ → ℕ → Bool
 tested_of k a mask = slice_index_or (false ∷ all_zero ∷ true ∷ not all_zero ∷ []) k false
   where
     all_zero : Bool
     all_zero = bit_and a mask == 0
 
--- what it leaves in AC: AC itself (N), or with the masked bits cleared (Z), complemented (C), set (O)
+-- what it leaves in AC: AC itself (N), or with the masked bits cleared (Z), complemented (C), set
+-- (O)
 unfoldable pub changed_of : ℕ → ℕ → ℕ → ℕ
 changed_of c a mask = slice_index (a ∷ bit_and a (complement_of mask) ∷ bit_xor a mask ∷ bit_or a mask ∷ []) c

@@ -67,8 +67,8 @@ stack_opcode op =
     (Stack Pushj ∷ Stack Push ∷ Stack Pop ∷ Stack Popj ∷ Stack Jsr ∷ Stack Jsp ∷ Stack Jsa ∷ Stack Jra ∷ [])
     (op % 8)
 
--- 200 to 277, four opcodes a row: 200 MOVE, 204 MOVS, 210 MOVN, 214 MOVM, 220 IMUL, 224 MUL, 230 IDIV, 234 DIV, the three
--- tables above, 270 ADD, 274 SUB
+-- 200 to 277, four opcodes a row: 200 MOVE, 204 MOVS, 210 MOVN, 214 MOVM, 220 IMUL, 224 MUL, 230
+-- IDIV, 234 DIV, the three tables above, 270 ADD, 274 SUB
 unfoldable pub full_word_opcode : ℕ → Instruction
 full_word_opcode op =
     entry
@@ -91,7 +91,8 @@ full_word_opcode op =
     ∷ [])
     (op / 4 % 16)
 
--- 300 CAI, 310 CAM, 320 JUMP, 330 SKIP, 340 AOJ, 350 AOS, 360 SOJ, 370 SOS, with the condition in the low digit
+-- 300 CAI, 310 CAM, 320 JUMP, 330 SKIP, 340 AOJ, 350 AOS, 360 SOJ, 370 SOS, with the condition in
+-- the low digit
 unfoldable pub compare_opcode : ℕ → Instruction
 compare_opcode op = Compare (entry_or Cai (Cai ∷ Cam ∷ Jump ∷ Skip ∷ Aoj ∷ Aos ∷ Soj ∷ Sos ∷ []) (op / 8 % 8)) (op % 8)
 
@@ -102,7 +103,8 @@ mask_of op = entry_or Tr (Tr ∷ Tl ∷ Td ∷ Ts ∷ []) (op / 8 % 2 * 2 + op %
 unfoldable pub test_opcode : ℕ → Instruction
 test_opcode op = Test (mask_of op) (op / 2 % 4) (op / 16 % 4)
 
--- all opcodes by their first digit. 100 to 177 have bytes alone; 400 SETZ to 474 SETO and 500 HLL to 574 HLRE four modes each
+-- all opcodes by their first digit. 100 to 177 have bytes alone; 400 SETZ to 474 SETO and 500 HLL
+-- to 574 HLRE four modes each
 unfoldable pub instruction_of : ℕ → Instruction
 instruction_of op =
     entry

@@ -1,4 +1,5 @@
--- What a row of the instruction tables gives: a first and a second result, and the flags that it sets.
+-- What a row of the instruction tables gives: a first and a second result, and the flags that it
+-- sets.
 -- A promise rests on this.
 use Rattle.std.specs.Prelude.{ℕ}
 use Rattle.its_word.specs.declared.result2.Result2.{Result2}

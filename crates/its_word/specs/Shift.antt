@@ -36,7 +36,8 @@ rotated_by n e w = rotated n w (if is_left e then places e else n - places e % n
 abbrev pub sign_copies : ℕ → ℕ → ℕ
 sign_copies s k = s * (2 ^ k - 1)
 
--- n bits m after a sign bit s, which is unchanged: zeros come in at the right, or copies of s at the left
+-- n bits m after a sign bit s, which is unchanged: zeros come in at the right, or copies of s at
+-- the left
 abbrev pub arithmetic : ℕ → ℕ → ℕ → ℕ → ℕ
 arithmetic n e s m = if is_left e then moved_left n m (places e) else moved_right (sign_copies s (places e) * 2 ^ n + m) (places e)
 

@@ -1,4 +1,5 @@
--- Lists that are built by index: n copies of x, and f of each number below n. Opaque, as n may be large.
+-- Lists that are built by index: n copies of x, and f of each number below n. Opaque, as n may be
+-- large.
 -- A promise rests on this.
 use Rattle.std.specs.Prelude.{ℕ, List, map, replicate}
 use Rattle.std.specs.List.{range_with_len}

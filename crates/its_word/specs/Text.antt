@@ -1,4 +1,5 @@
--- Numbers and names as text (docs/SESSION.md, "Numbers and names"). Characters are their ASCII codes.
+-- Numbers and names as text (docs/SESSION.md, "Numbers and names"). Characters are their ASCII
+-- codes.
 -- A promise rests on this.
 use Rattle.std.specs.Prelude.{if◌then◌else◌, ℕ, ◌+◌, ◌-◌, ◌*◌, ◌/◌, ◌%◌, ◌^◌, ◌==◌, Bool, ◌&&◌, not, List, [], ◌∷◌, ◌++◌, length, map, filter, fold, nat_le, nat_lt}
 use Rattle.std.specs.List.{range_with_len, list_all, slice_split}
@@ -30,7 +31,8 @@ octal_value text = number_of 8 48 text
 unfoldable pub is_name : List ℕ → Bool
 is_name text = is_text 6 33 95 text
 
--- its SIXBIT word: six bits a character, its code less 40 (octal), from the left, zeros after the end
+-- its SIXBIT word: six bits a character, its code less 40 (octal), from the left, zeros after the
+-- end
 unfoldable pub sixbit_of : List ℕ → ℕ
 sixbit_of text = number_of 64 32 text * 2 ^ (6 * (6 - length text))
 

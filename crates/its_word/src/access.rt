@@ -1,11 +1,13 @@
+//! Addresses that a chain of address words reaches, and why a word is not accessible.
+
 ghost use Rattle.std.specs.Prelude.{◌≡◌};
 ghost use Rattle.its_word.specs.Flags.{bit_of};
 
 use super::pending::{ILO, MPV, WRO};
 use super::word::Word;
 
-/// An effective address, from 0 to 777777 (octal), and the last index register or indirect word that
-/// its calculation used, from which JRST 2 takes its flags.
+/// An effective address, from 0 to 777777 (octal), and the last index register or indirect word
+/// that its calculation used, from which JRST 2 takes its flags.
 #[derive(Clone, Copy, Debug, PartialEq, Eq)]
 pub struct Address {
     pub e: u32,

@@ -1,3 +1,5 @@
+//! An array filled with one value.
+
 ghost use Rattle.std.specs.Prelude.{◌≡◌, IfOk};
 ghost use Rattle.its_word.specs.Table.{filled as copies};
 

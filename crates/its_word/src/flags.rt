@@ -1,4 +1,5 @@
-//! The flags of a PC word, as bits of its left half (processor reference manual, "Program control").
+//! The flags of a PC word, as bits of its left half (processor reference manual, "Program
+//! control").
 ghost use Rattle.std.specs.Prelude.{◌≡◌};
 ghost use Rattle.its_word.specs.Flags.{pc_word, flags_of};
 

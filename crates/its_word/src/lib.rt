@@ -1,12 +1,18 @@
-//! Words of 36 bits, the text of numbers and names, and the definitions of the instruction tables (in `specs/`).
+//! Words of 36 bits, the text of numbers and names, and the instruction tables.
 //!
 //! Proved, each by its definition:
 //! - words: `Word::new`, `value`, `left`, `right`, `pair`, `signed`, `from_signed` and `octal12`;
-//! - numbers and names in text: `read_octal` and `read_sixbit` accept exactly the texts that they should; a number that
-//!   was printed is read back (`digits_read_back`);
+//! - numbers and names in text: `read_octal` and `read_sixbit` accept exactly the texts that they
+//!   should; a number that was printed is read back (`digits_read_back`);
 //! - the words of a line (`words`), and the opcode table (`decode`).
 //!
 //! `ReadyWords` makes words ready from the first on; only its `open` takes memory.
+//!
+//! One file of laws at the bottom (`proofs/NamesLaws`) says what follows if two names of files are
+//! the same, for each other and against any third name. Laws of the definitions and of the store of
+//! files both use it.
+//!
+//! Tests: test_text/src/words.rt, test_pdp.
 #![tactic(auto)]
 
 mod access;

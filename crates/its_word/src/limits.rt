@@ -1,5 +1,7 @@
-/// How many places there are for jobs; slots are the numbers below it. A session of version 1 has fewer
-/// jobs.
+//! The numbers that bound a machine: slots, addresses, the budget of a chain, mapped pages.
+
+/// How many places there are for jobs; slots are the numbers below it. A session of version 1 has
+/// fewer jobs.
 pub const SLOTS: usize = 96;
 
 /// How many addresses there are; addresses are the numbers below it.

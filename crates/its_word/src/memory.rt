@@ -1,3 +1,5 @@
+//! The error that there is no memory.
+
 use thiserror::Error;
 
 /// The memory that a type needs at its making was refused.

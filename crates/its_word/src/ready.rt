@@ -1,3 +1,5 @@
+//! Words whose memory is taken at once and which are written when they are first needed.
+
 ghost use Rattle.std.specs.Prelude.{◌≡◌, ℕ, ◌-◌, ◌<◌, ◌≤◌, ◌++◌, [], length, replicate, slice_set, slice_index_or, IfOk};
 
 use super::memory::NoMemory;
@@ -5,9 +7,9 @@ use super::word::Word;
 use std::alloc::Global;
 use std::marker::Model;
 
-/// Words that are made ready from the first on. The memory for all of them is taken at the opening; a
-/// word is first written when it is made ready. Contracts see the words that are ready, and how many
-/// there may be.
+/// Words that are made ready from the first on. The memory for all of them is taken at the opening;
+/// a word is first written when it is made ready. Contracts see the words that are ready, and how
+/// many there may be.
 #[derive(Drop)]
 pub struct ReadyWords {
     ready: Vec<Word>,

@@ -1,4 +1,5 @@
--- The result of each change of a channel, a draft or a file: the state is that after the change, and the world is tidy.
+-- The result of each change of a channel, a draft or a file: the state is that after the change,
+-- and the world is tidy.
 use Rattle.std.specs.Prelude.{◌≡◌, ◌≢◌, ◌<◌, ◌≤◌, ℕ, ◌+◌, ◌-◌, Bool, true, false, Some, None, is_some, Ok, Err, List, [], ◌∷◌, ◌++◌, refl}
 use Rattle.std.proofs.Common.{sym, ◌∙◌, ap, subst, inl, inr}
 use Rattle.std.proofs.lemmas.Bool.{cases_eq}

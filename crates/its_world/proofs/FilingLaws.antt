@@ -47,7 +47,8 @@ settled_none old new h o same e = record {
   each = λ k. inr ((count_none k (list_at old.rings.lists h) e, tt), λ g. ap (λ l. count k (list_at l.lists g)) same);
 }
 
--- a slot of the list is taken out, the rest of the list is settled, and the slot is put on the list to which it belongs
+-- a slot of the list is taken out, the rest of the list is settled, and the slot is put on the list
+-- to which it belongs
 pub settled_some : (old mid last new : World) (h n s : ℕ) → OnlyRings old mid → h < length old.rings.lists → first (list_at old.rings.lists h) ≡ Some n
     → mid.rings ≡ record old.rings { lists = slice_set old.rings.lists h (rest (list_at old.rings.lists h)) } → s ≡ n
     → Resettled mid last (h ∷ []) → Refiled last new s → Resettled old new (h ∷ [])

@@ -1,4 +1,5 @@
--- A link changed, and an end of one opened or closed with its channel: the state is that after the change, and the world is tidy.
+-- A link changed, and an end of one opened or closed with its channel: the state is that after the
+-- change, and the world is tidy.
 use Rattle.std.specs.Prelude.{◌≡◌, ◌<◌, ℕ, Bool, Option, Some}
 use Rattle.std.proofs.Common.{sym, ◌∙◌, ap, subst}
 use Rattle.its_records.specs.declared.jobs.Channel.{Channel}

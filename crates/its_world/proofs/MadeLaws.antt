@@ -1,5 +1,5 @@
--- A job that is made in an empty slot, whose core is that of no job: the state of the world after it, and that the
--- world is tidy.
+-- A job that is made in an empty slot, whose core is that of no job: the state of the world after
+-- it, and that the world is tidy.
 use Rattle.std.specs.Prelude.{◌≡◌, ◌<◌, ◌≢◌, ℕ, Option, Some, None, []}
 use Rattle.std.proofs.Common.{sym, ◌∙◌, ap, subst, inl, inr}
 use Rattle.std.proofs.lemmas.Bool.{cases_eq}
@@ -84,8 +84,8 @@ module _ (old new : World) (s u n : ℕ) (superior console : Option ℕ) (made :
     ];
   }
 
--- the jobs have the limit of the raw machine; no slot has a job if none of the raw machine has; its least free slot is
--- that of the jobs; it is empty, and its core is that of no job
+-- the jobs have the limit of the raw machine; no slot has a job if none of the raw machine has; its
+-- least free slot is that of the jobs; it is empty, and its core is that of no job
 pub limit_raw : (w : World) → w.jobs.limit ≡ limit (state_of w).raw
 unfolding state_of
 limit_raw w = w.limited

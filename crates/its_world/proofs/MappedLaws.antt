@@ -1,5 +1,5 @@
--- The pages of all jobs: those of the raw machine are those of the cores; and the state of a world in which a reserved
--- page was mapped.
+-- The pages of all jobs: those of the raw machine are those of the cores; and the state of a world
+-- in which a reserved page was mapped.
 use Rattle.std.specs.Prelude.{◌≡◌, ◌<◌, ℕ, true, Option, Some, None, is_some, option_map, refl}
 use Rattle.std.proofs.Common.{sym, ◌∙◌, ap, subst, inl, inr}
 use Rattle.std.proofs.lemmas.Bool.{cases_eq}

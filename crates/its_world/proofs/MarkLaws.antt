@@ -1,4 +1,5 @@
--- The mark of the store of files: what each part of a close, and its beginning, does to the files and the mark of the machine.
+-- The mark of the store of files: what each part of a close, and its beginning, does to the files
+-- and the mark of the machine.
 use Rattle.std.specs.Prelude.{◌≡◌, ◌≢◌, ℕ, zero, suc, Bool, true, false, nat_lt, Option, Some, None, is_some, Ok, List, [], ◌∷◌, ◌++◌, length, unwrap_or, refl}
 use Rattle.std.specs.List.{last_or}
 use Rattle.std.proofs.Common.{sym, ◌∙◌, ap, subst}

@@ -1,5 +1,5 @@
--- The lists to which slots belong, as parts of a world are written; all else keeps each slot on the list to which it
--- belongs. No other file reasons on places.
+-- The lists to which slots belong, as parts of a world are written; all else keeps each slot on the
+-- list to which it belongs. No other file reasons on places.
 use Rattle.std.specs.Prelude.{◌≡◌, ◌≢◌, ◌<◌, ◌⊎◌, ◌&&◌, ◌+◌, ℕ, zero, suc, Bool, true, false, Option, Some, None, IfSome, List, [], ◌∷◌, ◌++◌, length, nat_lt, unwrap_or, refl}
 use Rattle.std.proofs.Common.{sym, ◌∙◌, ap, subst, inl, inr, arith}
 use Rattle.std.proofs.lemmas.Bool.{cases_eq, cases_Bool, ltb-true, lt-ltb}
@@ -115,7 +115,8 @@ idle_ringed old new r none frames rings = record {
       (place_none new k (ap (λ f. frame_at f.items k) frames ∙ none k) ∙ sym (place_none old k (none k))) (r.each k);
 }
 
--- the table of jobs is another, with the same jobs, or is the same; and nothing else that a place looks at is written
+-- the table of jobs is another, with the same jobs, or is the same; and nothing else that a place
+-- looks at is written
 pub ringed_jobs : (old new : World) → Same (job_at old.jobs) (job_at new.jobs) → new.frames ≡ old.frames → doors_of new ≡ doors_of old → new.rings ≡ old.rings → Ringed old → Ringed new
 ringed_jobs old new jobs frames doors rings r = record {
   each = λ k. stands_on old.rings.lists new.rings.lists k (wait_list_of old k) (wait_list_of new k) (λ h. ap (λ l. count k (list_at l.lists h)) rings)
@@ -206,7 +207,8 @@ away_at lists k p (Drained c) false e none s = away lists k (26 + c) s (same_pos
 away_at lists k p (Empty l) false e none s = away lists k (66 + l) s (same_post lists k (AtLink l) p e none).1.1.0
 away_at lists k p (Room l) false e none s = away lists k (66 + l) s (same_post lists k (AtLink l) p e none).1.1.0
 
--- a slot keeps its place: it is held up as before, or it cannot have been at the place that it had before
+-- a slot keeps its place: it is held up as before, or it cannot have been at the place that it had
+-- before
 abbrev pub Keeps : Doors → Doors → List (List ℕ) → ℕ → ℕ → Wait → Type 0
 Keeps d e lists k n r = (held_up e k n r ≡ held_up d k n r) ⊎ (StandsIn lists k (place_at r (held_up d k n r)) → ⊥)
 
@@ -223,8 +225,8 @@ kept_by : (d e : Doors) (lists : List (List ℕ)) (k : ℕ) (o : Option Job) (f 
 kept_by d e lists k o (Some (Waiting f)) keeps s = kept_for d e lists k (input f.ask 0) (wait_reason o f.ask) (keeps (input f.ask 0)) s
 kept_by d e lists k o _ keeps s = refl
 
--- consoles, holders, links or the clock are written, jobs without frames too, and each slot of these lists is put on the list
--- to which it belongs
+-- consoles, holders, links or the clock are written, jobs without frames too, and each slot of
+-- these lists is put on the list to which it belongs
 settled_ringed : (old mid new : World) (hs : List ℕ) → ((k : ℕ) → (job_at mid.jobs k ≡ job_at old.jobs k) ⊎ (frame_at old.frames.items k ≡ None)) → mid.frames ≡ old.frames → mid.rings ≡ old.rings
     → ((k n : ℕ) (r : Wait) → Within r → AwayFrom old.rings.lists k hs → Keeps (doors_of old) (doors_of mid) old.rings.lists k n r)
     → Resettled mid new hs → Ringed old → Ringed new
@@ -371,7 +373,8 @@ away_link lists k (suc n) l lt none =
       | inr ne ↦ away_link lists k n l (omega arith) p.0
     ]
 
--- some jobs without frames are gone, consoles have other holders, and links have other ends or are gone
+-- some jobs without frames are gone, consoles have other holders, and links have other ends or are
+-- gone
 pub removed_ringed : (old mid new : World) → ((k : ℕ) → (job_at mid.jobs k ≡ job_at old.jobs k) ⊎ (frame_at old.frames.items k ≡ None)) → mid.frames ≡ old.frames → mid.consoles ≡ old.consoles → mid.clock ≡ old.clock → mid.rings ≡ old.rings
     → Resettled mid new (lists_to 8 ++ link_lists_to most_links) → Ringed old → Ringed new
 removed_ringed old mid new jobs frames consoles clock rings = settled_ringed old mid new (lists_to 8 ++ link_lists_to most_links) jobs frames rings keeps

@@ -1,4 +1,5 @@
--- What the site and the block of a call are: its numbers fit, and its block has a first word and a name.
+-- What the site and the block of a call are: its numbers fit, and its block has a first word and a
+-- name.
 use Rattle.std.specs.Prelude.{◌≡◌, ◌≤◌, ◌%◌, ◌^◌, ℕ, zero, suc, ◌+◌, Bool, true, false, None, List, [], ◌∷◌, ◌++◌, length, Result, Ok, Err, IfOk}
 use Rattle.std.proofs.Common.{arith, ap, subst, sym, ◌∙◌}
 use Rattle.std.proofs.lemmas.List.{length-append}

@@ -159,7 +159,7 @@ absent_state w s h none = state_is _ _
     ]) (λ k. refl) (λ k. refl) refl refl refl (λ k. refl) (λ k. refl))
     (λ k. refl) (λ k. refl) refl
 
--- the same store, cores, jobs and alarms
+-- if store, cores, jobs and alarms are alike, so are raw jobs
 pub raw_same : (old new : World) → new.files ≡ old.files → new.core ≡ old.core → new.jobs ≡ old.jobs → new.alarms ≡ old.alarms
     → (k : ℕ) → raw_at new.files new.core new.jobs new.alarms.items k ≡ raw_at old.files old.core old.jobs old.alarms.items k
 raw_same old new files core jobs alarms k =

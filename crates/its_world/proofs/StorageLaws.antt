@@ -1,4 +1,5 @@
--- A channel of a job set, with the store that it is on: what the state and the facts on numbers are then.
+-- A channel of a job set, with the store that it is on: what the state and the facts on numbers are
+-- then.
 use Rattle.std.specs.Prelude.{◌≡◌, ◌≢◌, ◌<◌, ℕ, true, false, Option, Some, None, is_some, length, slice_set, refl}
 use Rattle.std.proofs.Common.{sym, ◌∙◌, ap, subst}
 use Rattle.its_records.specs.declared.jobs.Channel.{Channel}

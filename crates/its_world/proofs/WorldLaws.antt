@@ -44,7 +44,8 @@ pub frames_backed : (o : Option ℕ) (s : ℕ) (f : Frames) → is_some o ≡ tr
 frames_backed (Some n) s f h = refl
 frames_backed None s f h = cc
 
--- what is left of an equation of contents, if the core, the jobs, the frames and the lists are those of a new world
+-- what is left of an equation of contents, if the core, the jobs, the frames and the lists are
+-- those of a new world
 pub in_slot : (new : World) {p q : Contents} → p ≡ q
     → record p { core = new.core; jobs = new.jobs; frames = new.frames; rings = new.rings } ≡ record q { core = new.core; jobs = new.jobs; frames = new.frames; rings = new.rings }
 in_slot new e = λ t. record (e t) { core = new.core; jobs = new.jobs; frames = new.frames; rings = new.rings }
@@ -78,7 +79,7 @@ slot_becomes old mid new s j f w r =
       ringed = slot_ringed old mid new s j f w r;
     }
 
--- the same of a frame that depends on what was there
+-- a slot is written with a frame that depends on what was there
 pub if_becomes : {X : Type 0} → (o : Option X) (old mid new : World) (s : ℕ) (j : Option Job) (f : X → Option Frame) → IfSome o (λ x. SlotWritten old mid s j (f x)) → Refiled mid new s
     → IfSome o (λ x. Becomes old new s (core_at old.core s) j (f x) (clear_at old.core s))
 if_becomes (Some x) old mid new s j f w r = slot_becomes old mid new s j (f x) w r
@@ -108,7 +109,8 @@ pub framed_becomes : (old new : World) (s : ℕ) (c : Core) → Only (core_at ol
 unfolding core_at reserved_at
 framed_becomes old new s c core reserved e = core_becomes old (with_frames new old.core.frames) s c core reserved refl (λ t. record (e t) { core = record new.core { frames = old.core.frames } })
 
--- two changes of one slot, one after the other, of which the second reserves no page and gives none back
+-- two changes of one slot, one after the other, of which the second reserves no page and gives none
+-- back
 only_then : {X : Type 0} → (f g h : ℕ → X) (s : ℕ) (x y : X) → Only f g s x → Only g h s y → Only f h s y
 only_then f g h s x y a b = record { here = b.here; others = λ k n. b.others k n ∙ a.others k n }
 
@@ -145,8 +147,8 @@ some_by None h = cc
 pub reserved_some : (c : Cores) (s : ℕ) → is_some (clear_at c s) ≡ true → IsSome (reserved_at c s)
 reserved_some c s h = some_by (reserved_at c s) h
 
--- a console, its holder, a link or the clock is written, and the slots that it can move are put on the lists to which they
--- belong
+-- a console, its holder, a link or the clock is written, and the slots that it can move are put on
+-- the lists to which they belong
 console_settled : (old mid new : World) (c : ℕ) (x : Console) → ConsoleWritten old mid c x → OnlyRings mid new → (Ringed old → Ringed new) → ConsoleBecomes old new c x
 console_settled old mid new c x w o ringed = record {
   consoles = only_along _ _ _ c x w.consoles (λ k. ap (λ l. console_at l.items k) (consoles_as o.is));

@@ -1,5 +1,6 @@
--- What a world holds, without the facts that its type promises. What a change leaves as it was is one equation of contents: by
--- contents new ≡ record (contents old) { rings = new.rings } all but the wait lists is as it was.
+-- What a world holds, without the facts that its type promises. What a change leaves as it was is
+-- one equation of contents: by contents new ≡ record (contents old) { rings = new.rings } all but
+-- the wait lists is as it was.
 -- No promise rests on this.
 use Rattle.std.specs.Prelude.{ℕ, Option, List}
 use Rattle.std.specs.Global.{Vec}

@@ -39,12 +39,14 @@ kind_of (channels.Link l w) = Linked l w
 abbrev pub channel_of : Job → ℕ → Channel
 channel_of j n = if nat_lt n 16 then slice_index_or j.channels n channels.Closed else channels.Closed
 
--- the reason for which the call of a slot's job can have to wait; that of an empty slot is as of a job with closed channels
+-- the reason for which the call of a slot's job can have to wait; that of an empty slot is as of a
+-- job with closed channels
 abbrev pub wait_reason : Option Job → Ask → Option Wait
 wait_reason (Some j) a = reason_by (unwrap_or j.console 0) (kind_of (channel_of j (input a 0))) (call_named a.name)
 wait_reason None a = reason_by 0 Shut (call_named a.name)
 
--- the list in which the call of slot k belongs, whose first argument is n; none for a console or a link that there is not
+-- the list in which the call of slot k belongs, whose first argument is n; none for a console or a
+-- link that there is not
 abbrev pub if_within : Bool → Option ℕ → Option ℕ
 if_within true p = p
 if_within false p = None
@@ -96,8 +98,8 @@ pub record Refiled (old new : World) (s : ℕ) : Type 0 where
   pub here : StandsIn new.rings.lists s (wait_list_of new s)
   pub others : (k : ℕ) → k ≢ s → (h : ℕ) → count k (list_at new.rings.lists h) ≡ count k (list_at old.rings.lists h)
 
--- each slot that was on one of these lists was put on the list to which it belongs. (The other slots are on the same
--- lists as before, or on those to which they belong)
+-- each slot that was on one of these lists was put on the list to which it belongs. (The other
+-- slots are on the same lists as before, or on those to which they belong)
 pub record Resettled (old new : World) (hs : List ℕ) : Type 0 where
   pub rest : OnlyRings old new
   pub each : (k : ℕ) → StandsIn new.rings.lists k (wait_list_of new k) ⊎ (AwayFrom old.rings.lists k hs × ((h : ℕ) → count k (list_at new.rings.lists h) ≡ count k (list_at old.rings.lists h)))

@@ -8,8 +8,8 @@ use Rattle.its_core.specs.Frames.{frames_map}
 use Rattle.its_world.specs.Contents.{contents}
 use Rattle.its_world.specs.declared.world.World.{World}
 
--- of the world only the core of slot t changes, and the page that slot s had reserved, which is gone: its frame is that of page
--- k of slot t
+-- of the world only the core of slot t changes, and the page that slot s had reserved, which is
+-- gone: its frame is that of page k of slot t
 pub record PageMapped (old new : World) (s t k : ℕ) (c : Core) : Type 0 where
   pub core : Only (core_at old.core) (core_at new.core) t c
   pub reserved : Only (clear_at old.core) (clear_at new.core) s None

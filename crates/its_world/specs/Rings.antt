@@ -1,5 +1,5 @@
--- The lists of the slots whose calls wait: a ring for each reason to wait, and for each console and each link a list of
--- those that wait there and can go on (docs/STEPS.md, "Wait lists").
+-- The lists of the slots whose calls wait: a ring for each reason to wait, and for each console and
+-- each link a list of those that wait there and can go on (docs/STEPS.md, "Wait lists").
 -- No promise rests on this.
 use Rattle.std.specs.Prelude.{◌≡◌, ◌≢◌, ◌<◌, ◌≤◌, ◌⊎◌, ℕ, ◌+◌, Bool, true, false, Option, Some, None, List, [], ◌∷◌, ◌++◌, length, nat_lt, zero, suc}
 use Rattle.its_links.specs.Lists.{Linked, list_at, count, hit, first}
@@ -8,9 +8,9 @@ use Rattle.its_frame.specs.declared.decision.Wait.TheVariants.{Hang, Clock, Inpu
 use Rattle.its_plain.specs.Moves.{Device, AtConsole, AtLink}
 use Rattle.its_records.specs.Links.{most_links}
 
--- one list for HANG, one for CLOCK, of each of the eight consoles one each for Input, Output and Drained, and its Awake
--- list, and of each of the sixteen links one each for Empty and Room, and its Awake list. All but the Awake lists are wait
--- rings
+-- one list for HANG, one for CLOCK, of each of the eight consoles one each for Input, Output and
+-- Drained, and its Awake list, and of each of the sixteen links one each for Empty and Room, and
+-- its Awake list. All but the Awake lists are wait rings
 abbrev pub heads : ℕ
 heads = 82
 
@@ -100,7 +100,8 @@ pub record Looked (lists : List (List ℕ)) (h s : ℕ) (at : Option ℕ) (i : �
 pub record Filed (lists : List (List ℕ)) (place : ℕ → Option ℕ) : Type 0 where
   pub each : (k : ℕ) → StandsIn lists k (place k)
 
--- slot s was put on the list of this head, or on none, and the others are on the same lists as before
+-- slot s was put on the list of this head, or on none, and the others are on the same lists as
+-- before
 pub record Put (old new : Linked) (s : ℕ) (p : Option ℕ) : Type 0 where
   pub nodes : new.nodes ≡ old.nodes
   pub heads : length new.lists ≡ length old.lists
@@ -116,7 +117,8 @@ AwayFrom lists k (h ∷ hs) = (count k (list_at lists h) ≡ 0) × AwayFrom list
 abbrev pub lists_at : ℕ → List ℕ
 lists_at c = (2 + c) ∷ (10 + c) ∷ (18 + c) ∷ (26 + c) ∷ []
 
--- of these the lists of those that wait for input or can go on, and of those that wait for output or can go on
+-- of these the lists of those that wait for input or can go on, and of those that wait for output
+-- or can go on
 abbrev pub input_lists : ℕ → List ℕ
 input_lists c = (2 + c) ∷ (26 + c) ∷ []
 

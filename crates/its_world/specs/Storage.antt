@@ -39,7 +39,8 @@ abbrev pub HasRoom : State → Chan → Type 0
 HasRoom w (Writes f) = is_full w.raw.files (channels_of w.raw) f.words ≡ false
 HasRoom w _ = Unit {0}
 
--- the draft of a channel can become a file: in place of one that no channel reads, or of none if there are fewer files than the most
+-- the draft of a channel can become a file: in place of one that no channel reads, or of none if
+-- there are fewer files than the most
 abbrev pub CanClose : State → Chan → Type 0
 CanClose w (Writes f) =
     Unread w f.names × ((has_file f.names w.raw.files || nat_lt (length w.raw.files) most_files) ≡ true)
@@ -60,6 +61,7 @@ pub record ChannelWritten (old new : World) (s n : ℕ) (x : Channel) : Type 0 w
   pub jobs : OnlyChannel old.jobs new.jobs s n x
   pub rest : contents new ≡ record (contents old) { jobs = new.jobs }
 
--- of the world only the store is another: jobs, cores, the frames of their pages and all else are as they were
+-- of the world only the store is another: jobs, cores, the frames of their pages and all else are
+-- as they were
 pub record OnlyStore (old new : World) (t : Store) : Type 0 where
   pub is : contents new ≡ record (contents old) { files = t }

@@ -1,4 +1,5 @@
--- What holds of a world whatever its state is: facts on numbers of files and drafts, and on slots without a job.
+-- What holds of a world whatever its state is: facts on numbers of files and drafts, and on slots
+-- without a job.
 -- No promise rests on this.
 use Rattle.std.specs.Prelude.{◌≡◌, ◌<◌, ℕ, None, []}
 use Rattle.its_word.specs.Core.{no_core}
@@ -10,8 +11,9 @@ use Rattle.its_plain.specs.OperatorClock.{clock_end}
 use Rattle.its_world.specs.World.{alarm_at, symbols_at}
 use Rattle.its_world.specs.declared.world.World.{World}
 
--- the core of a slot without a job is that of no job, and it has no symbols and no alarm; the clock is below its end; the channels fit
--- the files and drafts that exist; and each slot is on the wait list to which it belongs
+-- the core of a slot without a job is that of no job, and it has no symbols and no alarm; the clock
+-- is below its end; the channels fit the files and drafts that exist; and each slot is on the wait
+-- list to which it belongs
 pub record Tidy (w : World) : Type 0 where
   pub blank : (k : ℕ) → job_at w.jobs k ≡ None → core_at w.core k ≡ no_core
   pub quiet : (k : ℕ) → job_at w.jobs k ≡ None → alarm_at w.alarms.items k ≡ None

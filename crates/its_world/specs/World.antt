@@ -58,7 +58,8 @@ state_of w = record {
   mark = mark_of w.files;
 }
 
--- the call in progress of a slot; its core and job in the raw machine; and the plain machine of a world
+-- the call in progress of a slot; its core and job in the raw machine; and the plain machine of a
+-- world
 abbrev pub call_in : World → ℕ → Option Frame
 call_in w k = frame_at w.frames.items k
 
@@ -72,8 +73,8 @@ plain_of w = plain (state_of w)
 abbrev pub in_raw : State → ℕ → (Whole → Whole) → State
 in_raw w s h = record w { raw = in_job w.raw s h }
 
--- the frames of pages, as slot s reserves a page or gives back the one that it has; else they stay. (The first is how many
--- quarters of its reserved page were clear, the second how many are)
+-- the frames of pages, as slot s reserves a page or gives back the one that it has; else they stay.
+-- (The first is how many quarters of its reserved page were clear, the second how many are)
 abbrev pub frames_after : Option ℕ → Option ℕ → ℕ → Frames → Frames
 frames_after None (Some n) s f = frames_reserve s f
 frames_after (Some n) None s f = frames_give_back s f
@@ -84,8 +85,9 @@ frames_after (Some n) (Some k) s f = f
 abbrev pub with_frames : World → Frames → World
 with_frames w f = record w { core = record w.core { frames = f } }
 
--- of the world only slot s changes: its core, its job with the same superior, its frame, and how many quarters of its reserved page are
--- clear. Each page stays in its page frame. If each slot was on the list to which it belonged, it is again
+-- of the world only slot s changes: its core, its job with the same superior, its frame, and how
+-- many quarters of its reserved page are clear. Each page stays in its page frame. If each slot was
+-- on the list to which it belonged, it is again
 pub record Becomes (old new : World) (s : ℕ) (c : Core) (j : Option Job) (f : Option Frame) (r : Option ℕ) : Type 0 where
   pub core : Only (core_at old.core) (core_at new.core) s c
   pub job : Only (job_at old.jobs) (job_at new.jobs) s j
@@ -96,7 +98,7 @@ pub record Becomes (old new : World) (s : ℕ) (c : Core) (j : Option Job) (f : 
   pub rest : contents new ≡ record (contents old) { core = new.core; jobs = new.jobs; frames = new.frames; rings = new.rings }
   pub ringed : Ringed old → Ringed new
 
--- the same, if only its core, only its registers, or only its frame is written
+-- of the world only the core, only the registers, or only the frame of slot s changes
 abbrev pub CoreBecomes : World → World → ℕ → Core → Type 0
 CoreBecomes old new s c = Becomes old new s c (job_at old.jobs s) (frame_at old.frames.items s) (clear_at old.core s)
 
@@ -109,8 +111,8 @@ FrameBecomes old new s f = Becomes old new s (core_at old.core s) (job_at old.jo
 abbrev pub PageBecomes : World → World → ℕ → Option ℕ → Type 0
 PageBecomes old new s r = Becomes old new s (core_at old.core s) (job_at old.jobs s) (frame_at old.frames.items s) r
 
--- of the world only console c changes, or only its holder, or only link l with its words; and each slot is on the list to which it belongs
--- if it was before
+-- of the world only console c changes, or only its holder, or only link l with its words; and each
+-- slot is on the list to which it belongs if it was before
 pub record ConsoleBecomes (old new : World) (c : ℕ) (x : Console) : Type 0 where
   pub consoles : Only (console_at old.consoles.items) (console_at new.consoles.items) c x
   pub rest : contents new ≡ record (contents old) { consoles = new.consoles; rings = new.rings }

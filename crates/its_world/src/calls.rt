@@ -1,4 +1,5 @@
-//! Calls in progress, which are changed in their places. After each change the slot is on the wait list to which it belongs.
+//! Calls in progress, which are changed in their places. After each change the slot is on the wait
+//! list to which it belongs.
 ghost use Rattle.std.specs.Prelude.{◌≡◌, ◌<◌, ◌≤◌, ◌∷◌, [], true, Some, None, is_some, IfSome, length, slice_index_or};
 ghost use Rattle.its_calls.specs.Calls.{after_fetch, after_parse, after_step, ending_in, entered_in, fault_of, frame_seen, gone_to, parsed_in, request, request_in};
 ghost use Rattle.its_core.specs.Cores.{core_at};
@@ -42,7 +43,8 @@ impl World {
         self.frames[slot.index()].enter(site);
     }
 
-    /// The job of a slot enters the monitor at a PC; no other word was read on the way, and nothing of the budget is used.
+    /// The job of a slot enters the monitor at a PC; no other word was read on the way, and nothing
+    /// of the budget is used.
     pub fn enter_near(&mut self, slot: Slot, pc: u32, e: u32, channel: Option<u8>)
         ensures { FrameBecomes self.old self.new slot (Some (entered (record { pc = pc; e = e; channel = channel; used = 0; decode = record { items = pc ∷ [] } }))) }
     {
@@ -97,7 +99,8 @@ impl World {
         self.frames[slot.index()].parse(&self.core, slot)
     }
 
-    /// The arguments of the call of a slot are found, and their values are taken. At a fault the job is in user mode again.
+    /// The arguments of the call of a slot are found, and their values are taken. At a fault the
+    /// job is in user mode again.
     pub fn fetch(&mut self, slot: Slot) -> Result<(), Fault>
         requires parsed { is_some (parsed_in (call_in self.old slot)) ≡ true }
         requires fits { IfSome (parsed_in (call_in self.old slot)) (λ f. SiteFits f.site) }
@@ -110,7 +113,8 @@ impl World {
         answer
     }
 
-    /// The arguments of the call of a slot are found, and their values are taken; it keeps its place on the wait lists.
+    /// The arguments of the call of a slot are found, and their values are taken; it keeps its
+    /// place on the wait lists.
     #[tactic(auto, using(crate::proofs::WorldLaws::frame_written))]
     fn write_fetch(&mut self, slot: Slot) -> Result<(), Fault>
         requires parsed { is_some (parsed_in (call_in self.old slot)) ≡ true }
@@ -149,7 +153,8 @@ impl World {
         self.refile(slot);
     }
 
-    /// A part of the call of a slot is done: its last inputs get new values, and it goes on; it keeps its place on the wait lists.
+    /// A part of the call of a slot is done: its last inputs get new values, and it goes on; it
+    /// keeps its place on the wait lists.
     #[tactic(auto, using(crate::proofs::WorldLaws::frame_written))]
     fn write_go_on(&mut self, slot: Slot, values: &[Word], next: Next)
         requires request { is_some (request_in (call_in self.old slot)) ≡ true }
@@ -167,7 +172,8 @@ impl World {
         self.refile(slot);
     }
 
-    /// The call of a slot is decided, and these steps are pending, in order; it keeps its place on the wait lists.
+    /// The call of a slot is decided, and these steps are pending, in order; it keeps its place on
+    /// the wait lists.
     #[tactic(auto, using(crate::proofs::WorldLaws::frame_written))]
     fn write_end(&mut self, slot: Slot, owed: ArrayVec<Owed, 4>)
         requires request { is_some (request_in (call_in self.old slot)) ≡ true }
@@ -176,8 +182,8 @@ impl World {
         self.frames[slot.index()].end(owed);
     }
 
-    /// Takes the first pending step of the call of a slot, which has ended. File steps at the head are passed over if the close that is
-    /// marked is not the call's own (`mine`).
+    /// Takes the first pending step of the call of a slot, which has ended. File steps at the head
+    /// are passed over if the close that is marked is not the call's own (`mine`).
     pub fn next_step(&mut self, slot: Slot, mine: bool) -> Owed
         requires ending { is_some (ending_in (call_in self.old slot)) ≡ true }
         requires some { IfSome (ending_in (call_in self.old slot)) (λ f. 0 < length (due mine f.owed.items)) }
@@ -189,7 +195,8 @@ impl World {
         answer
     }
 
-    /// Takes the first pending step of the call of a slot, which has ended; it keeps its place on the wait lists.
+    /// Takes the first pending step of the call of a slot, which has ended; it keeps its place on
+    /// the wait lists.
     #[tactic(auto, using(crate::proofs::WorldLaws::frame_written))]
     fn write_next_step(&mut self, slot: Slot, mine: bool) -> Owed
         requires ending { is_some (ending_in (call_in self.old slot)) ≡ true }

@@ -1,3 +1,5 @@
+//! How many bytes wait at a console at most, and a byte that is typed there.
+
 ghost use Rattle.std.specs.Prelude.{◌≡◌, ◌<◌, ◌↔◌, length, IsTrue};
 ghost use Rattle.its_word.specs.Console.{most_waiting};
 ghost use Rattle.its_world.specs.World.{typed_at};

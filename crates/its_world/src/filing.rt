@@ -1,5 +1,5 @@
-//! Slots whose calls wait are on the list of their reason: each write of the world puts the slots whose place it can
-//! change on the lists to which they belong.
+//! Wait lists: a slot whose call waits is on the list of its reason. Each write of the world puts
+//! the slots that it can move on the lists to which they belong.
 
 ghost use Rattle.std.specs.Prelude.{◌≡◌, ◌≢◌, ◌<◌, ◌+◌, ◌∷◌, ◌++◌, ◌↔◌, ◌⊎◌, [], ℕ, Bool, IsTrue, length, true, false, None};
 ghost use Rattle.its_records.specs.Links.{most_links};
@@ -53,8 +53,8 @@ fn is_link(channel: Channel) -> bool
     matches!(channel, Channel::Link { .. })
 }
 
-/// The Awake list of the console of a reason, if the reason is at one of the eight, or of its link, if it is at one of the
-/// sixteen.
+/// The Awake list of the console of a reason, if the reason is at one of the eight, or of its link,
+/// if it is at one of the sixteen.
 fn awake_for(reason: Option<Wait>) -> Option<u32>
     ensures { result ≡ awake_for reason }
 {
@@ -118,7 +118,8 @@ impl World {
         }
     }
 
-    /// The list in which the call of a slot belongs, whose first input is n and which waits for this reason.
+    /// The list in which the call of a slot belongs, whose first input is n and which waits for
+    /// this reason.
     fn place_for(&self, slot: Slot, n: u64, reason: Option<Wait>) -> Option<u32>
         ensures { result ≡ place_for (doors_of self.now) slot n reason }
     {
@@ -165,8 +166,8 @@ impl World {
         self.rings.front(26 + u32::from(console.number())).is_none()
     }
 
-    /// Whether the channel of the call of a slot is on no link, and nobody is on the Awake list of its job's console. If so, the slot is on no
-    /// Awake list.
+    /// Whether the channel of the call of a slot is on no link, and nobody is on the Awake list of
+    /// its job's console. If so, the slot is on no Awake list.
     #[inline]
     fn is_asleep(&self, slot: Slot) -> bool
         ensures { result ≡ true → IsIn self.now.rings.lists slot (awake_at self.now slot) → ⊥ }
@@ -198,7 +199,8 @@ impl World {
         self.stands_awake(slot)
     }
 
-    /// Whether a slot is on the Awake list of the console or link at which its call waits: that list is searched.
+    /// Whether a slot is on the Awake list of the console or link at which its call waits: that
+    /// list is searched.
     #[inline(never)]
     fn stands_awake(&self, slot: Slot) -> bool
         ensures { IsTrue result ↔ IsIn self.now.rings.lists slot (awake_at self.now slot) }
@@ -209,8 +211,8 @@ impl World {
         }
     }
 
-    /// Whether a slot is on a wait list, that is, on a list that is not the Awake list of its console or
-    /// link.
+    /// Whether a slot is on a wait list, that is, on a list that is not the Awake list of its
+    /// console or link.
     pub fn is_blocked(&self, slot: Slot) -> bool
         requires stands { Blocked self.now slot ⊎ StandsIn self.now.rings.lists slot (wait_list_of self.now slot) }
         ensures { IsTrue result ↔ Blocked self.now slot }
@@ -242,7 +244,8 @@ impl World {
         !self.rings.linked(u32::from(slot.number()))
     }
 
-    /// Puts a slot on the list to which it belongs, wherever it was. Of most slots nothing has to be done.
+    /// Puts a slot on the list to which it belongs, wherever it was. Of most slots nothing has to
+    /// be done.
     #[inline(always)]
     pub fn refile(&mut self, slot: Slot)
         ensures { Refiled self.old self.new slot }
@@ -272,7 +275,8 @@ impl World {
         }
     }
 
-    /// The same of a list that most often is empty.
+    /// Puts each slot of a list on the list to which it belongs. Most often the list is empty,
+    /// which costs one test.
     #[inline(always)]
     fn settle_any(&mut self, head: u32)
         requires { head < heads }
@@ -295,7 +299,8 @@ impl World {
         self.settle(26 + c);
     }
 
-    /// The same of those that wait for its input, or wait there and can go on.
+    /// Puts each slot that waits for a console's input, or waits there and can go on, on the list
+    /// to which it belongs.
     pub fn resettle_input(&mut self, console: ConsoleNumber)
         ensures { Resettled self.old self.new (input_lists console) }
     {
@@ -304,7 +309,8 @@ impl World {
         self.settle_any(26 + c);
     }
 
-    /// The same of those that wait for its output, or wait there and can go on.
+    /// Puts each slot that waits for a console's output, or waits there and can go on, on the list
+    /// to which it belongs.
     pub fn resettle_output(&mut self, console: ConsoleNumber)
         ensures { Resettled self.old self.new (output_lists console) }
     {
@@ -325,7 +331,7 @@ impl World {
         self.settle_any(66 + l);
     }
 
-    /// The same of all consoles and links.
+    /// Puts each slot that is on a list of a console or of a link on the list to which it belongs.
     pub fn settle_posts(&mut self)
         ensures { Resettled self.old self.new (lists_to 8 ++ link_lists_to most_links) }
     {
@@ -333,7 +339,7 @@ impl World {
         self.settle_links();
     }
 
-    /// The same of all consoles.
+    /// Puts each slot that is on a list of a console on the list to which it belongs.
     fn settle_consoles(&mut self)
         ensures { Resettled self.old self.new (lists_to 8) }
     {
@@ -342,7 +348,7 @@ impl World {
         }
     }
 
-    /// The same of all links.
+    /// Puts each slot that is on a list of a link on the list to which it belongs.
     fn settle_links(&mut self)
         ensures { Resettled self.old self.new (link_lists_to most_links) }
     {

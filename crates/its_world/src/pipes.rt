@@ -1,4 +1,5 @@
-//! Channels of jobs on links between jobs, with the ends of the links; and the words that jobs send and receive.
+//! Channels of jobs on links between jobs, with the ends of the links; and the words that jobs send
+//! and receive.
 
 ghost use Rattle.std.specs.Prelude.{◌≡◌, ◌<◌, true, Some, is_some, length, option_map, slice_get};
 ghost use Rattle.its_records.specs.Links.{most_links, most_linked};
@@ -18,8 +19,8 @@ use its_records::Channel;
 use its_word::{Slot, Word};
 
 impl World {
-    /// Opens an end of a link on a closed channel of a slot's job: its writing end or its reading end. If the number has no
-    /// link, one is made with these names.
+    /// Opens an end of a link on a closed channel of a slot's job: its writing end or its reading
+    /// end. If the number has no link, one is made with these names.
     pub fn join(&mut self, slot: Slot, n: u8, link: u8, write: bool, x: Word, y: Word)
         requires channel { n < 16 }
         requires link { link < most_links }
@@ -52,8 +53,8 @@ impl World {
         self.pipes.join(link, write, slot.number(), n, x, y);
     }
 
-    /// Closes a channel of a slot's job that is on an end of a link, and the end with it. A link without an open end is gone
-    /// with its words.
+    /// Closes a channel of a slot's job that is on an end of a link, and the end with it. A link
+    /// without an open end is gone with its words.
     pub fn part(&mut self, slot: Slot, n: u8, link: u8, write: bool)
         requires channel { n < 16 }
         requires link { link < most_links }

@@ -12,9 +12,10 @@ use its_links::Links;
 use its_records::Channel;
 use its_word::{SLOTS, Slot};
 
-/// How many lists there are: one for HANG, one for CLOCK, of each console one each for input, output and drained output,
-/// and one of those that wait there and can go on; and of each link one each for those that wait for a word and for room,
-/// and one of those that wait there and can go on.
+/// How many lists there are: one for HANG, one for CLOCK, of each console one each for input,
+/// output and drained output, and one of those that wait there and can go on; and of each link one
+/// each for those that wait for a word and for room, and one of those that wait there and can go
+/// on.
 pub const HEADS: u32 = 82;
 
 /// The list of those that wait for a time.
@@ -94,7 +95,8 @@ pub fn awake_of(reason: Wait) -> Option<u32>
     }
 }
 
-/// Whether the console of a reason is one of the eight, or its link one of the sixteen. A reason that is at neither is.
+/// Whether the console of a reason is one of the eight, or its link one of the sixteen. A reason
+/// that is at neither is.
 pub fn is_within(reason: Wait) -> bool
     ensures { result ≡ is_within reason }
 {
@@ -109,7 +111,8 @@ pub fn is_within(reason: Wait) -> bool
     }
 }
 
-/// The reason for which a call can have to wait, by its name, what its channel is on, and its job's console.
+/// The reason for which a call can have to wait, by its name, what its channel is on, and its job's
+/// console.
 #[inline(always)]
 pub fn reason_by(console: u8, channel: Channel, name: Option<CallName>) -> Option<Wait>
     ensures { result ≡ reason_by console (kind_of channel) name }

@@ -52,7 +52,8 @@ impl World {
         }
     }
 
-    /// Sets a channel of a slot's job, if it has one, which is on no file and no draft, to what is on none either.
+    /// Sets a channel of a slot's job, if it has one, which is on no file and no draft, to what is
+    /// on none either.
     pub fn put_channel(&mut self, slot: Slot, n: u8, channel: Channel)
         requires channel { n < 16 }
         requires old { IsElsewhere (channel_at self.old.jobs slot n) }
@@ -164,7 +165,8 @@ impl World {
         }
     }
 
-    /// Begins the close of the draft of a channel of a slot's job: the close is marked, and the channel closed.
+    /// Begins the close of the draft of a channel of a slot's job: the close is marked, and the
+    /// channel closed.
     pub fn begin_close(&mut self, slot: Slot, n: u8)
         requires channel { n < 16 }
         requires writes { IsDraft (chan_in (state_of self.old) slot n) }

@@ -1,3 +1,5 @@
+//! The symbols of jobs that are removed.
+
 ghost use Rattle.std.specs.Prelude.{◌≡◌, ℕ, vec_len, is_none};
 ghost use Rattle.its_word.specs.Limits.{slots};
 ghost use Rattle.its_jobs.specs.Table.{job_at};

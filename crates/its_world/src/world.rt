@@ -1,3 +1,5 @@
+//! `World`: the state of the monitor, and the writes that change one part of it.
+
 ghost use Rattle.std.specs.Prelude.{◌≡◌, ◌<◌, ◌≤◌, ◌≢◌, ◌↔◌, ◌/◌, ◌^◌, ◌+◌, ℕ, [], ◌∷◌, ◌++◌, vec_len, length, slice_get, slice_index_or, true, false, Some, None, Ok, Err, IfOk, IfErr, OnOk, OnErr, IsTrue, is_some, option_copied};
 ghost use Rattle.its_word.specs.Console.{quiet_console, most_waiting};
 ghost use Rattle.its_word.specs.Limits.{slots, limit_of, most_symbols};
@@ -20,11 +22,12 @@ use std::alloc::Global;
 /// How many consoles there are.
 pub(crate) const CONSOLES: usize = 8;
 
-/// The whole state: cores, jobs, for each slot its call in progress, if it is in one, the consoles, for
-/// each of them the slot of the job that holds it, the files and drafts, the clock in thirtieths, the wait lists, the
-/// version of the session text, which determines how many jobs there can be, for each slot the symbols of its job, in
-/// the order in which they were given, the alarm of its job if it has one: its period and its next time, and the links
-/// between jobs with their words.
+/// The whole state: cores, jobs, for each slot its call in progress, if it is in one, the consoles,
+/// for each of them the slot of the job that holds it, the files and drafts, the clock in
+/// thirtieths, the wait lists, the version of the session text, which determines how many jobs
+/// there can be, for each slot the symbols of its job, in the order in which they were given, the
+/// alarm of its job if it has one: its period and its next time, and the links between jobs with
+/// their words.
 #[derive(Drop)]
 pub struct World {
     pub core: Core,
@@ -59,8 +62,9 @@ impl World {
     ghost use Rattle.its_pipes.specs.Pipes.{piped};
     ghost use Rattle.its_world.specs.Filed.{Ringed, SlotWritten, ConsoleWritten, HolderWritten, ClockWritten};
 
-    /// The world at the start of a session: no job, no page, no frame, nothing that waits at a console, no
-    /// holder of one, clock 0, version 1, no symbol, no alarm, no link. Takes all the memory that it needs.
+    /// The world at the start of a session: no job, no page, no frame, nothing that waits at a
+    /// console, no holder of one, clock 0, version 1, no symbol, no alarm, no link. Takes all the
+    /// memory that it needs.
     #[tactic(auto, using(its_records::proofs::FreeLaws::limit_first))]
     pub fn open(alloc: Global) -> Result<World, NoMemory>
         ensures cores { IfOk result (λ w. IsEmpty w.core) }
@@ -265,7 +269,8 @@ impl World {
         self.symbols[slot.index()].push((name, a));
     }
 
-    /// Makes the world one of version 1, in which there can be 64 jobs, or of version 2, with 96. No slot has a job.
+    /// Makes the world one of version 1, in which there can be 64 jobs, or of version 2, with 96.
+    /// No slot has a job.
     pub fn set_version(&mut self, v: u8)
         requires known { (1 ≤ v) × (v ≤ 2) }
         requires nobody { (k : ℕ) → job_at self.old.jobs k ≡ None }
@@ -292,7 +297,8 @@ impl World {
         self.holders[console.index()] = holder;
     }
 
-    /// Sets the clock to a later time. A sleeper whose time has come leaves the list of those that wait for a time.
+    /// Sets the clock to a later time. A sleeper whose time has come leaves the list of those that
+    /// wait for a time.
     pub fn set_clock(&mut self, clock: u64)
         requires { self.old.clock ≤ clock }
         ensures { ClockBecomes self.old self.new clock }

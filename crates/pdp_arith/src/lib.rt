@@ -1,8 +1,10 @@
-//! Integer arithmetic of the PDP-10, each family by its row of the instruction tables (processor
-//! reference manual, "Fixed point arithmetic" and "Arithmetic testing").
+//! Integer arithmetic and comparisons, one function for each family (processor reference manual,
+//! "Fixed point arithmetic" and "Arithmetic testing").
 //!
-//! Proved: each function gives exactly the result of its family's definition in the instruction tables. A refused
-//! division is None exactly if the definition refuses it.
+//! Proved: each function gives exactly the result of its family's definition in the instruction
+//! tables. A refused division is None exactly if the definition refuses it.
+//!
+//! Tests: test_pdp/src/arithmetic.rt.
 #![tactic(auto)]
 
 mod compare;

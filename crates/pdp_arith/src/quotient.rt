@@ -52,8 +52,8 @@ fn dividend(a: Word, low: Word) -> i128
     i128::from(a.signed()) * (1 << 35) + i128::from(low.value() & LOW_35)
 }
 
-/// IDIV: the quotient of AC by the source towards 0, and the remainder with the sign of AC. None, which means
-/// overflow and no divide, if the source is 0 or the quotient does not fit.
+/// IDIV: the quotient of AC by the source towards 0, and the remainder with the sign of AC. None,
+/// which means overflow and no divide, if the source is 0 or the quotient does not fit.
 #[tactic(auto, unfolding(its_word::specs::Arith::idiv_of))]
 pub fn idiv(a: Word, s: Word) -> Option<Result2>
     ensures { result ≡ idiv_of a s }

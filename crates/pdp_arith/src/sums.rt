@@ -5,7 +5,8 @@ ghost use Rattle.its_word.specs.Arith.{add_of, magnitude_of, neg_of, sub_of, sum
 use crate::LOW_35;
 use its_word::{CARRY_0, CARRY_1, OVERFLOW, Result2, Word};
 
-/// The sum of two words and a carry, with the carries out of bits 0 and 1, and overflow if these differ.
+/// The sum of two words and a carry, with the carries out of bits 0 and 1, and overflow if these
+/// differ.
 fn sum(a: Word, b: Word, carry: u64) -> Result2
     requires { carry ≤ 1 }
     ensures { result ≡ sum_of a b carry }

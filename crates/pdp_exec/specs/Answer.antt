@@ -36,7 +36,7 @@ IsCalled (Changed c j) = ⊥
 IsCalled (Faulted f) = ⊥
 IsCalled (Called s) = Unit {0}
 
--- the same of an answer that leaves the site of a call out
+-- how a unit ends, by an answer that leaves the site of a call out
 abbrev pub UnitEnds : Ended → Outcome → Core → Job → Type 0
 UnitEnds ends.Done o c j = o ≡ Changed c j
 UnitEnds (ends.Fault b) o c j = FaultsWith o b

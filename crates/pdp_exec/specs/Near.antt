@@ -20,7 +20,8 @@ near_site pc n = record { pc = pc; e = n.e; channel = n.channel; used = 0; decod
 abbrev pub is_direct : ℕ → Bool
 is_direct w = not (is_indirect w) && index_of w == 0
 
--- the call of a direct word, by its instruction: `.IOT`, whose channel is in its AC field, or `.CALL`, which has no channel. E is its right half
+-- the call of a direct word, by its instruction: `.IOT`, whose channel is in its AC field, or
+-- `.CALL`, which has no channel. E is its right half
 abbrev pub call_by : ℕ → Result Instruction Fault → Option Near
 call_by w (Ok Iot) = Some (record { e = right_of w; channel = Some (ac_of w) })
 call_by w (Ok Call) = Some (record { e = right_of w; channel = None })

@@ -14,7 +14,8 @@ use Rattle.its_plain.specs.Unit.{has_row, outcome_of, row_of, unit}
 use Rattle.its_plain.specs.UnitPlan.{ContextFits}
 use Rattle.pdp_exec.specs.Answer.{IsCalled}
 
--- an instruction with the numbers of its row and of its context, or a word with some of the budget used
+-- an instruction with the numbers of its row and of its context, or a word with some of the budget
+-- used
 abbrev pub IsReady : ChainStep → Type 0
 IsReady (Found r) = IsRow r.instruction × ContextFits r.context
 IsReady (Target w used) = used ≤ budget
@@ -35,8 +36,9 @@ abbrev pub leads_on : Instruction → Bool
 leads_on Xct = true
 leads_on _ = false
 
--- the word at the PC of a job has this opcode, and its row finds this: so its unit does what the row of the opcode
--- plans, if that is no call and leads to no other word; and it is a call if its row is one
+-- the word at the PC of a job has this opcode, and its row finds this: so its unit does what the
+-- row of the opcode plans, if that is no call and leads to no other word; and it is a call if its
+-- row is one
 pub record Stands (c : Core) (j : Job) (opcode : ℕ) (x : Context) : Type 0 where
   pub does : (i : Instruction) → instruction_of opcode ≡ i → has_row i x.a ≡ true → leads_on i ≡ false → is_call i ≡ false → outcome_of c j (row_of c x i) ≡ unit c j
   pub calls : (i : Instruction) → instruction_of opcode ≡ i → has_row i x.a ≡ true → leads_on i ≡ false → is_call i ≡ true → IsCalled (unit c j)

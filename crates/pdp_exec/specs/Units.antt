@@ -30,7 +30,7 @@ abbrev pub after_unit : Option Left → Option Left
 after_unit (Some l) = unit_unless (deliverable l.job) l
 after_unit None = None
 
--- the same after n units
+-- those after n units
 abbrev pub after_units : ℕ → Option Left → Option Left
 after_units zero o = o
 after_units (suc n) o = after_units n (after_unit o)

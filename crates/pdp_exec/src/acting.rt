@@ -1,5 +1,5 @@
-//! The units of frequent instructions. Each operation and mode has an arm of its own: there its row is
-//! known, so its plan stays in registers, and its stores are made in place.
+//! The units of frequent instructions. Each operation and mode has an arm of its own: there its row
+//! is known, so its plan stays in registers, and its stores are made in place.
 ghost use Rattle.std.specs.Prelude.{◌≡◌, ◌<◌, ◌^◌};
 ghost use Rattle.its_core.specs.Cores.{core_at};
 ghost use Rattle.its_plain.specs.Unit.{outcome_of, unit as unit_of};
@@ -162,8 +162,9 @@ fn picking(core: &mut Core, slot: Slot, job: &mut Job, x: &Context, op: ByteOp) 
     made(bytes(core, slot, x, op), core, slot, job)
 }
 
-/// The unit at the PC of a job, by its opcode: the frequent operations, but not as frequent as those of `frequent`. It takes its
-/// context by value: what is handed on by reference would be kept in memory on the most used path.
+/// The unit at the PC of a job, by its opcode: the frequent operations, but not as frequent as
+/// those of `frequent`. It takes its context by value: what is handed on by reference would be kept
+/// in memory on the most used path.
 #[inline(never)]
 #[tactic(auto, using(crate::proofs::ChainLaws::stands, crate::proofs::ChainLaws::stands_call), unfolding(its_plain::specs::Unit::row_of, its_word::specs::Opcode::instruction_of, its_word::specs::Opcode::mode_of, its_word::specs::Opcode::full_word_opcode, its_word::specs::Opcode::shift_opcode, its_word::specs::Opcode::branch_opcode, its_word::specs::Opcode::stack_opcode, its_word::specs::Opcode::compare_opcode, its_word::specs::Opcode::test_opcode, its_word::specs::Opcode::mask_of, its_word::specs::Opcode::byte_opcode, its_word::specs::Opcode::monitor_opcode))]
 fn often(core: &mut Core, slot: Slot, job: &mut Job, opcode: u32, context: Context) -> Ended
@@ -224,10 +225,11 @@ fn often(core: &mut Core, slot: Slot, job: &mut Job, opcode: u32, context: Conte
     }
 }
 
-/// One unit of the job of a slot. Its arms are the most frequent opcodes, each with its operation, mode and condition; `often` and
-/// `rarely` execute any other unit. It is meant to be in the loop of units that calls it, since a call costs a fifth of a unit: all
-/// registers that it uses are saved, and what the loop keeps in them is loaded again. For that it has to have one caller, and not too
-/// many arms.
+/// One unit of the job of a slot. Its arms are the most frequent opcodes, each with its operation,
+/// mode and condition; `often` and `rarely` execute any other unit. It is meant to be in the loop
+/// of units that calls it, since a call costs a fifth of a unit: all registers that it uses are
+/// saved, and what the loop keeps in them is loaded again. For that it has to have one caller, and
+/// not too many arms.
 #[inline(always)]
 #[tactic(auto, using(crate::proofs::ChainLaws::stands, crate::proofs::ChainLaws::stands_call), unfolding(its_plain::specs::Unit::row_of, its_word::specs::Opcode::instruction_of, its_word::specs::Opcode::mode_of, its_word::specs::Opcode::full_word_opcode, its_word::specs::Opcode::shift_opcode, its_word::specs::Opcode::branch_opcode, its_word::specs::Opcode::stack_opcode, its_word::specs::Opcode::compare_opcode, its_word::specs::Opcode::test_opcode, its_word::specs::Opcode::mask_of, its_word::specs::Opcode::byte_opcode, its_word::specs::Opcode::monitor_opcode))]
 pub fn frequent(core: &mut Core, slot: Slot, job: &mut Job) -> Ended

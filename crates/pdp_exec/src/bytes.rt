@@ -21,7 +21,8 @@ fn step(p: Word) -> Result<Word, Fault>
     increment(p).ok_or(Fault::Ilo)
 }
 
-/// The address of a pointer's word, under what is left of the budget; Ilo if its size is none of 1 to 36.
+/// The address of a pointer's word, under what is left of the budget; Ilo if its size is none of 1
+/// to 36.
 #[inline(always)]
 #[tactic(auto, unfolding(its_plain::specs::UnitBytes::pointed_to))]
 fn target(core: &Core, slot: Slot, x: &Context, p: Word) -> Result<u32, Fault>

@@ -81,8 +81,8 @@ pub struct AtHand {
     pub context: Context,
 }
 
-/// What is at the PC of a job; then no place that is read has to be noted. None at a fault, and if its address is
-/// indirect.
+/// What is at the PC of a job; then no place that is read has to be noted. None at a fault, and if
+/// its address is indirect.
 #[inline(always)]
 #[tactic(auto, using(crate::proofs::ChainLaws::stands_at))]
 pub fn at_hand(core: &Core, slot: Slot, job: &Job) -> Option<AtHand>
@@ -199,8 +199,8 @@ fn chain_step(
     step_by(core, slot, i, &x, reads)
 }
 
-/// The instruction of a job's unit: the one at its PC, or the one at the end of its chain of XCTs. The
-/// places of the words that are read to come there are noted.
+/// The instruction of a job's unit: the one at its PC, or the one at the end of its chain of XCTs.
+/// The places of the words that are read to come there are noted.
 #[tactic(auto, using(crate::proofs::ChainLaws::no_word, crate::proofs::ChainLaws::step_faults))]
 pub fn find(core: &Core, slot: Slot, job: &Job, reads: &mut Places) -> Result<Reached, Fault>
     requires pc { job.now.pc < 2 ^ 18 }
@@ -224,7 +224,7 @@ pub fn find(core: &Core, slot: Slot, job: &Job, reads: &mut Places) -> Result<Re
     Err(Fault::Ilo)
 }
 
-/// The same, with no note of what is read.
+/// The instruction of a job's unit, with no note of the places that are read.
 pub fn reach(core: &Core, slot: Slot, job: &Job) -> Result<Reached, Fault>
     requires pc { job.now.pc < 2 ^ 18 }
     ensures found { result ≡ (reached (core_at core.now slot) job.now).answer }

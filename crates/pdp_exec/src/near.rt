@@ -25,8 +25,9 @@ fn index(w: Word) -> u32
     (w.value() >> 18 & 0o17) as u32
 }
 
-/// The call at a job's PC, if its word can be read, is `.IOT` or `.CALL`, and has neither I nor X; then its unit is that call, and no other word is
-/// read on the way. A call that a unit reaches by I, X or an XCT is not found here.
+/// The call at a job's PC, if its word can be read, is `.IOT` or `.CALL`, and has neither I nor X;
+/// then its unit is that call, and no other word is read on the way. A call that a unit reaches by
+/// I, X or an XCT is not found here.
 #[inline(always)]
 #[tactic(auto, using(crate::proofs::NearLaws::near_iot, crate::proofs::NearLaws::near_call), unfolding(crate::specs::Near::near_call))]
 pub fn call_at_hand(core: &Core, slot: Slot, job: &Job) -> Option<Near>

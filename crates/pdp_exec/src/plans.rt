@@ -8,8 +8,9 @@ use its_records::Job;
 use its_word::{ADDRESSES, BYTE_HALF, Context, Store, Word};
 use std::marker::Model;
 
-/// What a unit does: its stores, the PC and the flags after it, and the bits of pending word 1 that it
-/// sets. Contracts see it as a `Plan`; its stores are kept so that none of them has to be in memory.
+/// What a unit does: its stores, the PC and the flags after it, and the bits of pending word 1 that
+/// it sets. Contracts see it as a `Plan`; its stores are kept so that none of them has to be in
+/// memory.
 #[derive(Drop)]
 pub struct Draft {
     stores: Stores,
@@ -63,8 +64,9 @@ impl Draft {
     }
 }
 
-/// Sets the PC of registers to a place. It is not inlined, so that the choice between this place and the next one stays a
-/// branch, which the processor foresees: it would wait for a value that is chosen.
+/// Sets the PC of registers to a place. It is not inlined, so that the choice between this place
+/// and the next one stays a branch, which the processor foresees: it would wait for a value that is
+/// chosen.
 #[inline(never)]
 fn jump_to(job: &mut Job, a: u32)
     ensures { job.new ≡ record job.old { pc = a % 2 ^ 18 } }
@@ -80,7 +82,8 @@ pub fn to(at: u32, word: Word) -> Store
     Store { at, word }
 }
 
-/// The plan of an instruction that completes: its stores, the flags that it sets, and the PC after it.
+/// The plan of an instruction that completes: its stores, the flags that it sets, and the PC after
+/// it.
 #[inline(always)]
 pub fn complete(x: &Context, stores: Stores, set: u32, pc: u32) -> Draft
     ensures { result ≡ completes x.now (list_of stores) set pc }
@@ -94,7 +97,8 @@ pub fn complete(x: &Context, stores: Stores, set: u32, pc: u32) -> Draft
     }
 }
 
-/// The same, to another place where a jump or a skip is taken.
+/// The plan of an instruction that completes and goes to `far` if a jump or a skip is taken, else
+/// to the next instruction.
 #[inline(always)]
 fn complete_or(x: &Context, stores: Stores, set: u32, taken: bool, far: u32) -> Draft
     requires { ContextFits x.now }
@@ -109,7 +113,7 @@ fn complete_or(x: &Context, stores: Stores, set: u32, taken: bool, far: u32) -> 
     }
 }
 
-/// The same, on to the next instruction.
+/// The plan of an instruction that completes and goes on to the next one.
 #[inline(always)]
 pub fn next(x: &Context, stores: Stores, set: u32) -> Draft
     requires { ContextFits x.now }
@@ -118,7 +122,7 @@ pub fn next(x: &Context, stores: Stores, set: u32) -> Draft
     complete(x, stores, set, x.pc + 1)
 }
 
-/// The same, to E if a jump is taken.
+/// The plan of an instruction that completes and goes to E if a jump is taken.
 #[inline(always)]
 pub fn jump(x: &Context, stores: Stores, set: u32, taken: bool) -> Draft
     requires { ContextFits x.now }
@@ -127,7 +131,7 @@ pub fn jump(x: &Context, stores: Stores, set: u32, taken: bool) -> Draft
     complete_or(x, stores, set, taken, x.e)
 }
 
-/// The same, over the next instruction if a skip is taken.
+/// The plan of an instruction that completes and passes over the next one if a skip is taken.
 #[inline(always)]
 pub fn skip(x: &Context, stores: Stores, set: u32, taken: bool) -> Draft
     requires { ContextFits x.now }

@@ -10,8 +10,9 @@ use its_ints::deliverable;
 use its_records::Job;
 use its_word::{Slot, Word};
 
-/// Executes up to n units of a slot's job on its core and its registers in place, as long as no interrupt is deliverable and none is a
-/// call; how many were executed. It is not inlined: its loop is the one place in which every unit is.
+/// Executes up to n units of a slot's job on its core and its registers in place, as long as no
+/// interrupt is deliverable and none is a call; how many were executed. It is not inlined: its loop
+/// is the one place in which every unit is.
 #[inline(never)]
 #[tactic(auto, using(crate::proofs::SeriesLaws::units_start, crate::proofs::SeriesLaws::none_left))]
 pub fn run_units(core: &mut Core, slot: Slot, job: &mut Job, n: u32) -> u32
@@ -51,7 +52,8 @@ fn run_next(core: &mut Core, slot: Slot, job: &mut Job) -> bool
     run_unit(core, slot, job)
 }
 
-/// Runs the unit of a job on its core and its registers. A fault sets its bit; a call is not made (false).
+/// Runs the unit of a job on its core and its registers. A fault sets its bit; a call is not made
+/// (false).
 #[inline(always)]
 fn run_unit(core: &mut Core, slot: Slot, job: &mut Job) -> bool
     requires pc { job.old.pc < 2 ^ 18 }

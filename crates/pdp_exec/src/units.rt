@@ -22,8 +22,8 @@ use its_core::Core;
 use its_records::{Job, Site};
 use its_word::{BRK, ChainStep, Context, Fault, ILO, Instruction, MPV, Reached, Slot, WRO, Word};
 
-/// The result of a unit: it is done; or a fault, with its bit of pending word 1, which leaves no part of it done; or
-/// a call of the monitor.
+/// The result of a unit: it is done; or a fault, with its bit of pending word 1, which leaves no
+/// part of it done; or a call of the monitor.
 #[derive(Debug, PartialEq, Eq, Drop)]
 pub enum Outcome {
     Done,
@@ -92,8 +92,8 @@ fn act(core: &mut Core, slot: Slot, job: &mut Job, r: &Reached) -> Result<(), Fa
     carry_out(core, slot, job, &plan)
 }
 
-/// The result of a unit: it is done; or a fault, with its bit of pending word 1; or a call of the monitor, whose site
-/// `site` gives.
+/// The result of a unit: it is done; or a fault, with its bit of pending word 1; or a call of the
+/// monitor, whose site `site` gives.
 #[derive(Clone, Copy, Debug, PartialEq, Eq)]
 pub enum Ended {
     Done,
@@ -128,8 +128,8 @@ pub fn rarely(core: &mut Core, slot: Slot, job: &mut Job) -> Ended
     }
 }
 
-/// One unit of the job of a slot, as `unit` makes it, without the site of a call. At a fault and at a
-/// call the core and the job are as they were.
+/// One unit of the job of a slot, as `unit` makes it, without the site of a call. At a fault and at
+/// a call the core and the job are as they were.
 #[inline(always)]
 pub fn run(core: &mut Core, slot: Slot, job: &mut Job) -> Ended
     requires pc { job.old.pc < 2 ^ 18 }
@@ -174,8 +174,8 @@ pub fn site(core: &Core, slot: Slot, job: &Job) -> Site
     }
 }
 
-/// One unit of the job of a slot. At a fault and at a call of the monitor the core and the job are as
-/// they were; the caller sets the bit of the fault.
+/// One unit of the job of a slot. At a fault and at a call of the monitor the core and the job are
+/// as they were; the caller sets the bit of the fault.
 pub fn unit(core: &mut Core, slot: Slot, job: &mut Job) -> Outcome
     requires pc { job.old.pc < 2 ^ 18 }
     ensures unit { Answers result (unit_of (core_at core.old slot) job.old) (core_at core.new slot) job.new }

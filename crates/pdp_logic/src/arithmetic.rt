@@ -33,7 +33,8 @@ fn right(n: u32, sign: u128, m: u128, k: u32) -> u128
     }
 }
 
-/// Whether a bit that differs from the sign leaves at the left, when the n bits after it go k places.
+/// Whether a bit that differs from the sign leaves at the left, when the n bits after it go k
+/// places.
 #[tactic(auto, using(crate::proofs::SignLaws::lost, crate::proofs::SignLaws::lost_past))]
 fn loses_bits(n: u32, sign: u128, m: u128, k: u32) -> bool
     requires width { n ≤ 72 }
@@ -98,8 +99,8 @@ fn signed(sign: u128, m: u128) -> Word
     Word::new((sign << 35 | m) as u64)
 }
 
-/// ASH: bits 1 to 35 of AC shifted by the count that E gives; bit 0 is unchanged. Overflow, if a bit that differs
-/// from bit 0 leaves at the left.
+/// ASH: bits 1 to 35 of AC shifted by the count that E gives; bit 0 is unchanged. Overflow, if a
+/// bit that differs from bit 0 leaves at the left.
 #[tactic(auto, unfolding(its_word::specs::Shift::ash_of))]
 pub fn ash(e: u32, a: Word) -> Result2
     requires { e < 2 ^ 18 }
@@ -109,8 +110,8 @@ pub fn ash(e: u32, a: Word) -> Result2
     Result2::one_word(signed(sign(a), m), flags)
 }
 
-/// ASHC: bits 1 to 35 of AC and of AC+1 shifted as by ASH; bit 0 of AC is unchanged, and goes also to bit 0 of AC+1.
-/// A count of 0 changes nothing.
+/// ASHC: bits 1 to 35 of AC and of AC+1 shifted as by ASH; bit 0 of AC is unchanged, and goes also
+/// to bit 0 of AC+1. A count of 0 changes nothing.
 #[tactic(auto, unfolding(its_word::specs::Shift::ashc_of))]
 pub fn ashc(e: u32, a: Word, b: Word) -> Result2
     requires { e < 2 ^ 18 }

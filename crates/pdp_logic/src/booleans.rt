@@ -5,8 +5,8 @@ ghost use Rattle.its_word.specs.Result2.{one_word};
 
 use its_word::{Result2, Word};
 
-/// The Boolean function k of AC and the source, in the order of their opcodes: SETZ, AND, ANDCA, SETM,
-/// ANDCM, SETA, XOR, IOR, ANDCB, EQV, SETCA, ORCA, SETCM, ORCM, ORCB, SETO. No flags.
+/// The Boolean function k of AC and the source, in the order of their opcodes: SETZ, AND, ANDCA,
+/// SETM, ANDCM, SETA, XOR, IOR, ANDCB, EQV, SETCA, ORCA, SETCM, ORCM, ORCB, SETO. No flags.
 #[tactic(auto, unfolding(its_word::specs::Logic::boolean_of))]
 pub fn boolean(k: u32, a: Word, m: Word) -> Result2
     requires { k < 16 }

@@ -1,8 +1,11 @@
-//! Boolean functions, half words, tests, shifts and rotations of the PDP-10, each family by its row of
-//! the instruction tables (processor reference manual, "Logic", "Half word data transmission",
-//! "Logical testing and modification" and "Fixed point arithmetic").
+//! Boolean functions, half words, tests, shifts and rotations, by their families (processor
+//! reference manual, "Logic", "Half word data transmission", "Logical testing and modification" and
+//! "Fixed point arithmetic").
 //!
-//! Proved: each function gives exactly the result of its family's definition in the instruction tables.
+//! Proved: each function gives exactly the result of its family's definition in the instruction
+//! tables.
+//!
+//! Tests: test_pdp/src/booleans.rt.
 #![tactic(auto)]
 
 mod arithmetic;

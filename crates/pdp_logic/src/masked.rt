@@ -5,8 +5,8 @@ ghost use Rattle.its_word.specs.Result2.{one_word};
 
 use its_word::{Result2, Word};
 
-/// Whether TR, TL, TD or TS skips, before AC is changed, by the condition k: 0 never, 1 (E) if all masked bits of AC
-/// are 0, 2 (A) always, 3 (N) if not all are 0.
+/// Whether TR, TL, TD or TS skips, before AC is changed, by the condition k: 0 never, 1 (E) if all
+/// masked bits of AC are 0, 2 (A) always, 3 (N) if not all are 0.
 #[tactic(auto, unfolding(its_word::specs::Logic::tested_of))]
 pub fn tested(k: u32, a: Word, mask: Word) -> bool
     requires { k < 4 }
@@ -21,8 +21,8 @@ pub fn tested(k: u32, a: Word, mask: Word) -> bool
     }
 }
 
-/// What TR, TL, TD or TS leaves in AC, by the modification c: 0 (N) AC as it is, 1 (Z) with the masked
-/// bits cleared, 2 (C) complemented, 3 (O) set. No flags.
+/// What TR, TL, TD or TS leaves in AC, by the modification c: 0 (N) AC as it is, 1 (Z) with the
+/// masked bits cleared, 2 (C) complemented, 3 (O) set. No flags.
 #[tactic(auto, unfolding(its_word::specs::Logic::changed_of))]
 pub fn changed(c: u32, a: Word, mask: Word) -> Result2
     requires { c < 4 }

@@ -1,5 +1,0 @@
-use Rattle.std.proofs.Common.{◌≡◌}
-use Rattle.its_decision_tests.proofs.caller.jobs.Given as goal
-
-abbrev pub invariant-loop-slot : goal.invariant-loop-slot
-invariant-loop-slot g l = l.jobs.limit ≡ l.fn.jobs.limit

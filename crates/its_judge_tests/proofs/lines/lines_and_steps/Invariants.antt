@@ -1,5 +1,0 @@
-use Rattle.its_direct.specs.Plain.{Tidy}
-use Rattle.its_judge_tests.proofs.lines.lines_and_steps.Given as goal
-
-abbrev pub invariant-loop-line : goal.invariant-loop-line
-invariant-loop-line g l = Tidy l.p

@@ -1,5 +1,0 @@
-use Rattle.its_monitor.specs.Kept.{Kept}
-use Rattle.its_operator_tests.proofs.filing.lines.Given as goal
-
-abbrev pub invariant-loop-line : goal.invariant-loop-line
-invariant-loop-line g l = Kept l.m.world

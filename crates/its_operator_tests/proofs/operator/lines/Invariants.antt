@@ -1,5 +1,0 @@
-use Rattle.its_monitor.specs.Kept.{Kept}
-use Rattle.its_operator_tests.proofs.operator.lines.Given as goal
-
-abbrev pub invariant-loop-slot : goal.invariant-loop-slot
-invariant-loop-slot g l = Kept l.m.world

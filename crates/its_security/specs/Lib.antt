@@ -1,0 +1,9 @@
+pub mod Integrity
+pub mod OperatorParts
+pub mod RunIntegrity
+pub mod Alike
+pub mod Looks
+pub mod Respect
+pub mod Tables
+pub mod SideBySide
+pub mod Confidential

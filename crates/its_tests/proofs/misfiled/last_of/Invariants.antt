@@ -1,5 +1,0 @@
-use Rattle.its_monitor.specs.Kept.{Kept}
-use Rattle.its_tests.proofs.misfiled.last_of.Given as goal
-
-abbrev pub invariant-loop-k : goal.invariant-loop-k
-invariant-loop-k l = Kept l.m.world

@@ -1,5 +1,0 @@
-use Rattle.its_monitor.specs.Kept.{Kept}
-use Rattle.its_tests.proofs.misfiled.started.Given as goal
-
-abbrev pub invariant-loop-a : goal.invariant-loop-a
-invariant-loop-a g l = Kept l.m.world

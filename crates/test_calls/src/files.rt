@@ -1,0 +1,724 @@
+//! Sessions on files, with their transcripts.
+
+use super::targets::compare_calls;
+use std::test::Fail;
+use test_rows::{compare, line, rows_in, show_row, times};
+
+static FILES: &str =
+    "; a CLOSE that replaces a file: each line on files finds it whole, and disturbs nobody
+!FILE
+LOAD U X 0 = J 0
+!WRITER
+TICK 0 14 = T 0 4. 1* 5. 1* 1.
+TICK 0 4 = T 0 4.
+DIR D = R 440000000000 1
+= F 410000000000 420000000000 2
+TICK 0 1 = T 0 1*
+PEEK 0 = P 0 ENDING 435457634500 4 - - -
+DIR D = R 440000000000 1
+= F 410000000000 420000000000 1
+PEEK 0 = P 0 ENDING 435457634500 1 - - -
+SHOW D A B = W 440000000000 410000000000 420000000000 1
+= / 000000000123
+TICK 0 1 = T 0 1.
+PEEK 0 = P 0 USER - 0 - - -
+STATE 0 = S 0 650000000000 700000000000 - 0 RUN 010000000105 000000000000 000000000000 000000000000 000000000000 000000000000 000000000000
+#; a file that is read word by word to its end, and a DELETE that meets the channel that reads it
+!FILE
+LOAD U X 0 = J 0
+!FILE_IN
+100: .CALL 120 | .BREAK 16, | .IOT 1,210 | .IOT 1,211 | .IOT 1,212 | .CALL 130 | .BREAK 16,
+130: SETZ | SIXBIT DELETE | 150 | 151 | 152 | 153 | 403000,,220
+210/ 0 0 0
+220/ 0
+GO 100
+TICK 0 42 = T 0 4. 1* 5. 1* 6. 1* 6. 1* 6. 1* 2.
+EXAM 0 210 3 = E 0 000210 000000000001 000000000002 777777000003
+EXAM 0 220 1 = E 0 000220 000000000011
+DIR D = R 440000000000 1
+= F 410000000000 420000000000 2
+#; the same CLOSE undisturbed, a step at a tick
+!FILE
+LOAD U X 0 = J 0
+!WRITER
+TICK 0 21 = T 0 4. 1* 5. 1* 5. 1*
+PEEK 0 = P 0 ENDING 435457634500 4 - - -
+TICK 0 1 = T 0 1.
+PEEK 0 = P 0 ENDING 435457634500 3 - - -
+TICK 0 1 = T 0 1.
+PEEK 0 = P 0 ENDING 435457634500 2 - - -
+TICK 0 1 = T 0 1.
+PEEK 0 = P 0 ENDING 435457634500 1 - - -
+TICK 0 1 = T 0 1.
+PEEK 0 = P 0 USER - 0 - - -
+STATE 0 = S 0 650000000000 700000000000 - 0 RUN 010000000105 000000000000 000000000000 000000000000 000000000000 000000000000 000000000000
+DIR D = R 440000000000 1
+= F 410000000000 420000000000 1
+SHOW D A B = W 440000000000 410000000000 420000000000 1
+= / 000000000123
+#; the job is looked at where the old file is unlinked and the draft is not linked yet: all that is owed is made
+!FILE
+FILE D Z Z
+EOF
+LOAD U X 0 = J 0
+!WRITER
+TICK 0 22 = T 0 4. 1* 5. 1* 5. 1* 1.
+PEEK 0 = P 0 ENDING 435457634500 3 - - -
+EXAM 0 210 1 = E 0 000210 000000000123
+PEEK 0 = P 0 USER - 0 - - -
+STATE 0 = S 0 650000000000 700000000000 - 0 RUN 010000000105 000000000000 000000000000 000000000000 000000000000 000000000000 000000000000
+DIR D = R 440000000000 2
+= F 720000000000 720000000000 0
+= F 410000000000 420000000000 1
+SHOW D A B = W 440000000000 410000000000 420000000000 1
+= / 000000000123
+#; a draft with new names owes its link alone, and becomes the last file; SHOW makes it as DIR does
+FILE D C C
+EOF
+LOAD U X 0 = J 0
+!CLOSES
+100: .CALL 120 | .BREAK 16, | .IOT 1,210 | .CALL 140 | .BREAK 16, | JRST 100
+210/ 123
+GO 100
+TICK 0 21 = T 0 4. 1* 5. 1* 5. 1*
+PEEK 0 = P 0 ENDING 435457634500 2 - - -
+TICK 0 1 = T 0 1.
+PEEK 0 = P 0 ENDING 435457634500 1 - - -
+DIR D = R 440000000000 2
+= F 430000000000 430000000000 0
+= F 410000000000 420000000000 1
+TICK 0 1 = T 0 1.
+PEEK 0 = P 0 USER - 0 - - -
+DEPOSIT 0 152 430000000000
+TICK 0 22 = T 0 1* 4. 1* 5. 1* 5. 1*
+PEEK 0 = P 0 ENDING 435457634500 2 - - -
+SHOW D A C = W 440000000000 410000000000 430000000000 1
+= / 000000000123
+PEEK 0 = P 0 ENDING 435457634500 1 - - -
+TICK 0 1 = T 0 1.
+DIR D = R 440000000000 3
+= F 430000000000 430000000000 0
+= F 410000000000 420000000000 1
+= F 410000000000 430000000000 1
+#; FILE makes the link that a CLOSE owes before its own file, which so comes behind; and finds the names of the draft taken
+LOAD U X 0 = J 0
+!WRITER
+TICK 0 21 = T 0 4. 1* 5. 1* 5. 1*
+PEEK 0 = P 0 ENDING 435457634500 2 - - -
+FILE D A C
+/ 1
+EOF
+PEEK 0 = P 0 ENDING 435457634500 1 - - -
+DIR D = R 440000000000 2
+= F 410000000000 420000000000 1
+= F 410000000000 430000000000 1
+TICK 0 1 = T 0 1.
+FILE D A B = ? 21 EXISTS
+#; two jobs CLOSE drafts with the same names: the second makes what the first owes, and then replaces its file
+!FILE
+LOAD U X 0 = J 0
+!WRITER
+LOAD U Y 0 = J 1
+!CLOSES
+100: .CALL 120 | .BREAK 16, | .IOT 1,210 | .CALL 140 | .BREAK 16, | .BREAK 16,
+210/ 321
+GO 100
+TICK 0 21 = T 0 4. 1* 5. 1* 5. 1*
+TICK 1 20 = T 1 4. 1* 5. 1* 5.
+PEEK 0 = P 0 ENDING 435457634500 1 - - -
+PEEK 1 = P 1 HOLDING 435457634500 1 - - -
+TICK 1 1 = T 1 1*
+PEEK 0 = P 0 ENDING 435457634500 1 - - -
+PEEK 1 = P 1 ENDING 435457634500 4 - - -
+TICK 0 1 = T 0 1.
+PEEK 0 = P 0 USER - 0 - - -
+TICK 1 1 = T 1 1.
+PEEK 1 = P 1 ENDING 435457634500 3 - - -
+TICK 1 3 = T 1 3.
+DIR D = R 440000000000 1
+= F 410000000000 420000000000 1
+SHOW D A B = W 440000000000 410000000000 420000000000 1
+= / 000000000321
+STATE 0 = S 0 650000000000 700000000000 - 0 RUN 010000000105 000000000000 000000000000 000000000000 000000000000 000000000000 000000000000
+STATE 1 = S 1 650000000000 710000000000 - 0 RUN 010000000105 000000000000 000000000000 000000000000 000000000000 000000000000 000000000000
+#; the second CLOSEs a draft with other names, and the first is looked at then
+!FILE
+LOAD U X 0 = J 0
+!WRITER
+LOAD U Y 0 = J 1
+100: .CALL 120 | .BREAK 16, | .IOT 1,210 | .CALL 140 | .BREAK 16, | .BREAK 16,
+120: SETZ | SIXBIT OPEN | 5000,,1 | 1000,,1 | 150 | 151 | 152 | SETZ 153
+140: SETZ | SIXBIT CLOSE | 401000,,1
+150: SIXBIT DSK | SIXBIT A | SIXBIT C | SIXBIT D
+210/ 321
+GO 100
+TICK 0 22 = T 0 4. 1* 5. 1* 5. 1* 1.
+TICK 1 21 = T 1 4. 1* 5. 1* 5. 1*
+PEEK 0 = P 0 ENDING 435457634500 1 - - -
+PEEK 1 = P 1 ENDING 435457634500 2 - - -
+EXAM 0 210 1 = E 0 000210 000000000123
+PEEK 0 = P 0 USER - 0 - - -
+PEEK 1 = P 1 ENDING 435457634500 2 - - -
+DIR D = R 440000000000 2
+= F 410000000000 420000000000 1
+= F 410000000000 430000000000 1
+PEEK 1 = P 1 ENDING 435457634500 1 - - -
+TICK 1 1 = T 1 1.
+STATE 1 = S 1 650000000000 710000000000 - 0 RUN 010000000105 000000000000 000000000000 000000000000 000000000000 000000000000 000000000000
+#; a LOGOUT drops a draft and ends a reading, and leaves the CLOSE of another job half made; a DELETE makes it; then its job is removed
+!FILE
+FILE D C C
+/ 3
+EOF
+LOAD U X - = J 0
+!CLOSES
+100: .CALL 120 | .BREAK 16, | .IOT 1,210 | .CALL 140 | .BREAK 16, | .CALL 160
+160: SETZ | SIXBIT LOGOUT | 405000,,1
+210/ 123
+GO 100
+LOAD U Y - = J 1
+100: .CALL 120 | .BREAK 16, | .CALL 130 | .BREAK 16, | .IOT 2,210 | .CALL 160 | .BREAK 16,
+120: SETZ | SIXBIT OPEN | 1000,,1 | 150 | 151 | 151 | SETZ 153
+130: SETZ | SIXBIT OPEN | 5000,,1 | 1000,,2 | 150 | 152 | 152 | SETZ 153
+150: SIXBIT DSK | SIXBIT C | SIXBIT E | SIXBIT D
+160: SETZ | SIXBIT LOGOUT | 405000,,1
+210/ 321
+GO 100
+LOAD U Z - = J 2
+100: .CALL 120 | JRST 100 | .BREAK 16,
+120: SETZ | SIXBIT DELETE | 150 | 151 | 151 | 153 | 403000,,220
+150: SIXBIT DSK | SIXBIT C | SIXBIT E | SIXBIT D
+220/ 0
+GO 100
+TICK 1 26 = T 1 4. 1* 5. 1* 5. 1* 5.
+TICK 2 10 = T 2 4. 1* 2. 1*
+EXAM 2 220 1 = E 2 000220 000000000011
+TICK 0 21 = T 0 4. 1* 5. 1* 5. 1*
+PEEK 0 = P 0 ENDING 435457634500 4 - - -
+TICK 1 1 = T 1 1*
+PEEK 0 = P 0 ENDING 435457634500 4 - - -
+TICK 0 1 = T 0 1.
+PEEK 0 = P 0 ENDING 435457634500 3 - - -
+TICK 2 5 = T 2 4. 1*
+PEEK 0 = P 0 ENDING 435457634500 1 - - -
+TICK 2 3 = T 2 1. 2*
+STATE 2 = S 2 650000000000 720000000000 - - STOP 010000000103 000000000001 000000000000 000000000000 000000000000 000000000000 000000000000
+TICK 0 5 = T 0 5.
+TICK 0 1 = T 0 1*
+TICK 0 1 = T 0 1-
+DIR D = R 440000000000 1
+= F 410000000000 420000000000 1
+SHOW D A B = W 440000000000 410000000000 420000000000 1
+= / 000000000123
+DIR E = R 450000000000 0
+#; ACCESS to the end, past it, and to a word; FILLEN of the file
+FILE D A B
+/ 1 2 3
+EOF
+LOAD U X 0 = J 0
+!FILE_IN
+100: .CALL 120 | .BREAK 16, | .CALL 130 | .BREAK 16, | .IOT 1,210 | .CALL 135 | JFCL | .IOT 1,211 | .CALL 142 | .BREAK 16,
+112: .IOT 1,212 | .IOT 1,213 | .IOT 1,214 | .CALL 160 | .BREAK 16, | .BREAK 16,
+130: SETZ | SIXBIT ACCESS | 1000,,1 | 401000,,3
+135: SETZ | SIXBIT ACCESS | 1000,,1 | 1000,,4 | 403000,,220
+142: SETZ | SIXBIT ACCESS | 1000,,1 | 1000,,1 | 403000,,220
+160: SETZ | SIXBIT FILLEN | 1000,,1 | 402000,,221
+210/ 0 0 0 0 0
+220/ 0 0
+GO 100
+TICK 0 104 = T 0 4. 1* 5. 1* 5. 1* 6. 1* 2. 1* 4. 1* 6. 1* 5. 1* 6. 1* 6. 1* 6. 1* 2.
+EXAM 0 210 5 = E 0 000210 777777000003 777777000003 000000000002 000000000003 777777000003
+EXAM 0 220 2 = E 0 000220 000000000022 000000000003
+#; FILLEN of a draft, beside the file that has its names; ACCESS of a draft is error 5
+FILE D A B
+/ 1 2 3
+EOF
+LOAD U X 0 = J 0
+!FILE_OUT
+100: .CALL 120 | .BREAK 16, | .CALL 130 | .BREAK 16, | .IOT 1,210 | .IOT 1,211 | .CALL 134 | .BREAK 16, | .CALL 142 | .BREAK 16,
+130: SETZ | SIXBIT FILLEN | 1000,,1 | 402000,,220
+134: SETZ | SIXBIT FILLEN | 1000,,1 | 402000,,221
+142: SETZ | SIXBIT ACCESS | 1000,,1 | 1000,,0 | 403000,,222
+210/ 17 20
+220/ 777 777 777
+GO 100
+TICK 0 47 = T 0 4. 1* 5. 1* 6. 1* 5. 1* 5. 1* 6. 1* 2.
+EXAM 0 220 3 = E 0 000220 000000000000 000000000002 000000000005
+DIR D = R 440000000000 1
+= F 410000000000 420000000000 3
+#; SIOT of more words than a file has, looked at after the first: at the end of the file it finishes, and 2 remain
+FILE D A B
+/ 111111111111 222222222222 333333333333
+EOF
+LOAD U X 0 = J 0
+!FILE_IN
+100: .CALL 120 | .BREAK 16, | .CALL 130 | .BREAK 16, | .BREAK 16,
+130: SETZ | SIXBIT SIOT | 1000,,1 | 200 | SETZ 201
+200/ 444400001000 5
+1000/ 0 0 0 777
+GO 100
+TICK 0 13 = T 0 4. 1* 5. 1*
+PEEK 0 = P 0 MOVING 635157640000 4 444400001000 000000000005 111111111111
+EXAM 0 200 2 = E 0 000200 004400001000 000000000004
+EXAM 0 1000 2 = E 0 001000 111111111111 000000000000
+PEEK 0 = P 0 USER - 0 - - -
+TICK 0 13 = T 0 4. 1* 1. 1* 1. 1* 2.
+PEEK 0 = P 0 ENDING 635157640000 1 004400001002 000000000002 -
+TICK 0 3 = T 0 1. 2*
+EXAM 0 200 2 = E 0 000200 004400001002 000000000002
+EXAM 0 1000 4 = E 0 001000 111111111111 222222222222 333333333333 000000000777
+STATE 0 = S 0 650000000000 700000000000 - 0 STOP 010000000105 000000000001 000000000000 000000000000 000000000000 000000000000 000000000000
+#; SIOT to a draft, looked at after its second word, and the file that becomes of it
+LOAD U X 0 = J 0
+!CLOSES
+100: .CALL 120 | .BREAK 16, | .CALL 130 | .BREAK 16, | .CALL 140 | .BREAK 16, | .BREAK 16,
+130: SETZ | SIXBIT SIOT | 1000,,1 | 200 | SETZ 201
+200/ 444400001000 3
+1000/ 111111111111 222222222222 333333333333
+GO 100
+TICK 0 14 = T 0 4. 1* 5. 2*
+PEEK 0 = P 0 HOLDING 635157640000 3 444400001000 000000000003 -
+EXAM 0 200 2 = E 0 000200 004400001001 000000000001
+PEEK 0 = P 0 USER - 0 - - -
+TICK 0 12 = T 0 4. 2* 4.
+EXAM 0 200 2 = E 0 000200 004400001002 000000000000
+TICK 0 5 = T 0 4. 1*
+SHOW D A B = W 440000000000 410000000000 420000000000 3
+= / 111111111111 222222222222 333333333333
+#; a pointer with P of 77 names the 11 bits at the left of its word: of a word that is read the low 11 go there, a draft gets them
+FILE D A B
+/ 123456701234
+EOF
+LOAD U X 0 = J 0
+100: .CALL 120 | .BREAK 16, | .CALL 130 | .BREAK 16, | .CALL 140 | .BREAK 16, | .CALL 160 | .BREAK 16, | .CALL 172 | .BREAK 16, | .BREAK 16,
+120: SETZ | SIXBIT OPEN | 1000,,1 | 150 | 151 | 152 | SETZ 153
+130: SETZ | SIXBIT SIOT | 1000,,1 | 200 | SETZ 201
+140: SETZ | SIXBIT OPEN | 5000,,1 | 1000,,2 | 150 | 151 | 154 | SETZ 153
+150: SIXBIT DSK | SIXBIT A | SIXBIT B | SIXBIT D | SIXBIT C
+160: SETZ | SIXBIT SIOT | 1000,,2 | 202 | SETZ 203
+172: SETZ | SIXBIT CLOSE | 401000,,2
+200/ 774400001000 1 774400001001 1
+1000/ 111111111111 765432101234
+GO 100
+TICK 0 46 = T 0 4. 1* 5. 1* 1. 1* 7. 1* 5. 2* 7. 1* 2.
+EXAM 0 200 4 = E 0 000200 334400001000 000000000000 334400001001 000000000000
+EXAM 0 1000 1 = E 0 001000 234111111111
+SHOW D A C = W 440000000000 410000000000 430000000000 1
+= / 000000000765
+#; `.IOT` from a file into a word that is absent: MPV, PC stays, and the file has given no word
+!FILE
+LOAD U X 0 = J 0
+!FILE_IN
+100: .CALL 120 | .BREAK 16, | .IOT 1,4000 | .IOT 1,211 | .BREAK 16,
+210/ 0 0
+GO 100
+TICK 0 15 = T 0 4. 1* 5. 1* 1. 1*
+STATE 0 = S 0 650000000000 700000000000 - 0 STOP 010000000102 000000000004 000000000000 000000000000 000000000000 000000000000 000000000000
+DEPOSIT 0 102 40040000210
+CONT 0
+TICK 0 15 = T 0 4. 1* 6. 1* 1.
+EXAM 0 210 2 = E 0 000210 000000000001 000000000002
+#; `.IOT` to a draft from a word that is absent: the same, and the draft has got no word
+LOAD U X 0 = J 0
+!FILE_OUT
+100: .CALL 120 | .BREAK 16, | .IOT 1,4000 | .CALL 130 | .BREAK 16,
+130: SETZ | SIXBIT FILLEN | 1000,,1 | 402000,,211
+210/ 0 777
+GO 100
+TICK 0 15 = T 0 4. 1* 5. 1* 1. 1*
+STATE 0 = S 0 650000000000 700000000000 - 0 STOP 010000000102 000000000004 000000000000 000000000000 000000000000 000000000000 000000000000
+DEPOSIT 0 102 255000000000
+CONT 0
+TICK 0 10 = T 0 1* 4. 1* 2.
+EXAM 0 210 2 = E 0 000210 000000000000 000000000000
+#; `.IOT` on a channel that was on a file and is closed: IOC
+!FILE
+LOAD U X 0 = J 0
+!FILE_IN
+100: .CALL 120 | .BREAK 16, | .CALL 130 | .BREAK 16, | .IOT 1,210 | .BREAK 16,
+130: SETZ | SIXBIT CLOSE | 401000,,1
+210/ 777
+GO 100
+TICK 0 24 = T 0 4. 1* 5. 1* 5. 1* 1. 1* 1-
+STATE 0 = S 0 650000000000 700000000000 - 0 STOP 010000000105 000000000020 000000000000 000000000000 000000000000 000000000000 000000000000
+EXAM 0 210 1 = E 0 000210 000000000777
+#; two jobs read a file, each at its own place; as long as one does CLOSE fails and keeps its draft; tried again it replaces the file
+!FILE
+LOAD U X 0 = J 0
+!FILE_OUT
+100: .CALL 120 | .BREAK 16, | .IOT 1,210 | .CALL 134 | JRST 103 | .BREAK 16,
+134: SETZ | SIXBIT CLOSE | 1000,,1 | 403000,,220
+210/ 123
+220/ 0
+GO 100
+LOAD U Y 0 = J 1
+!FILE_READER
+LOAD U Z 0 = J 2
+!FILE_READER
+TICK 1 22 = T 1 4. 1* 5. 1* 6. 1*
+TICK 2 14 = T 2 4. 1* 5. 1* 1.
+TICK 0 24 = T 0 4. 1* 5. 1* 5. 1* 2. 1*
+EXAM 0 220 1 = E 0 000220 000000000011
+TICK 1 14 = T 1 6. 1* 1. 2* 2-
+TICK 0 10 = T 0 4. 1* 2. 1*
+EXAM 0 220 1 = E 0 000220 000000000011
+DIR D = R 440000000000 1
+= F 410000000000 420000000000 2
+TICK 2 22 = T 2 5. 1* 6. 1* 1. 2* 2-
+EXAM 1 210 2 = E 1 000210 000000000001 000000000002
+EXAM 2 210 2 = E 2 000210 000000000001 000000000002
+DEPOSIT 0 220 0
+TICK 0 1 = T 0 1.
+TICK 0 11 = T 0 3. 1* 4. 1*
+EXAM 0 220 1 = E 0 000220 000000000000
+DIR D = R 440000000000 1
+= F 410000000000 420000000000 1
+SHOW D A B = W 440000000000 410000000000 420000000000 1
+= / 000000000123
+#; RENAME keeps the place of a file, CLOSE puts a draft last, DELETE takes a file out; a file of another directory stands apart
+FILE D A B
+/ 1
+EOF
+FILE E A B
+/ 2 2
+EOF
+FILE D A C
+/ 3 3 3
+EOF
+FILE D A A
+EOF
+DIR D = R 440000000000 3
+= F 410000000000 420000000000 1
+= F 410000000000 430000000000 3
+= F 410000000000 410000000000 0
+DIR E = R 450000000000 1
+= F 410000000000 420000000000 2
+LOAD U X 0 = J 0
+100: .CALL 120 | .BREAK 16, | .CALL 134 | .BREAK 16, | .CALL 142 | .BREAK 16, | .CALL 160 | .BREAK 16, | .BREAK 16,
+120: SETZ | SIXBIT RENAME | 150 | 151 | 152 | 153 | 154 | SETZ 155
+134: SETZ | SIXBIT OPEN | 5000,,1 | 1000,,1 | 150 | 151 | 151 | SETZ 153
+142: SETZ | SIXBIT CLOSE | 401000,,1
+150: SIXBIT DSK | SIXBIT A | SIXBIT B | SIXBIT D | SIXBIT O | SIXBIT C
+160: SETZ | SIXBIT DELETE | 150 | 154 | 155 | SETZ 153
+GO 100
+TICK 0 6 = T 0 4. 1* 1.
+DIR D = R 440000000000 3
+= F 570000000000 430000000000 1
+= F 410000000000 430000000000 3
+= F 410000000000 410000000000 0
+TICK 0 14 = T 0 4. 1* 5. 1* 1.
+TICK 0 4 = T 0 4.
+DIR D = R 440000000000 3
+= F 570000000000 430000000000 1
+= F 410000000000 430000000000 3
+= F 410000000000 410000000000 0
+TICK 0 1 = T 0 1.
+TICK 0 5 = T 0 1* 1. 2* 1-
+DIR D = R 440000000000 2
+= F 410000000000 430000000000 3
+= F 410000000000 410000000000 0
+PEEK 0 = P 0 USER - 0 - - -
+DIR E = R 450000000000 1
+= F 410000000000 420000000000 2
+SHOW E A B = W 450000000000 410000000000 420000000000 2
+= / 000000000002 000000000002
+#; an empty directory, an empty file, eight words in a line, and nine; empty lines between words
+DIR D = R 440000000000 0
+FILE D A B
+EOF
+FILE D A C
+/ 1 2 3
+/ 4 5 6 7 10
+EOF
+FILE D A D
+/ 1 2 3 4 5 6 7 10 11
+
+; words of a file may stand apart
+EOF
+FILE D A E
+/ 1 2 3 4 5 6 7 10 11 12 13 14 15 16 17 20
+/ 777777777777
+EOF
+DIR D = R 440000000000 4
+= F 410000000000 420000000000 0
+= F 410000000000 430000000000 10
+= F 410000000000 440000000000 11
+= F 410000000000 450000000000 21
+SHOW D A B = W 440000000000 410000000000 420000000000 0
+SHOW D A C = W 440000000000 410000000000 430000000000 10
+= / 000000000001 000000000002 000000000003 000000000004 000000000005 000000000006 000000000007 000000000010
+SHOW D A D = W 440000000000 410000000000 440000000000 11
+= / 000000000001 000000000002 000000000003 000000000004 000000000005 000000000006 000000000007 000000000010
+= / 000000000011
+SHOW D A E = W 440000000000 410000000000 450000000000 21
+= / 000000000001 000000000002 000000000003 000000000004 000000000005 000000000006 000000000007 000000000010
+= / 000000000011 000000000012 000000000013 000000000014 000000000015 000000000016 000000000017 000000000020
+= / 777777777777
+DIR C = R 430000000000 0
+SHOW D B A = ? 30 NOFILE
+#; FILE with the names of a file that stands
+FILE D A B
+EOF
+FILE D A C
+EOF
+FILE D A B = ? 6 EXISTS
+#; the session ends inside a file
+FILE D A B
+/ 1 = ? 4 CUT
+#; DIR inside a file
+FILE D A B
+DIR D = ? 3 SYNTAX
+#; words outside a file
+/ 1 = ? 2 SYNTAX
+#; EOF outside a file
+EOF = ? 2 SYNTAX
+#; seventeen words
+FILE D A B
+/ 1 2 3 4 5 6 7 10 11 12 13 14 15 16 17 20 21 = ? 3 SYNTAX
+#; SHOW of no file
+FILE D A B
+EOF
+SHOW D B A = ? 4 NOFILE
+";
+
+/// Blocks of calls that a job executes one after the other, and how each ends, as those on
+/// inferiors. Channel 1 reads the file D A B of two words, channel 2 is on a draft with the same
+/// names, channel 3 on the console, channel 4 is closed. Lines without such a row are titles.
+static ERRORS: &str = "OPEN: an open channel, and one past 17
+SETZ | SIXBIT OPEN | 1000,,1 | 150 | 151 | 152 | 153 | 403000,,10 = fails 4
+SETZ | SIXBIT OPEN | 1000,,20 | 150 | 151 | 152 | 153 | 403000,,10 = fails 4
+a device of none, before the control argument
+SETZ | SIXBIT OPEN | 1000,,4 | 1000,,0 | 151 | 152 | 153 | 403000,,10 = fails 5
+a control argument above 1, behind the channel and before the file, or the inferior
+SETZ | SIXBIT OPEN | 5000,,2 | 1000,,4 | 156 | 151 | 152 | 153 | 403000,,10 = fails 22
+SETZ | SIXBIT OPEN | 5000,,2 | 1000,,4 | 150 | 151 | 152 | 153 | 403000,,10 = fails 22
+SETZ | SIXBIT OPEN | 5000,,2 | 1000,,4 | 150 | 151 | 157 | 153 | 403000,,10 = fails 22
+SETZ | SIXBIT OPEN | 5000,,2 | 1000,,1 | 150 | 151 | 152 | 153 | 403000,,10 = fails 4
+no such file; names that are left out are 0
+SETZ | SIXBIT OPEN | 1000,,4 | 150 | 151 | 157 | 153 | 403000,,10 = fails 6
+SETZ | SIXBIT OPEN | 5000,,0 | 1000,,4 | 150 | 151 | 152 | 154 | 403000,,10 = fails 6
+SETZ | SIXBIT OPEN | 1000,,4 | 150 | 151 | 152 | 403000,,10 = fails 6
+SETZ | SIXBIT OPEN | 1000,,4 | 150 | 403000,,10 = fails 6
+CLOSE: a closed channel, one past 17, and a draft whose file the job itself reads
+SETZ | SIXBIT CLOSE | 1000,,4 | 403000,,10 = fails 4
+SETZ | SIXBIT CLOSE | 1000,,20 | 403000,,10 = fails 4
+SETZ | SIXBIT CLOSE | 1000,,2 | 403000,,10 = fails 11
+ACCESS: a closed channel; a console and a draft; past the end
+SETZ | SIXBIT ACCESS | 1000,,4 | 1000,,0 | 403000,,10 = fails 4
+SETZ | SIXBIT ACCESS | 1000,,777777 | 1000,,0 | 403000,,10 = fails 4
+SETZ | SIXBIT ACCESS | 1000,,3 | 1000,,0 | 403000,,10 = fails 5
+SETZ | SIXBIT ACCESS | 1000,,2 | 1000,,0 | 403000,,10 = fails 5
+SETZ | SIXBIT ACCESS | 1000,,1 | 1000,,3 | 403000,,10 = fails 22
+SETZ | SIXBIT ACCESS | 1000,,1 | 163 | 403000,,10 = fails 22
+FILLEN: a closed channel; a console
+SETZ | SIXBIT FILLEN | 1000,,4 | 2000,,10 | 403000,,10 = fails 4
+SETZ | SIXBIT FILLEN | 1000,,20 | 2000,,10 | 403000,,10 = fails 4
+SETZ | SIXBIT FILLEN | 1000,,3 | 2000,,10 | 403000,,10 = fails 5
+DELETE: another device, before the file; no such file; one that is read
+SETZ | SIXBIT DELETE | 155 | 151 | 152 | 153 | 403000,,10 = fails 5
+SETZ | SIXBIT DELETE | 155 | 151 | 157 | 153 | 403000,,10 = fails 5
+SETZ | SIXBIT DELETE | 150 | 151 | 157 | 153 | 403000,,10 = fails 6
+SETZ | SIXBIT DELETE | 150 | 151 | 152 | 154 | 403000,,10 = fails 6
+SETZ | SIXBIT DELETE | 150 | 151 | 152 | 153 | 403000,,10 = fails 11
+RENAME: the same in this order; then new names that a file has, itself too
+SETZ | SIXBIT RENAME | 155 | 151 | 152 | 153 | 151 | 152 | 403000,,10 = fails 5
+SETZ | SIXBIT RENAME | 150 | 151 | 157 | 153 | 151 | 152 | 403000,,10 = fails 6
+SETZ | SIXBIT RENAME | 150 | 151 | 152 | 153 | 154 | 152 | 403000,,10 = fails 11
+SETZ | SIXBIT RENAME | 150 | 154 | 152 | 153 | 151 | 152 | 403000,,10 = fails 23
+SETZ | SIXBIT RENAME | 150 | 154 | 152 | 153 | 154 | 152 | 403000,,10 = fails 23
+SIOT of a file and of a draft: bytes that are no words, before the count; I in the pointer; a negative count; one word as pointer and count; a place that the call reads
+SETZ | SIXBIT SIOT | 1000,,1 | 160 | 161 | 403000,,10 = fails 21
+SETZ | SIXBIT SIOT | 1000,,2 | 160 | 161 | 403000,,10 = fails 21
+SETZ | SIXBIT SIOT | 1000,,1 | 160 | 163 | 403000,,10 = fails 21
+SETZ | SIXBIT SIOT | 1000,,2 | 165 | 161 | 403000,,10 = fails 21
+SETZ | SIXBIT SIOT | 1000,,1 | 162 | 163 | 403000,,10 = fails 22
+SETZ | SIXBIT SIOT | 1000,,2 | 162 | 163 | 403000,,10 = fails 22
+SETZ | SIXBIT SIOT | 1000,,1 | 162 | 162 | 403000,,10 = fails 17
+SETZ | SIXBIT SIOT | 1000,,2 | 162 | 1000,,1 | 403000,,10 = fails 17
+SETZ | SIXBIT SIOT | 1000,,1 | 164 | 161 | 403000,,10 = fails 20
+SETZ | SIXBIT SIOT | 1000,,2 | 164 | 161 | 403000,,10 = fails 20
+SETZ | SIXBIT SIOT | 1000,,4 | 162 | 161 | 403000,,10 = fails 4
+other calls on a channel that reads a file: FINISH, LISTEN, TTYLND, USRVAR
+SETZ | SIXBIT FINISH | 1000,,1 | 403000,,10 = fails 5
+SETZ | SIXBIT LISTEN | 1000,,1 | 2000,,10 | 403000,,10 = fails 5
+SETZ | SIXBIT TTYLND | 1000,,1 | 403000,,10 = fails 5
+SETZ | SIXBIT USRVAR | 1000,,1 | 150 | 403000,,10 = fails 5
+and what succeeds: FILLEN of both, ACCESS to the end, and SIOT there, where it looks at no place; RENAME and DELETE of a file that nobody reads
+SETZ | SIXBIT FILLEN | 1000,,1 | 402000,,10 = gives 2
+SETZ | SIXBIT FILLEN | 1000,,2 | 402000,,10 = gives 0
+SETZ | SIXBIT ACCESS | 1000,,1 | 1000,,2 | 403000,,10 = done
+SETZ | SIXBIT SIOT | 1000,,1 | 164 | 161 | 403000,,10 = done
+SETZ | SIXBIT RENAME | 150 | 154 | 152 | 153 | 154 | 154 | 403000,,10 = done
+SETZ | SIXBIT DELETE | 150 | 154 | 154 | 153 | 403000,,10 = done";
+
+/// The session of these rows, before the calls and their blocks.
+const BEFORE_ERRORS: &str = "!FILE
+FILE D C B
+/ 3
+EOF
+LOAD U X 0 = J 0
+10/ 777
+100: .CALL 120 | .BREAK 16, | .CALL 130 | .BREAK 16, | .CALL 140 | .BREAK 16, | JRST 1000
+120: SETZ | SIXBIT OPEN | 1000,,1 | 150 | 151 | 152 | SETZ 153
+130: SETZ | SIXBIT OPEN | 5000,,1 | 1000,,2 | 150 | 151 | 152 | SETZ 153
+140: SETZ | SIXBIT OPEN | 1000,,3 | SETZ 155
+150: SIXBIT DSK | SIXBIT A | SIXBIT B | SIXBIT D | SIXBIT C | SIXBIT TTY | SIXBIT USR | SIXBIT N | 440700,,1000 | 2 | 444400,,1000 | 777777,,777777 | 444400,,161 | 444420,,1000
+";
+
+/// Each call on files fails with each of its errors, in their order, and then changes nothing.
+#[test]
+fn errors(rt: HostRuntime) -> Result<(), Fail> {
+    let started = "GO 100\nTICK 0 23 = T 0 4. 1* 5. 1* 5. 1* 1. 1*\n";
+    assert_eq!(rt; rows_in(ERRORS), 54);
+    compare_calls(rt.alloc(), BEFORE_ERRORS, started, ERRORS)
+}
+
+/// Calls that a second job executes while the first one has all four steps of a CLOSE pending: the
+/// instruction, what it finds after it, the letters of five ticks, and how many steps the first job
+/// has pending then: one if the call has performed the parts of the close. Channel 1 of the second
+/// job reads a file, channel 2 is on a draft, channel 3 on a console, channel 4 is closed.
+static HELPERS: &str =
+    ".CALL 200 | SETZ | SIXBIT OPEN | 1000,,4 | 150 | 154 | 154 | SETZ 153 = 4. 1* = 1
+.CALL 200 | SETZ | SIXBIT OPEN | 1000,,4 | 150 | 154 | 157 | SETZ 153 = 4. 1* = 1
+.CALL 200 | SETZ | SIXBIT OPEN | 1000,,1 | SETZ 150 = 4. 1* = 1
+.CALL 200 | SETZ | SIXBIT OPEN | 1000,,4 | SETZ 155 = 4. 1* = 4
+.CALL 200 | SETZ | SIXBIT OPEN | 1000,,4 | SETZ 156 = 4. 1* = 4
+.CALL 200 | SETZ | SIXBIT OPEN | 401000,,4 = 4. 1* = 4
+.CALL 200 | SETZ | SIXBIT CLOSE | 401000,,1 = 4. 1* = 1
+.CALL 200 | SETZ | SIXBIT CLOSE | 401000,,2 = 4. 1* = 1
+.CALL 200 | SETZ | SIXBIT CLOSE | 401000,,3 = 4. 1* = 4
+.CALL 200 | SETZ | SIXBIT CLOSE | 401000,,4 = 4. 1* = 4
+.CALL 200 | SETZ | SIXBIT SIOT | 1000,,1 | 162 | SETZ 161 = 4. 1* = 1
+.CALL 200 | SETZ | SIXBIT SIOT | 1000,,2 | 162 | 401000,,1 = 4. 1* = 1
+.CALL 200 | SETZ | SIXBIT SIOT | 1000,,4 | 162 | SETZ 161 = 4. 1* = 4
+.CALL 200 | SETZ | SIXBIT ACCESS | 1000,,1 | 401000,,0 = 4. 1* = 1
+.CALL 200 | SETZ | SIXBIT ACCESS | 1000,,3 | 401000,,0 = 4. 1* = 1
+.CALL 200 | SETZ | SIXBIT FILLEN | 1000,,2 | 402000,,10 = 4. 1* = 1
+.CALL 200 | SETZ | SIXBIT FILLEN | 1000,,4 | 402000,,10 = 4. 1* = 1
+.CALL 200 | SETZ | SIXBIT DELETE | 155 | 151 | 152 | SETZ 153 = 4. 1* = 1
+.CALL 200 | SETZ | SIXBIT DELETE | 150 | 151 | SETZ 152 = 4. 1* = 4
+.CALL 200 | SETZ | SIXBIT RENAME | 155 | 151 | 152 | 153 | 151 | SETZ 152 = 4. 1* = 1
+.CALL 200 | SETZ | SIXBIT LISTEN | 1000,,1 | 402000,,10 = 4. 1* = 4
+.CALL 200 | SETZ | SIXBIT USRVAR | 1000,,1 | SETZ 150 = 4. 1* = 4
+.CALL 200 | SETZ | SIXBIT SIOT | 1000,,3 | 160 | SETZ 161 = 4. 1w = 4
+.CALL 200 | SETZ | SIXBIT HANG | 401000,,0 = 4. 1w = 4
+.IOT 1,10 | 0 = 4. 1* = 1
+.IOT 2,10 | 0 = 4. 1* = 1
+.IOT 3,10 | 0 = 4. 1w = 4
+.IOT 4,10 | 0 = 4. 1* = 4
+.CALL 200 | SETZ | SIXBIT LOGOUT | 401000,,0 = 4. 1* = 4";
+
+/// The job that closes the draft, again and again.
+const CLOSER: &str = "FILE D A B
+EOF
+FILE D C C
+/ 5
+EOF
+LOAD U X - = J 0
+!CLOSES
+100: .CALL 120 | 0 | .CALL 140 | 0 | JRST 100
+GO 100
+";
+
+/// The second job, up to its call.
+const HELPER: &str = "120: SETZ | SIXBIT OPEN | 1000,,1 | 150 | 154 | 154 | SETZ 153
+130: SETZ | SIXBIT OPEN | 5000,,1 | 1000,,2 | 150 | 157 | 157 | SETZ 153
+140: SETZ | SIXBIT OPEN | 1000,,3 | SETZ 155
+150: SIXBIT DSK | SIXBIT A | SIXBIT B | SIXBIT D | SIXBIT C | SIXBIT TTY | SIXBIT USR | SIXBIT N | 440700,,1000 | 2 | 444400,,1000
+171: .CALL 120 | 0 | .CALL 130 | 0 | .CALL 140 | 0 | ";
+
+/// Which calls perform the pending parts of another job's close.
+#[test]
+fn helpers(rt: HostRuntime) -> Result<(), Fail> {
+    let alloc = rt.alloc();
+    let mut session = CLOSER.to_string(alloc)?;
+    let mut slot = 1u32;
+    for row in HELPERS.split('\n') {
+        let (call, told) = row.split_once(" = ").expect(&rt, "letters");
+        let (letters, left) = told.split_once(" = ").expect(&rt, "a number");
+        let job = format!(in alloc;
+            "LOAD U H 1 = J {slot:o}\n{HELPER}{call}\nGO 171\nTICK {slot:o} 22 = T {slot:o} 4. 1* 5. 1* 5. 1* 1."
+        )?;
+        line(&mut session, &job)?;
+        let ticks = format!(in alloc;
+            "TICK 0 13 = T 0 4. 1* 5. 1*\nTICK {slot:o} 5 = T {slot:o} {letters}\nPEEK 0 = P 0 ENDING 435457634500 {left} - - -"
+        )?;
+        line(&mut session, &ticks)?;
+        line(
+            &mut session,
+            "EXAM 0 0 1 = E 0 000000 000000000000\nTICK 0 1 = T 0 1*",
+        )?;
+        slot = slot.wrapping_add(1);
+    }
+    show_row(alloc, &session)
+}
+
+#[test]
+fn files(rt: HostRuntime) -> Result<(), Fail> {
+    compare(rt.alloc(), "", FILES)
+}
+
+/// A job that writes a draft of one word and closes it, again and again. If CLOSE fails it deletes
+/// a file, and tries it again.
+const LAST: &str = "LOAD U X - = J 0
+100: .CALL 120 | 0 | .IOT 1,210 | .CALL 140 | .CALL 160 | JRST 100 | JRST 103
+120: SETZ | SIXBIT OPEN | 5000,,1 | 1000,,1 | 150 | 151 | 152 | SETZ 153
+140: SETZ | SIXBIT CLOSE | 1000,,1 | 403000,,220
+150: SIXBIT DSK | SIXBIT A | SIXBIT B | SIXBIT D | SIXBIT X | SIXBIT P
+160: SETZ | SIXBIT DELETE | 150 | 154 | 155 | SETZ 151
+210/ 123
+220/ 0
+GO 100
+TICK 0 24 = T 0 4. 1* 5. 1* 5. 1* 2. 1*
+TICK 0 26 = T 0 4. 1* 5. 1* 5. 1* 4. 1*
+DEPOSIT 0 152 430000000000
+TICK 0 23 = T 0 4. 1* 5. 1* 5. 1* 2.
+EXAM 0 220 1 = E 0 000220 000000000007
+TICK 0 16 = T 0 4. 1* 1. 1* 4. 1* 2.
+DIR D = R 440000000000 2
+= F 410000000000 420000000000 1
+= F 410000000000 430000000000 1
+FILE D A D = ? 1017 FULL
+";
+
+/// 255 files, of which a draft makes 256. Then a draft that replaces a file is closed, and one with
+/// new names is not: error 7, until a file is deleted. Nor has a line room for a file more.
+#[test]
+fn full_directory(rt: HostRuntime) -> Result<(), Fail> {
+    let alloc = rt.alloc();
+    let mut row = "FILE A X P\nEOF\n".to_string(alloc)?;
+    for k in 0..254u32 {
+        line(&mut row, &format!(in alloc; "FILE A F{k:o} A\nEOF")?)?;
+    }
+    row.push_str(LAST)?;
+    show_row(alloc, &row)
+}
+
+/// A job that writes a word to a draft by SIOT, and then by `.IOT`.
+const MORE: &str = "LOAD U X - = J 0
+!FILE_OUT
+100: .CALL 120 | 0 | .CALL 130 | JFCL | .IOT 1,1000
+130: SETZ | SIXBIT SIOT | 1000,,1 | 200 | 201 | 403000,,210
+200/ 444400001000 1
+210/ 0
+1000/ 123
+GO 100
+TICK 0 25 = T 0 4. 1* 5. 1* 2. 1* 4. 1* 1. 1*
+EXAM 0 200 2 = E 0 000200 444400001000 000000000001
+EXAM 0 210 1 = E 0 000210 000000000010
+STATE 0 = S 0 650000000000 700000000000 - - STOP 010000000105 000000000020 000000000000 000000000000 000000000000 000000000000 000000000000
+FILE D A C
+/ 1 = ? 40021 FULL
+";
+
+/// A file that has all 2048 blocks: a draft gets no word, which is error 10 of SIOT and IOC of
+/// `.IOT`, and no line has a word more.
+#[test]
+fn full_blocks(rt: HostRuntime) -> Result<(), Fail> {
+    let alloc = rt.alloc();
+    let mut row = String::new(alloc);
+    let words = "/ 0 0 0 0 0 0 0 0 0 0 0 0 0 0 0 0\n";
+    times(&mut row, "FILE D A B\n", words, 16384, "EOF\n")?;
+    row.push_str(MORE)?;
+    show_row(alloc, &row)
+}
