@@ -11,7 +11,7 @@ import subprocess
 import tempfile
 import time
 import urllib.request
-from typing import List, Optional
+from typing import Any, List, Optional
 
 from .session import Wrong
 
@@ -77,13 +77,21 @@ class Socket:
 
 def chromium() -> Optional[str]:
     """The program Chromium, if there is one."""
-    return next((found for found in map(shutil.which, NAMES) if found), None)
+    return next((found for found in (shutil.which(name) for name in NAMES) if found), None)
+
+
+def wrong_in(events: List[dict]) -> List[str]:
+    """What went wrong in a page, by its events: exceptions, and connections to anything but the file and what it has made itself."""
+    thrown = [event["params"]["exceptionDetails"] for event in events if event["method"] == "Runtime.exceptionThrown"]
+    asked = [event["params"]["request"]["url"] for event in events if event["method"] == "Network.requestWillBeSent"]
+    return (["%s %s" % (one.get("text", ""), one.get("exception", {}).get("description", "")) for one in thrown] +
+            ["it asks for " + url for url in asked if not url.startswith(("file:", "blob:"))])
 
 
 class Browser:
     """A headless Chromium with one page."""
 
-    def __init__(self):
+    def __init__(self) -> None:
         program = chromium()
         if not program:
             raise Wrong("no Chromium is found (Debian's package is called chromium)")
@@ -91,6 +99,7 @@ class Browser:
         self.process = subprocess.Popen([program] + FLAGS + ["--user-data-dir=" + self.folder, "about:blank"],
                                         stdin=subprocess.DEVNULL, stdout=subprocess.DEVNULL, stderr=subprocess.DEVNULL)
         self.events: List[dict] = []
+        self.wrong: List[str] = []     # what went wrong in the pages that were open before this one
         self.asked = 0
         self.width = 0
         try:
@@ -114,7 +123,7 @@ class Browser:
                 time.sleep(0.1)
         raise Wrong("Chromium does not start")
 
-    def ask(self, method: str, **words) -> dict:
+    def ask(self, method: str, **words: Any) -> dict:
         """Asks Chromium for something, and returns what it answers. Events that come meanwhile are kept."""
         self.asked += 1
         self.socket.send(json.dumps({"id": self.asked, "method": method, "params": words}))
@@ -131,7 +140,7 @@ class Browser:
         while not any(event["method"] == method for event in self.events):
             self.events.append(json.loads(self.socket.receive()))
 
-    def value(self, script: str):
+    def value(self, script: str) -> Any:
         """The value of an expression in the page; of a promise, its result."""
         answer = self.ask("Runtime.evaluate", expression=script, returnByValue=True, awaitPromise=True)
         if "exceptionDetails" in answer:
@@ -146,8 +155,10 @@ class Browser:
         self.ask("Emulation.setEmulatedMedia", features=[scheme])
 
     def open(self, path: str, fragment: str = "") -> None:
-        """Opens a file, and waits for it."""
+        """Opens a file, and waits for it. What was noted of the page before counts, too."""
+        self.value("new Promise(done => setTimeout(done))")
         for url in ("about:blank", "file://" + os.path.abspath(path) + fragment):
+            self.wrong += wrong_in(self.events)
             self.events.clear()
             self.ask("Page.navigate", url=url)
             self.event("Page.loadEventFired")
@@ -187,12 +198,9 @@ class Browser:
         return max(tasks) / 1000
 
     def complaints(self) -> List[str]:
-        """What went wrong in the page since it was opened: exceptions, and connections to anything but the file and what it
-        has made itself."""
-        wrong = [event["params"]["exceptionDetails"].get("text", "") for event in self.events
-                 if event["method"] == "Runtime.exceptionThrown"]
-        asked = [event["params"]["request"]["url"] for event in self.events if event["method"] == "Network.requestWillBeSent"]
-        return wrong + ["it asks for " + url for url in asked if not url.startswith(("file:", "blob:"))]
+        """What went wrong in all pages that were opened. Those that the browser notes until now count."""
+        self.value("new Promise(done => setTimeout(done))")
+        return self.wrong + wrong_in(self.events)
 
     def close(self) -> None:
         """Ends Chromium."""

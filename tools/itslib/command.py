@@ -3,7 +3,7 @@
 import argparse
 import os
 import sys
-from typing import Callable
+from typing import IO, Callable, NoReturn, Optional
 
 from .session import Wrong
 
@@ -15,11 +15,11 @@ class Parser(argparse.ArgumentParser):
         super().__init__(prog=name, description=about, allow_abbrev=False,
                          formatter_class=argparse.RawDescriptionHelpFormatter)
 
-    def error(self, message: str):
+    def error(self, message: str) -> NoReturn:
         """Words that are wrong."""
         raise Wrong("%s (%s --help says more)" % (message, self.prog))
 
-    def print_help(self, file=None):
+    def print_help(self, file: Optional[IO[str]] = None) -> None:
         """The help, on standard output."""
         write(self.format_help())
 

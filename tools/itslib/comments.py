@@ -5,7 +5,7 @@ import inspect
 import io
 import re
 import tokenize
-from typing import Callable, Dict, List, Tuple
+from typing import Dict, List, Tuple
 
 # What is passed over or taken in a text, in the order in which it is tried. A comment is the group `comment`.
 STRING = r'"(?:\\.|[^"\\])*"'

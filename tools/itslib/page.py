@@ -9,43 +9,45 @@ import json
 import os
 import re
 import zlib
-from typing import Dict, List
+from typing import Any, Dict, List
 
-from .calls import INPUTS
-from .causes import FORMS, FULL, RANGES, WRITTEN
-from .picture import BROKEN, ENDED, KINDS, LETTERS, MANY, NOTES, PATTERNS, STYLE
+from . import wrong
+from .modules import joined
 from .program import TOP
-from .session import LINES, Wrong
-from .symbols import IMMEDIATE
-from .words import CALLS, ERRORS, FATAL, FLAGS, PENDING, STATES, WAITS
-from .words import LETTERS as TICKS
+from .session import Wrong
 
 FOLDER = os.path.join(TOP, "tools", "page")
 PAGE = os.path.join(TOP, "docs", "its.html")
-CORE = ("words", "session", "meaning", "causes", "story", "layout", "picture", "calls", "moments", "engine")
-VIEW = ("worker", "steps", "player", "field", "editor", "terminal", "page")
+ENTRIES = ["page/page.js", "page/answers.js"]     # of the page itself, and of its worker
 GZIP = 16 + zlib.MAX_WBITS       # packs as gzip does, without a time, and alike in each version of Python
 ITEM = '<script type="application/json" id="%s">\n%s\n</script>'
 
 
-def tables() -> dict:
-    """The tables of itslib that the scripts of the page also use."""
-    return {"calls": CALLS, "states": STATES, "waits": WAITS, "errors": {"%o" % number: words for number, words in ERRORS.items()},
-            "pending": [["%o" % bit, *names] for bit, names in PENDING.items()], "lastFatal": "%o" % (FATAL + 1 >> 1),
-            "flags": [["%o" % bit, name] for bit, name in FLAGS.items()], "ticks": TICKS, "lines": LINES, "forms": FORMS,
-            "written": WRITTEN, "ranges": RANGES, "full": FULL, "inputs": INPUTS, "immediate": sorted(IMMEDIATE), "letters": LETTERS, "kinds": KINDS,
-            "style": STYLE, "patterns": PATTERNS, "notes": {"always": NOTES, "broken": BROKEN, "ended": ENDED, "many": MANY}}
-
-
 def examples() -> List[dict]:
     """The sessions and the assembly texts of sessions/, those of the tour first."""
-    paths = [path for folder in ("", "exercises") for kind in ("its", "asm")
+    paths = [path for folder in ("", "exercises", "midas", "wrong") for kind in ("its", "asm", "mid")
              for path in sorted(glob.glob(os.path.join(TOP, "sessions", folder, "*." + kind)))]
     found = []
     for path in paths:
         with open(path, encoding="latin-1") as file:
             found.append({"name": os.path.relpath(path, os.path.join(TOP, "sessions")), "text": file.read()})
     return sorted(found, key=lambda one: not one["name"].startswith("tour"))
+
+
+def files_of(folder: str, ending: str) -> List[List[str]]:
+    """The name and the text of each file of a folder with this ending, in the order of their names."""
+    found = []
+    for path in sorted(glob.glob(os.path.join(folder, "*." + ending))):
+        with open(path, encoding="latin-1") as file:
+            found.append([os.path.basename(path), file.read()])
+    return found
+
+
+def tasks() -> List[dict]:
+    """The tasks of labs/ as students have them: the page, the public checks, and the texts beside them."""
+    folders = [os.path.dirname(path) for path in sorted(glob.glob(os.path.join(TOP, "labs", "*", "README.md")))]
+    return [{"name": os.path.basename(folder), "page": files_of(folder, "md")[0][1], "checks": files_of(folder, "its"),
+             "texts": files_of(folder, "asm")} for folder in folders]
 
 
 def part(name: str) -> str:
@@ -57,12 +59,7 @@ def part(name: str) -> str:
         raise Wrong("%s: %s" % (os.path.join(FOLDER, name), problem.strerror))
 
 
-def scripts(names) -> str:
-    """Scripts of tools/page, one after the other."""
-    return "\n".join(part(name + ".js").replace('"use strict";\n\n', "", 1) for name in names)
-
-
-def as_json(value) -> str:
+def as_json(value: object) -> str:
     """A value as JSON that may be in a page."""
     return json.dumps(value, separators=(",", ":")).replace("<", "\\u003c")
 
@@ -76,13 +73,14 @@ def module_of(module: bytes, built: Dict[str, object]) -> dict:
 
 def page(module: dict) -> str:
     """The page with a module."""
-    parts = {"/* style */": part("page.css"), "/* core */": scripts(CORE), "/* view */": scripts(VIEW),
-             "<!-- module -->": as_json(module), "<!-- examples -->": as_json(examples()), "/* tables */": as_json(tables())}
+    parts = {"/* style */": part("page.css"), "/* modules */": joined(ENTRIES),
+             "<!-- module -->": as_json(module),
+             "<!-- examples -->": as_json(examples()), "<!-- tasks -->": as_json(tasks()), "<!-- others -->": as_json(wrong.examples())}
     marks = "|".join(map(re.escape, parts))
     return re.sub(marks, lambda mark: parts[mark.group()].rstrip("\n"), part("page.html"))
 
 
-def item(text: str, name: str):
+def item(text: str, name: str) -> Any:
     """A value that a page has, by its name."""
     found = re.search(re.escape(ITEM) % (name, "(.*?)"), text, re.S)
     if not found:
@@ -102,12 +100,3 @@ def stored() -> str:
 def module_in(text: str) -> bytes:
     """The WebAssembly module of a page."""
     return gzip.decompress(base64.b64decode(item(text, "module")["bytes"]))
-
-
-def packed(name: str, session: str, watch: List[int]) -> str:
-    """The stored page with a session, which it opens. Of each job the words at `watch` are shown, too."""
-    text, empty = stored(), ITEM % ("packed", "null")
-    if empty not in text:
-        raise Wrong("%s has no place for a session" % os.path.relpath(PAGE, TOP))
-    value = {"name": name, "text": session, "watch": ["%o" % address for address in watch]}
-    return text.replace(empty, ITEM % ("packed", as_json(value)))

@@ -26,11 +26,11 @@ PROMISED = {
     "its_verify/specs/Rulings.antt": {WALK: "judged", EFFECT: "gone"},
     # what each line does, what it may touch, and how many turns it asks for
     "its_plain/specs/OperatorLines.antt": {KIND: "operate lined"},
-    "its_plain/specs/Integrity.antt": {KIND: "touched"},
+    "its_security/specs/OperatorParts.antt": {KIND: "touched"},
     "its_plain/specs/Turns.antt": {KIND: "turns_asked ticks_asked"},
     # of one kind of line: the bytes of TYPE, the words of `/`
     "its_plain/specs/Ledger.antt": {KIND: "typed_by"},
-    "its_plain/specs/RunIntegrity.antt": {KIND: "IsSpared"},
+    "its_security/specs/RunIntegrity.antt": {KIND: "IsSpared"},
     # reading and writing a line
     "its_session/specs/Events.antt": {KIND: "place_after version_after item_then"},
     "its_session/specs/Writing.antt": {KIND: "text_of_event HasWords"},
@@ -97,7 +97,9 @@ def names_in(text: str) -> Dict[str, str]:
     names: Dict[str, str] = {}
     for line in text.splitlines():
         found = USE.match(line)
-        module, alias, words = found.groups() if found else ("", None, None)
+        if not found:
+            continue
+        module, alias, words = found.groups()
         if alias:
             names[alias] = module
         for word in words.split(",") if words else ():

@@ -3,11 +3,10 @@ that with the session's transcript."""
 
 import json
 import time
-from typing import Dict, List
+from typing import Any, Dict, List
 
 from .browser import PATIENCE, Browser
-from .session import Exchange, Transcript, Wrong, exchanges, lines_of, runs_of, unrolled
-from .words import call_name, number
+from .session import Exchange, Wrong, exchanges, number
 
 # What the page shows, as values
 SHOWN = """(() => {
@@ -15,7 +14,7 @@ SHOWN = """(() => {
   const all = (within, what) => [...within.querySelectorAll(what)];
   const box = byId("picture").getBoundingClientRect(), cursor = byId("cursor").getBoundingClientRect();
   return {
-    moment: at.drawn, slider: Number(byId("slider").value), last: shown.moments.length - 1, hasPlace: Boolean(shown.moments[at.drawn].place),
+    moment: page.drawn, slider: Number(byId("slider").value), last: page.shown.moments.length - 1, hasPlace: Boolean(page.shown.moments[page.drawn].place),
     line: Number((document.querySelector("#lines [aria-current]") || {dataset: {line: 0}}).dataset.line),
     letter: text(document, "#lines .letters b"), wide: Math.max(document.documentElement.scrollWidth, window.innerWidth),
     cursor: byId("cursor").hidden ? "none" : cursor.left >= box.left && cursor.right <= box.right && cursor.top >= box.top &&
@@ -38,10 +37,12 @@ SETTLED = """new Promise(resolve => {
   };
   look();
 })"""
-DRAWN = "shown && shown.moments && !doing.isRunning && !isAsking && now && at.drawn === at.moment"
+# What the page and its parts are called, and whether it has drawn the moment at which its reader is
+NAMED = "void Object.assign(globalThis, its)"
+DRAWN = "page.shown && page.shown.moments && !doing.isRunning && !page.isAsking && page.now && page.drawn === page.moment"
 VIEWS = """(async () => {
   const views = [];
-  for (let at = 0; at < shown.moments.length; at += 1) views.push(await program.ask("view", {at, watch: []}, "test"));
+  for (let at = 0; at < page.shown.moments.length; at += 1) views.push(await program.ask("view", {at, watch: []}, "test"));
   return views;
 })()"""
 # Presses buttons one after the other, looks at all jobs if that is asked for, and gives what the page shows after each. Done in the page,
@@ -68,13 +69,13 @@ ASK = """(card => { card.querySelector("input").value = "%s"; card.querySelector
   document.querySelector(".job[data-slot='%s']"))"""
 CLICK_LINES = """%s.map(line => {
   document.querySelector("#lines [data-line='" + line + "']").click();
-  return at.moment;
+  return page.moment;
 })"""
 # Clicks on the places of moments in the picture, and gives those moments from which the page is elsewhere then
-CLICK_PLACES = """%s.filter(to => shown.moments[to].place).filter(to => {
-  const [row, x, width, top] = shown.moments[to].place, sheet = byId("sheet"), box = sheet.getBoundingClientRect();
+CLICK_PLACES = """%s.filter(to => page.shown.moments[to].place).filter(to => {
+  const [row, x, width, top] = page.shown.moments[to].place, sheet = byId("sheet"), box = sheet.getBoundingClientRect();
   sheet.dispatchEvent(new MouseEvent("click", {clientX: box.left + x + width / 2, clientY: box.top + top - TITLE + BAR / 2}));
-  return JSON.stringify(shown.moments[at.moment].place) !== JSON.stringify(shown.moments[to].place);
+  return JSON.stringify(page.shown.moments[page.moment].place) !== JSON.stringify(page.shown.moments[to].place);
 })"""
 KEYS = (("ArrowRight", False, "tick"), ("ArrowLeft", False, "tick-back"), ("ArrowRight", True, "star"), ("ArrowLeft", True, "star-back"),
         ("ArrowDown", False, "line"), ("ArrowUp", False, "line-back"))
@@ -89,7 +90,7 @@ def wait(browser: Browser, condition: str, what: str) -> None:
         raise Wrong("%s does not come about: %s; the page says: %s" % (what, condition[:200], browser.value("byId('alert').textContent")))
 
 
-def word_in(job: dict, address: int):
+def word_in(job: dict, address: int) -> Any:
     """The word of a job that the program found at an address."""
     group = job["words"].get(str(address // 8))
     return group and group[address % 8]
@@ -162,8 +163,8 @@ class Steps:
         peek, call = job["peek"], job["call"]
         self.want("slot %s is shown as %s" % (shown["slot"], shown["state"]), shown["state"] == peek["state"], at)
         if peek["state"] != "USER":
-            self.want("the steps left are not shown", "%o step" % peek["left"] in shown["frame"], at)
-            self.want("the call's name is not shown", peek["call"] == "-" or call_name(peek["call"]) in shown["frame"], at)
+            self.want("the steps left are not shown", "%d step" % peek["left"] in shown["frame"], at)
+            self.want("the call's name is not shown", peek["call"] == "-" or name_of(peek["call"]) in shown["frame"], at)
         raw = {"pointer": peek["a"], "time": peek["a"], "count": peek["b"]}
         rows = {row["role"]: row for row in reversed(shown["rows"])}
         for argument in call["arguments"] if call else []:
@@ -203,7 +204,7 @@ class Steps:
         """Presses each key, from the middle."""
         middle = self.last // 2
         for slot in {slot for view in self.views for slot in view["jobs"]}:
-            self.browser.value("looking.add('%s')" % slot)
+            self.browser.value("page.looking.add('%s')" % slot)
         for key, shift, step in KEYS:
             self.browser.value("go(%d); document.activeElement.blur()" % middle)
             self.settle()
@@ -221,7 +222,7 @@ class Steps:
         self.browser.value(PRESS % ".job:not([hidden]) .look[aria-pressed=false]")
         for slot, job in self.views[self.last]["jobs"].items():
             absent = next(page for page in range(256) if page not in job["pages"]) * 1024 + 16
-            for typed, wanted in {"17": word_in(job, 0o17)[:6], "%o" % absent: "NOPAGE", "8": "octal", "1000000": "octal"}.items():
+            for typed, wanted in {"17": (word_in(job, 0o17) or "")[:6], "%o" % absent: "NOPAGE", "8": "octal", "1000000": "octal"}.items():
                 self.browser.value(ASK % (typed, slot))
                 self.settle()
                 card = self.browser.value("document.querySelector(\".job[data-slot='%s']\").textContent" % slot)
@@ -253,22 +254,27 @@ class Steps:
         self.clicks()
 
 
+def name_of(word: str) -> str:
+    """The name that a word holds in SIXBIT."""
+    return "".join(chr(32 + int(word[at:at + 2], 8)) for at in range(0, 12, 2)).rstrip()
+
+
 class Recorded:
     """Compares what the page found at each moment with the session's transcript."""
 
     def __init__(self, name: str, session: str, transcript: str, views: List[dict]):
-        told = exchanges(name, lines_of(session), Transcript(name, transcript))
+        told = exchanges(session, transcript)
         self.name, self.views = name, views
-        self.told = {exchange.line.number: exchange for exchange in told}
+        self.told = {exchange.number: exchange for exchange in told}
         self.letters: Dict[int, str] = {}
         self.compared = 0
 
-    def same(self, exchange: Exchange, what: str, page, transcript) -> None:
+    def same(self, exchange: Exchange, what: str, page: object, transcript: object) -> None:
         """The page has to show what the transcript says."""
         self.compared += 1
         if page != transcript:
             raise Wrong("%s, line %d, %s: the page has %s of %s, the transcript %s" % (
-                self.name, exchange.line.number, exchange.line.text, page, what, transcript))
+                self.name, exchange.number, exchange.text, page, what, transcript))
 
     def check(self) -> int:
         """Compares all; how many values were compared."""
@@ -277,17 +283,16 @@ class Recorded:
             if exchange is not None and not exchange.reason:
                 self.moment(exchange, before, now)
         for line, exchange in self.told.items():
-            if exchange.line.kind in ("TICK", "RUN") and not exchange.reason:
-                letters = "".join(letter * count for one in unrolled([exchange]) for count, letter in runs_of(one))
-                self.same(exchange, "letters", self.letters.get(line, ""), letters)
+            if exchange.kind in ("TICK", "RUN") and not exchange.reason:
+                self.same(exchange, "letters", self.letters.get(line, ""), "".join(exchange.letters))
         return self.compared
 
     def moment(self, exchange: Exchange, before: dict, now: dict) -> None:
         """Compares one moment with the line of the session at which it is. What a line finds is there just before, too."""
-        kind, words, line = exchange.line.kind, exchange.words, exchange.line
-        slot = "%o" % exchange.slot if exchange.slot is not None else ""
+        kind, words, line = exchange.kind, exchange.answered, exchange.number
+        slot = "%o" % number(exchange.words[1]) if kind in ("PEEK", "EXAM", "STATE") else ""
         if kind in ("TICK", "RUN"):
-            self.letters[line.number] = self.letters.get(line.number, "") + now["letter"]
+            self.letters[line] = self.letters.get(line, "") + now["letter"]
         elif kind == "PEEK":
             peek = now["jobs"][slot]["peek"]
             shown = [peek["state"], peek["call"], "%o" % peek["left"], peek["a"], peek["b"], peek["held"]]
@@ -304,10 +309,10 @@ class Recorded:
 
     def console(self, exchange: Exchange, before: dict, now: dict) -> None:
         """Compares the bytes of a TYPE or a DRAIN line."""
-        words, console = exchange.words, "%o" % number(exchange.line.words[1])
+        words, console = exchange.answered, "%o" % number(exchange.words[1])
         old, new = [view["queues"].get(console, [[], []]) for view in (before, now)]
-        if exchange.line.kind == "DRAIN":
+        if exchange.kind == "DRAIN":
             self.same(exchange, "bytes drained", old[1][:len(old[1]) - len(new[1])], words[2:])
         else:
-            typed = ["%o" % number(word) for word in exchange.line.words[2:]]
+            typed = ["%o" % number(word) for word in exchange.words[2:]]
             self.same(exchange, "bytes typed", new[0], old[0] + typed[:len(typed) - number(words[2])])

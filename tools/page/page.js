@@ -1,10 +1,27 @@
 // The page as a whole: its tabs, its buttons, and how it begins.
-"use strict";
 
-const packed = itemOf("packed");
+import {assembleText, setSource, showAgain, sourceChanged, takeImage, withImage} from "./assembly.js";
+import {alertOf, byId, copy, on, saveFile, tried} from "./dom.js";
+import {changed, doing, runText, setSession, writing} from "./editor.js";
+import {fields} from "./field.js";
+import {asked, restore, wireDrops, wireField} from "./keeping.js";
+import {addressChanged, hashOf, recall, recallTask, share} from "./link.js";
+import {followLine, listNext} from "./lines.js";
+import {TITLE, drawRows, goToPlace, pictured} from "./picture_view.js";
+import {go, moments, next, pressed} from "./player.js";
+import {IDEA, act, exampleOf, examples, page, program} from "./state.js";
+import {disturbAll, goToCell} from "./strip.js";
+import {openTask, restoreTask, wireTasks} from "./tasks.js";
+import {beginTerminal, showTerminal, stopAndLook, terminal, wireTerminal} from "./terminal.js";
+import {endTour, showStep, wireTour} from "./tour.js";
+import {beginVerify, wireVerify} from "./verify.js";
+import {built} from "./worker.js";
+
 const TABS = ["session", "assembly", "verify", "terminal"];
+const SOURCE = "echo.asm";               // the text of the Assembly tab, until its reader has one
 
-// Shows a tab.
+/** Shows a tab.
+ * @param {string} name */
 function choose(name) {
   for (const one of TABS) {
     const tab = byId("tab-" + one), isChosen = one === name;
@@ -12,118 +29,115 @@ function choose(name) {
     tab.setAttribute("aria-selected", isChosen);
     tab.tabIndex = isChosen ? 0 : -1;
   }
-  if (name === "terminal" && !terminal.begun) beginTerminal();
-  if (name === "verify" && !fields["verify-session"].text) fields["verify-session"].text = fields.text.text;
+  if (name === "terminal") showTerminal();
+  if (name === "verify") beginVerify();
+  act.keep();
 }
 
-// The arrow keys go from tab to tab.
+/** The arrow keys go from tab to tab.
+ * @param {*} event */
 function tabKey(event) {
-  const step = {ArrowRight: 1, ArrowLeft: -1}[event.key];
+  const step = new Map([["ArrowRight", 1], ["ArrowLeft", -1]]).get(event.key);
   if (!step) return;
   const here = TABS.findIndex(name => byId("tab-" + name) === event.target), to = TABS[(here + step + TABS.length) % TABS.length];
   event.preventDefault();
+  endTour();
   choose(to);
   byId("tab-" + to).focus();
 }
 
-// Verifies, and says what the answer means; of a line that is not licensed, what is found there.
-async function verify() {
-  const box = byId("verdict");
-  try {
-    const texts = {session: fields["verify-session"].text, transcript: fields["verify-transcript"].text};
-    const {answer, word, reason, found} = await program.ask("verify", texts, "Verifying");
-    box.classList.toggle("bad", answer !== "YES");
-    if (answer === "YES") box.textContent = "YES " + word + ": this is a transcript of the session, of " + countOf(value(word), "line") + ".";
-    else if (answer === "NO") {
-      box.textContent = "NO " + word + ": " + atLine(value(word)) + " of the transcript, " + (found === undefined ? "which is missing" :
-        "“" + found + "”") + ", is not licensed there.";
-    } else box.textContent = "? " + word + " " + reason + ": " + atLine(value(word)) + " of the session is refused as " + reason + ".";
-  } catch (problem) {
-    alertOf(problem);
-  }
+/** Fills a menu with the names of the examples of a kind.
+ * @param {string} id
+ * @param {RegExp} kind
+ * @param {string} first */
+function fillMenu(id, kind, first) {
+  const own = examples.filter(one => kind.test(one.name));
+  byId(id).replaceChildren(new Option(first, ""), ...own.map(({name}) => new Option(name.replace(/\.(its|asm)$/, ""), name)));
 }
 
-// Shows what a command writes.
-async function showCommand(words, input, what) {
-  const box = byId("command-output");
-  try {
-    const {status, output} = await program.ask("command", {words, input}, what);
-    box.textContent = beginningOf(output) + "status " + status + (STATUS[status] ? ": " + STATUS[status] : "");
-    box.hidden = false;
-  } catch (problem) {
-    alertOf(problem);
-  }
-}
-
-function fillMenu(menu, kind, first) {
-  const option = name => new Option(name.replace(/\.(its|asm)$/, ""), name);
-  menu.replaceChildren(new Option(first, ""), ...examples.filter(one => one.name.endsWith(kind)).map(one => option(one.name)));
-}
-
-function on(id, kind, act) { byId(id).addEventListener(kind, act); }
-
+/** Lets the Session tab act. */
 function wireSession() {
-  fillMenu(byId("examples"), ".its", "(own)");
-  on("examples", "change", ({target}) => { if (target.value) { setSession(target.value, exampleOf(target.value)); remember(); } });
+  fillMenu("examples", /\.its$/, "(own)");
+  on("examples", "change", ({target}) => {
+    const name = target.value;
+    if (name) asked("text", "the example " + name, () => setSession(name, exampleOf(name)), () => { target.value = ""; });
+  });
+  wireField("text", setSession);
   on("text", "input", changed);
   on("text", "keydown", event => { if (event.ctrlKey && event.key === "Enter") { event.preventDefault(); runText(); } });
+  for (const kind of ["click", "keyup"]) on("text", kind, () => followLine(fields.text.lineHere()));
   on("run", "click", runText);
+  on("write", "click", () => writing(byId("bench").hidden));
   on("auto", "change", ({target}) => { if (target.checked) runText(); });
-  on("share", "click", share);
-  on("save", "click", () => save(doing.name, fields.text.text));
-  on("copy", "click", () => navigator.clipboard.writeText(shown ? shown.transcript : "").catch(problem => alertOf(problem)));
+  on("share", "click", () => tried(share));
+  on("copy", "click", () => tried(() => copy(page.shown ? page.shown.transcript : "", "The transcript is copied.")));
+  on("save-picture", "click", () => tried(async () =>
+    saveFile((page.shown ? page.shown.name : "session").replace(/(\.its)?$/, ".svg"), (await program.ask("picture", {}, "Drawing")).svg, "image/svg+xml")));
   on("explained", "change", ({target}) => byId("lines").classList.toggle("brief", !target.checked));
-  on("earlier", "click", () => listPart(listed.part - 1));
-  on("later", "click", () => listPart(listed.part + 1));
+  on("earlier", "click", () => listNext(-1));
+  on("later", "click", () => listNext(1));
   on("slider", "input", event => go(Number(event.target.value)));
   on("sheet", "click", goToPlace);
   on("picture", "scroll", ({target}) => { byId("lanes").classList.toggle("scrolled", target.scrollLeft > 8); drawRows(); });
+  on("strip-run", "click", disturbAll);
+  on("strip", "click", goToCell);
   for (const button of document.querySelectorAll("[data-step]")) {
-    button.addEventListener("click", () => { if (shown && shown.moments) go(next(button.dataset.step)); });
+    button.addEventListener("click", () => go(next(/** @type {HTMLElement} */ (button).dataset.step || "")));
   }
 }
 
-function wireRest() {
-  fillMenu(byId("sources"), ".asm", "(own)");
-  on("sources", "change", ({target}) => { fields.source.text = exampleOf(target.value); assembleText().catch(alertOf); });
-  on("source", "input", () => { byId("sources").value = ""; assembleText().catch(alertOf); });
-  on("take", "click", takeImage);
-  on("verify-take", "click", () => { fields["verify-session"].text = fields.text.text; });
-  on("verify-own", "click", async () => {
-    const {output} = await program.ask("command", {words: ["run"], input: fields["verify-session"].text}, "Running the session");
-    fields["verify-transcript"].text = output;
+/** Lets the Assembly tab act. */
+function wireAssembly() {
+  fillMenu("sources", /\.(asm|mid)$/, "(own)");
+  on("sources", "change", ({target}) => {
+    const name = target.value;
+    if (name) asked("source", "the example " + name, () => setSource(name, exampleOf(name)), () => { target.value = ""; });
   });
-  on("verify", "click", verify);
-  on("check", "click", () => showCommand(["check"], fields["verify-session"].text, "Checking the session"));
-  on("generate", "click", () => showCommand(["gen", byId("rounds").value.trim()], "", "Running the generated session"));
-  fillMenu(byId("terminal-example"), ".its", "the one of the first tab");
-  on("terminal-example", "change", beginTerminal);
-  on("terminal-begin", "click", beginTerminal);
-  on("terminal-console", "change", ({target}) => { terminal.console = target.value; });
-  on("terminal-stop", "click", stopAndLook);
-  on("terminal-cont", "click", () => typeLines(["CONT " + terminal.slot]));
-  on("terminal-clock", "click", () => typeLines(["CLOCK " + SECOND]));
-  on("terminal-session", "click", () => { choose("session"); setSession("terminal.its", terminal.text + "END\n"); });
-  on("screen", "keydown", screenKey);
-  on("screen-keys", "input", fieldKey);
-  on("screen-keys", "keydown", event => { if (event.key === "Enter" || event.key === "Backspace") screenKey(event); });
+  wireField("source", setSource);
+  on("source", "input", sourceChanged);
+  on("made-as", "change", showAgain);
+  on("take", "click", takeImage);
+  wireTasks();
 }
 
-// What the page was built from.
+/** What the page was built from. */
 function showBuilt() {
   byId("unproved").hidden = !built.proof.startsWith("none");
   byId("built").textContent = "Built from commit " + built.commit + (built.isChanged ? " with changes" : "") + "; proof " + built.proof +
     "; module of " + built.bits + " bits, SHA-256 " + built.sum + ".";
 }
 
-for (const name of TABS) {
-  on("tab-" + name, "click", () => choose(name));
-  on("tab-" + name, "keydown", tabKey);
+/** Lets the whole page act, and shows what its address says. */
+async function begin() {
+  act.choose = choose;
+  for (const name of TABS) {
+    on("tab-" + name, "click", () => { endTour(); choose(name); });
+    on("tab-" + name, "keydown", tabKey);
+  }
+  wireSession();
+  wireAssembly();
+  wireField("verify-session");
+  wireField("verify-transcript");
+  wireVerify(examples.map(one => one.name).filter(name => name.endsWith(".its")));
+  fillMenu("terminal-example", /\.its$/, "the one of the first tab");
+  wireTerminal();
+  wireTour();
+  wireDrops();
+  showBuilt();
+  on("stop", "click", () => program.stop());
+  document.addEventListener("keydown", pressed);
+  window.addEventListener("hashchange", addressChanged);
+  restore();
+  restoreTask();
+  if (!fields.source.text) setSource(SOURCE, exampleOf(SOURCE));
+  const isTask = recallTask();
+  await recall();
+  if (isTask) return;
+  if (!location.hash || byId("examples").value === IDEA.name && page.moment === IDEA.moment) showStep(0);
 }
-wireSession();
-wireRest();
-showBuilt();
-on("stop", "click", () => program.stop());
-document.addEventListener("keydown", pressed);
-window.addEventListener("hashchange", () => { if (location.hash !== remembered) recall(); });
-recall();
+
+begin().catch(alertOf);
+
+// What a check of the page uses
+export const parts = {act, asked, assembleText, beginTerminal, byId, changed, choose, doing, exampleOf, fields, go, hashOf, moments, openTask, page,
+                      pictured, program, runText, setSession, setSource, stopAndLook, terminal, withImage, writing, BAR: 18, TITLE};

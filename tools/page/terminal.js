@@ -1,26 +1,39 @@
-// A terminal: the jobs run till all wait, and each key at a console becomes lines of the session, which is run anew from its beginning.
-"use strict";
+// The page: the Terminal tab: the jobs run till all wait, and each key at a console becomes lines of the session, which is run anew from its
+// beginning.
+
+import {joined, kindOf, split, wordsIn} from "../lib/session.js";
+import {isPrinting, octal, value} from "../lib/words.js";
+import {byId, on, tried} from "./dom.js";
+import {setSession} from "./editor.js";
+import {fields} from "./field.js";
+import {keepLater, keepMore, kept} from "./keeping.js";
+import {act, exampleOf, program} from "./state.js";
+
+/** @typedef {import("../lib/told.js").Told} Told */
 
 const SECOND = "36";                     // thirtieths, in octal
 const MOST_SCREEN = 20000;               // characters that the screen keeps
+const FIRST = "edit.its", PROMPT = "hello";      // what is run first, and what is typed there, so that one sees something
+const HINT = " Press Return: the job writes the line backwards. Control-Z stops it in its call.";
+const LOADING = ["LOAD", "a/", "RO", "SYM", "GO", "FILE", "/", "EOF", ""];      // lines that load jobs and files
+/** @type {Record<string, string>} */
 const WHY = {waits: "All jobs wait.", idle: "No job runs.", long: "The jobs still run after many turns; a key goes on.",
              refused: "A line is refused: "};
-const terminal = {text: "", console: "0", slot: null, queue: [], isBusy: false, isStale: false, begun: false};
 
-const LOADING = ["LOAD", "a/", "RO", "SYM", "GO", "FILE", "/", "EOF", ""];      // lines that load jobs and files
+export const terminal = {text: "", console: "0", slot: "0", queue: /** @type {string[]} */ ([]), hint: "", isBusy: false, isStale: false, begun: false};
 
-// The first lines of a session: those that load jobs and files, up to the first that does more; as version 2, which has RUN.
+/** The first lines of a session: those that load jobs and files, up to the first that does more; as version 2, which has RUN.
+ * @param {string} text */
 function loadsOf(text) {
-  const lines = split(text), kindAt = at => kindOf(lines[at].split(" ").filter(Boolean)), first = lines.length && kindAt(0) === "VERSION" ? 1 : 0;
-  let end = first;
-  while (end < lines.length && LOADING.includes(kindAt(end))) end += 1;
-  return ["VERSION 2", ...lines.slice(first, end)].map(line => line + "\n").join("");
+  const lines = split(text), kinds = lines.map(line => kindOf(wordsIn(line))), first = kinds[0] === "VERSION" ? 1 : 0;
+  const end = kinds.findIndex((kind, at) => at >= first && !LOADING.includes(kind));
+  return joined(["VERSION 2", ...lines.slice(first, end < 0 ? lines.length : end)]);
 }
 
-// Begins anew with the jobs of a session.
-function beginTerminal() {
-  const name = byId("terminal-example").value, text = name ? exampleOf(name) : fields.text.text;
-  terminal.text = loadsOf(text);
+/** Begins anew with the jobs of a session. */
+export function beginTerminal() {
+  const name = byId("terminal-example").value;
+  terminal.text = loadsOf(name ? exampleOf(name) : fields.text.text);
   const loads = [...terminal.text.matchAll(/^ *LOAD +\S+ +\S+ +(\S+)/gm)].map(([, console]) => console);
   const consoles = [...new Set(loads.filter(console => console !== "-").map(console => octal(value(console))))];
   byId("terminal-console").replaceChildren(...(consoles.length ? consoles : ["0"]).map(console => new Option(console, console)));
@@ -29,39 +42,64 @@ function beginTerminal() {
   terminal.begun = true;
   terminal.isStale = terminal.isBusy;
   terminal.queue = [];
+  terminal.hint = name === FIRST ? HINT : "";
   byId("screen-text").textContent = "";
   byId("terminal-look").hidden = true;
-  typeLines([]);
+  typeLines(name === FIRST ? ["TYPE " + terminal.console + [...PROMPT].map(one => " " + octal(one.charCodeAt(0))).join("")] : []);
 }
 
-// Adds lines at the end of the session and goes on, one call after the other. If another session was begun meanwhile, an answer belongs to
-// the one before, and is not shown.
-async function typeLines(lines) {
+/** Goes on as the terminal was left, when the page was open before. Whether it was.
+ * @param {*} was */
+function goOnAgain(was) {
+  if (!was || !was.text) return false;
+  Object.assign(terminal, {text: was.text, console: was.console, slot: was.slot, begun: true});
+  byId("terminal-example").value = was.example;
+  byId("terminal-console").replaceChildren(new Option(was.console, was.console));
+  byId("screen-text").textContent = was.screen;
+  typeLines([]);
+  return true;
+}
+
+/** The tab is shown: it goes on as it was left, else the editor of lines runs there. */
+export function showTerminal() {
+  if (terminal.begun || goOnAgain(kept().terminal)) return;
+  byId("terminal-example").value = FIRST;
+  beginTerminal();
+}
+
+/** Adds lines at the end of the session and goes on, one call after the other. If another session was begun meanwhile, an answer belongs to the
+ * one before, and is not shown.
+ * @param {string[]} lines */
+function typeLines(lines) {
   terminal.queue.push(...lines);
+  if (lines.length) byId("terminal-look").hidden = true;
   if (terminal.isBusy) return;
   terminal.isBusy = true;
-  try {
-    do {
-      const added = terminal.queue.splice(0);
-      terminal.isStale = false;
-      const answer = await program.ask("terminal", {text: terminal.text, lines: added, console: terminal.console}, "Running the jobs");
-      if (!terminal.isStale) showGone(answer);
-    } while (terminal.isStale || terminal.queue.length);
-  } catch (problem) {
-    alertOf(problem);
-  } finally {
-    terminal.isBusy = false;
-  }
+  tried(async () => {
+    try {
+      do {
+        const added = terminal.queue.splice(0);
+        terminal.isStale = false;
+        const answer = await program.ask("terminal", {text: terminal.text, lines: added, console: terminal.console}, "Running the jobs");
+        if (!terminal.isStale) showGone(answer);
+      } while (terminal.isStale || terminal.queue.length);
+    } finally {
+      terminal.isBusy = false;
+    }
+  });
 }
 
-// Shows how far the session went on.
+/** Shows how far the session went on.
+ * @param {{bytes: number[], why: string, reason?: string, whole: string}} answer */
 function showGone({bytes, why, reason, whole}) {
   if (why !== "refused") terminal.text = whole;
   print(bytes);
-  byId("terminal-said").textContent = WHY[why] + (why === "refused" ? reason + "." : "");
+  keepLater();
+  byId("terminal-said").textContent = WHY[why] + (why === "refused" ? reason + "." : why === "waits" ? terminal.hint : "");
 }
 
-// Shows bytes that the console put out. A carriage return goes to the next line, unless a line feed follows, which does.
+/** Shows bytes that the console put out. A carriage return goes to the next line, unless a line feed follows, which does.
+ * @param {number[]} bytes */
 function print(bytes) {
   const text = bytes.map(byte => byte === 0o12 ? "\n" : byte === 0o15 ? "" : byte === 0o177 ? "" :
     isPrinting(byte) || byte === 9 ? String.fromCharCode(byte) : "^" + String.fromCharCode(byte + 64)).join("");
@@ -70,54 +108,55 @@ function print(bytes) {
   byId("screen").scrollTop = byId("screen").scrollHeight;
 }
 
-// The byte that a key types, or null.
+/** The byte that a key types, or null.
+ * @param {KeyboardEvent} event */
 function byteOf(event) {
   if (event.ctrlKey && /^[a-z@[\]\\^_]$/i.test(event.key)) return event.key.toUpperCase().charCodeAt(0) % 32;
   if (event.ctrlKey || event.altKey || event.metaKey) return null;
   if (event.key.length === 1 && event.key.charCodeAt(0) < 127) return event.key.charCodeAt(0);
-  return {Enter: 0o15, Backspace: 0o177, Escape: 0o33}[event.key] === undefined ? null :
-    {Enter: 0o15, Backspace: 0o177, Escape: 0o33}[event.key];
+  const found = new Map([["Enter", 0o15], ["Backspace", 0o177], ["Escape", 0o33]]).get(event.key);
+  return found === undefined ? null : found;
 }
 
+/** Types a byte at the console.
+ * @param {number} byte */
 function typeByte(byte) { typeLines(["TYPE " + terminal.console + " " + octal(byte)]); }
 
-// A key at the screen. Tab leaves it.
+/** A key at the screen. Tab leaves it.
+ * @param {KeyboardEvent} event */
 function screenKey(event) {
-  if (event.ctrlKey && event.key.toLowerCase() === "z") {
-    event.preventDefault();
-    stopAndLook();
-    return;
-  }
-  const byte = byteOf(event);
-  if (byte === null || !terminal.begun) return;
+  const isStop = event.ctrlKey && event.key.toLowerCase() === "z", byte = byteOf(event);
+  if (!isStop && (byte === null || !terminal.begun)) return;
   event.preventDefault();
-  typeByte(byte);
+  if (isStop) tried(stopAndLook);
+  else typeByte(byte || 0);
 }
 
-// Keys of a field, for a reader who has no keyboard at the screen.
+/** Keys of a field, for a reader who has no keyboard at the screen.
+ * @param {*} event */
 function fieldKey(event) {
   for (const one of event.target.value) if (one.charCodeAt(0) < 127) typeByte(one.charCodeAt(0));
   event.target.value = "";
 }
 
-// Stops the job of the console, and shows what STATE and PEEK say of this job. Keys that are typed meanwhile follow.
-async function stopAndLook() {
+/** Stops the job of the console, and shows what STATE and PEEK say of this job. Keys that are typed meanwhile follow. */
+export async function stopAndLook() {
   if (!terminal.begun || terminal.isBusy) return;
-  const lines = ["PEEK " + terminal.slot, "STOP " + terminal.slot, "STATE " + terminal.slot];
-  const text = terminal.text + lines.map(line => line + "\n").join("");
+  const lines = ["PEEK " + terminal.slot, "STOP " + terminal.slot, "STATE " + terminal.slot], text = terminal.text + joined(lines);
   terminal.isBusy = true;
   try {
     const {told} = await program.ask("look", {name: "the session at the terminal", text}, "Looking");
     if (!terminal.isStale) showLook(text, told, lines.length);
-  } catch (problem) {
-    alertOf(problem);
   } finally {
     terminal.isBusy = false;
   }
   if (terminal.isStale || terminal.queue.length) typeLines([]);
 }
 
-// Shows what the last lines of a session say of the job, and goes on with that session if they are taken.
+/** Shows what the last lines of a session say of the job, and goes on with that session if they are taken.
+ * @param {string} text
+ * @param {Told[]} told
+ * @param {number} count */
 function showLook(text, told, count) {
   const last = told[told.length - 1];
   byId("terminal-look").hidden = false;
@@ -128,4 +167,23 @@ function showLook(text, told, count) {
     terminal.text = text;
     byId("terminal-said").textContent = "The job in slot " + terminal.slot + " is stopped, in user mode. Continue lets it run on.";
   }
+}
+
+/** Lets the tab act. */
+export function wireTerminal() {
+  keepMore("terminal", () => terminal.begun ? {text: terminal.text, console: terminal.console, slot: terminal.slot,
+                                               example: byId("terminal-example").value, screen: byId("screen-text").textContent} : kept().terminal);
+  on("terminal-example", "change", beginTerminal);
+  on("terminal-begin", "click", beginTerminal);
+  on("terminal-console", "change", ({target}) => { terminal.console = target.value; });
+  on("terminal-stop", "click", () => tried(stopAndLook));
+  on("terminal-cont", "click", () => typeLines(["CONT " + terminal.slot]));
+  on("terminal-clock", "click", () => typeLines(["CLOCK " + SECOND]));
+  on("terminal-session", "click", () => {
+    act.choose("session");
+    setSession("terminal.its", terminal.text + "END\n");
+  });
+  on("screen", "keydown", screenKey);
+  on("screen-keys", "input", fieldKey);
+  on("screen-keys", "keydown", event => { if (event.key === "Enter" || event.key === "Backspace") screenKey(event); });
 }

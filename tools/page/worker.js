@@ -1,40 +1,54 @@
-// The worker that has the proved program, as the page asks it. One question is answered after the other; what takes long is shown with its
-// time, and can be stopped.
-"use strict";
+// The page: the worker that has the proved program, as the page asks it. One question is answered after the other; what takes long is shown
+// with its time, and can be stopped.
+
+import {Wrong} from "../lib/words.js";
+import {Stopped, byId, itemOf} from "./dom.js";
 
 const PATIENCE = 250;                    // milliseconds, before a question is shown to take its time
+const BEGIN = '\n$("page/answers.js").serve(self);';      // what a worker does with the scripts of the page
 
-// The reader stopped what ran.
-class Stopped extends Error {}
+/** The module, and from what it was built. */
+export const built = itemOf("module");
 
-function byId(id) { return document.getElementById(id); }
-function itemOf(id) { return JSON.parse(byId(id).textContent); }
+/** A question that waits for its answer.
+ * @typedef {{resolve: (answer: *) => void, reject: (problem: Error) => void, words: string, since: number, more: string}} Waiting */
 
-const built = itemOf("module");
-
-// The bytes of the module, which the page has packed.
+/** The bytes of the module, which the page has packed. */
 async function moduleBytes() {
   const packed = Uint8Array.from(atob(built.bytes), one => one.charCodeAt(0));
-  const stream = new Blob([packed]).stream().pipeThrough(new DecompressionStream("gzip"));
+  const stream = new Blob([packed]).stream().pipeThrough(new (/** @type {*} */ (globalThis).DecompressionStream)("gzip"));
   return new Uint8Array(await new Response(stream).arrayBuffer());
 }
 
-class Program {
+/** The program in its worker. */
+export class Program {
   constructor() {
-    Object.assign(this, {waiting: new Map(), asked: 0, bytes: moduleBytes()});
-    this.begin();
+    /** @type {Map<number, Waiting>} */
+    this.waiting = new Map();
+    this.asked = 0;
+    this.bytes = moduleBytes();
+    this.worker = this.begin();
+    this.ready = this.opened();
     setInterval(() => this.showBusy(), 100);
   }
 
-  // A new worker, with a new instance of the module.
+  /** A new worker. */
   begin() {
-    const url = URL.createObjectURL(new Blob([byId("core").textContent, "\nserve(self);"], {type: "text/javascript"}));
-    this.worker = new Worker(url);
-    this.worker.onmessage = ({data}) => this.answered(data);
-    this.worker.onerror = event => this.fail(new Error("the worker failed: " + event.message));
-    this.ready = this.bytes.then(bytes => this.post("open", {bytes}, "The program is prepared"));
+    const url = URL.createObjectURL(new Blob([byId("core").textContent, BEGIN], {type: "text/javascript"}));
+    const worker = new Worker(url);
+    worker.onmessage = ({data}) => this.answered(data);
+    worker.onerror = event => this.fail(new Error("the worker failed: " + event.message));
+    return worker;
   }
 
+  /** Gives the worker a new instance of the module. */
+  async opened() { return this.post("open", {bytes: await this.bytes}, "The program is prepared"); }
+
+  /** Asks the worker.
+   * @param {string} ask
+   * @param {object} data
+   * @param {string} words
+   * @returns {Promise<*>} */
   post(ask, data, words) {
     this.asked += 1;
     const id = this.asked;
@@ -44,12 +58,17 @@ class Program {
     });
   }
 
-  // Asks the worker for something; `words` say what takes its time.
+  /** Asks the worker for something; `words` say what takes its time.
+   * @param {string} what
+   * @param {object} data
+   * @param {string} words */
   async ask(what, data, words) {
     await this.ready;
     return this.post(what, data, words);
   }
 
+  /** Takes an answer, or how far a question is.
+   * @param {*} said */
   answered({id, answer, wrong, isTrap, progress}) {
     const one = this.waiting.get(id);
     if (!one) return;
@@ -62,31 +81,27 @@ class Program {
     else one.reject(isTrap ? new Error(wrong) : new Wrong(wrong));
   }
 
+  /** Nothing is answered any more.
+   * @param {Error} problem */
   fail(problem) {
     const waiting = [...this.waiting.values()];
     this.waiting.clear();
     waiting.forEach(one => one.reject(problem));
   }
 
-  // Ends what runs, and begins anew.
+  /** Ends what runs, and begins anew. */
   stop() {
     this.worker.terminate();
     this.fail(new Stopped("Stopped."));
-    this.begin();
+    this.worker = this.begin();
+    this.ready = this.opened();
   }
 
-  // What runs, for how long, and how far it is.
+  /** What runs, for how long, and how far it is. */
   showBusy() {
-    const [first] = this.waiting.values(), seconds = first ? performance.now() - first.since : 0;
-    byId("busy").hidden = seconds < PATIENCE;
+    const [first] = this.waiting.values(), since = first ? performance.now() - first.since : 0;
+    byId("busy").hidden = since < PATIENCE;
     if (byId("busy").hidden) return;
-    byId("busy-words").textContent = first.words + ": " + (seconds / 1000).toFixed(1) + " s" + (first.more && ", " + first.more);
+    byId("busy-words").textContent = first.words + ": " + (since / 1000).toFixed(1) + " s" + (first.more && ", " + first.more);
   }
-}
-
-// Says what went wrong, or takes it away.
-function alertOf(problem) {
-  byId("alert").hidden = !problem;
-  byId("alert").textContent = problem ? problem.message : "";
-  if (problem && !(problem instanceof Wrong) && !(problem instanceof Stopped)) console.error(problem);
 }

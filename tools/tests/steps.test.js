@@ -1,13 +1,17 @@
-// The moments of a session, and the steps between them: tools/page/moments.js and tools/page/steps.js.
-"use strict";
+// The moments of a session, and the steps between them: outline.js, moments.js, looks.js and steps.js of tools/
 
-const assert = require("node:assert");
-const {test} = require("node:test");
-const {page, engine, told, textOf} = require("./page.js");
+import assert from "node:assert";
+import {test} from "node:test";
+
+import {momentCount} from "../lib/counting.js";
+import {linesOf} from "../lib/session.js";
+import {Looks} from "../page/looks.js";
+import {lettersAround, momentsIn, stepFrom} from "../page/steps.js";
+import {engine, textOf, told} from "./page.js";
 
 const LOADED = "LOAD U J -\n100/ 254000000100\nGO 100\n";
 
-function momentsOf(session) { return new page.Moments(text => engine.run(text), "the session", told(session)); }
+function momentsOf(session) { return new Looks(text => engine.run(text), "the session", told(session)); }
 
 // A session, and of each moment [line, slot, letter].
 const OUTLINES = [
@@ -31,7 +35,7 @@ for (const [session, outline] of OUTLINES) {
 const COUNTS = [["", 1], ["; a comment\n", 1], [LOADED, 2], ["TICK 0 1000\n", 513], ["VERSION 2\nRUN 2 10\n", 18]];
 
 for (const [session, count] of COUNTS) {
-  test("So many moments at most: " + JSON.stringify(session), () => assert.strictEqual(page.momentCount(page.linesOf(session)), count));
+  test("So many moments at most: " + JSON.stringify(session), () => assert.strictEqual(momentCount(linesOf(session)), count));
 }
 
 test("What holds at a moment inside a call", () => {
@@ -53,7 +57,7 @@ const STEPS = [
 ];
 
 for (const [step, here, to] of STEPS) {
-  test("The step " + step + " from " + here, () => assert.strictEqual(page.stepFrom(MOMENTS, here, step), to));
+  test("The step " + step + " from " + here, () => assert.strictEqual(stepFrom(MOMENTS, here, step), to));
 }
 
 // An index, how many letters are shown on each side, and what is shown.
@@ -64,14 +68,14 @@ const LETTERS = [
 
 for (const [index, most, shown] of LETTERS) {
   test("Letters around " + index + ", " + most + " on each side", () => {
-    assert.deepStrictEqual(page.lettersAround(MOMENTS, index, most), shown);
+    assert.deepStrictEqual(lettersAround(MOMENTS, index, most), shown);
   });
 }
 
 test("Each moment has its place in the picture", () => {
   const spots = [{row: 0, x: 150, width: 16, top: 80, line: 3, kind: "made"}, {row: 0, x: 166, width: 32, top: 80, line: 4, start: 0, count: 2, kind: ""}];
-  const moments = page.momentsIn([[0, "", ""], [3, "0", ""], [4, "0", "*"], [4, "0", "."]], spots);
+  const moments = momentsIn([[0, "", ""], [3, "0", ""], [4, "0", "*"], [4, "0", "."]], spots);
   assert.deepStrictEqual(moments.map(({tick, place}) => [tick, place]), [[0, undefined], [0, [0, 150, 16, 80]], [1, [0, 166, 16, 80]],
                                                                         [2, [0, 182, 16, 80]]]);
-  assert.deepStrictEqual(page.momentsIn([[0, "", ""]], []), [{line: 0, slot: "", letter: "", tick: 0}]);
+  assert.deepStrictEqual(momentsIn([[0, "", ""]], []), [{line: 0, slot: "", letter: "", tick: 0}]);
 });

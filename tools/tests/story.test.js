@@ -1,11 +1,16 @@
-// The story of a session: tools/page/story.js.
-"use strict";
+// The story of a session: tools/lib/story.js.
 
-const assert = require("node:assert");
-const {test} = require("node:test");
-const {page, told} = require("./page.js");
+import assert from "node:assert";
+import {test} from "node:test";
+
+import {laneNames} from "../lib/picture.js";
+import {examLabels, isMark, peekLabels, tellStory} from "../lib/story.js";
+import {LOOP, told} from "./shared.js";
 
 const LOADED = "LOAD U J 0\n100/ 254000000100\nGO 100\n", MADE = [0, "made", "LOAD, GO 100", 1];
+
+// The story of a session, with the answers of the program or with these.
+function storyOfSession(session, transcript, part) { return tellStory("the session", told(session, transcript), part); }
 
 // A run as [slot, letter, count, ticks before it, line], a mark as [slot or null, kind, its longest label, line].
 function brief(piece) {
@@ -31,17 +36,64 @@ const STORIES = [
 
 for (const [session, pieces] of STORIES) {
   test("The story of " + JSON.stringify(session), () => {
-    assert.deepStrictEqual(page.tellStory("the session", told(session)).pieces.map(brief), pieces);
+    assert.deepStrictEqual(storyOfSession(session).pieces.map(brief), pieces);
   });
 }
 
 test("A part of the lines", () => {
-  const story = page.tellStory("the session", told(LOADED + "TICK 0 3\nCLOCK 1\nTICK 0 2\n"), 5, 6);
+  const story = storyOfSession(LOADED + "TICK 0 3\nCLOCK 1\nTICK 0 2\n", undefined, {first: 5, last: 6});
   assert.deepStrictEqual(story.pieces.map(brief), [[null, "other", "CLOCK 1", 5], [0, "*", 2, 3, 6]]);
 });
 
 test("The names of lanes", () => {
-  const {lanes} = page.tellStory("the session", told(LOADED + "TICK 1 2\n"));
-  assert.deepStrictEqual([null, ...lanes].map(page.laneNames),
+  const {lanes} = storyOfSession(LOADED + "TICK 1 2\n");
+  assert.deepStrictEqual([null, ...lanes].map(laneNames),
                          [["operator", "consoles, clock, files"], ["slot 0: U J", "console 0"], ["slot 1", "no job seen"]]);
+});
+
+// The kinds and the labels of the marks.
+function marksOf(session, transcript) {
+  return storyOfSession(session, transcript).pieces.filter(isMark).map(({kind, labels}) => [kind, labels[0]]);
+}
+
+test("Runs of several lines, and lanes", () => {
+  const story = storyOfSession(LOOP + "TICK 0 3\nTICK 0 2\nTICK 1 4\n", "J 0\nT 0 1* 2.\nT 0 2.\nT 1 4-\n");
+  assert.deepStrictEqual(story.pieces.filter(piece => !isMark(piece)).map(brief), [[0, "*", 1, 0, 4], [0, ".", 4, 1, 4], [1, "-", 4, 5, 6]]);
+  assert.deepStrictEqual(story.lanes, [{slot: 0, seen: true, names: "U J", note: "console 0"}, {slot: 1, seen: false, names: "", note: ""}]);
+});
+
+test("A range of lines, and too many pieces", () => {
+  const story = storyOfSession(LOOP + "TICK 0 3\nTICK 0 2\nPEEK 0\n", "J 0\nT 0 3*\nT 0 2*\nP 0 USER - 0 - - -\n", {first: 5, last: 5});
+  assert.deepStrictEqual(story.pieces.map(({count, start}) => [count, start]), [[2, 3]]);
+  assert.throws(() => storyOfSession(LOOP + "TICK 0 1\nPEEK 0\n", "J 0\nT 0 1*\nP 0 USER - 0 - - -\n", {last: 9, most: 1}),
+                /a picture has at most 1 bars and marks/);
+});
+
+test("Marks of lines", () => {
+  assert.deepStrictEqual(marksOf(LOOP + "TYPE 0 101\nDRAIN 0 1\nCLOCK 5\nDIR D\n", "J 0\nY 0 1\nD 0 102\nR 440000000000 0\n"), [
+    ["made", "LOAD, GO 100"], ["other", '1 lost of TYPE 0 "A"'], ["other", 'DRAIN 0 "B"'], ["other", "CLOCK 5"], ["other", "DIR D: 0"]]);
+});
+
+test("Jobs come and go", () => {
+  const state = names => "S 3 " + names + " 0 - STOP 010000000105 " + Array(6).fill("000000000000").join(" ") + "\n";
+  const first = "650000000000 520000000000", second = "635100000000 516200000000", session = "STATE 3\n".repeat(4);
+  const seen = [["seen", "seen first"], ["disturb", "STATE STOP at 105"]];
+  assert.deepStrictEqual(marksOf(session, state(first).repeat(2) + state(second) + "? 4 NOJOB\n"), [
+    ...seen, seen[1], ["gone", "gone by now"], ...seen, ["gone", "gone by now"], ["refused", "refused: NOJOB"]]);
+  assert.deepStrictEqual(marksOf(LOOP.repeat(2), "J 0\nJ 0\n"), [["made", "LOAD, GO 100"], ["gone", "gone by now"], ["made", "LOAD, GO 100"]]);
+  assert.strictEqual(storyOfSession("STATE 3\n", state(first)).lanes[0].note, "inferior of slot 0");
+});
+
+test("Labels", () => {
+  assert.deepStrictEqual(examLabels("E 0 000100 000000000005 000000000000".split(" ")),
+                         ["EXAM 100-101 = 5 0", "EXAM 100-101 = 5 …", "EXAM 100-101", "EXAM"]);
+  assert.deepStrictEqual(peekLabels("P 0 USER - 0 - - -".split(" ")), ["PEEK USER", "USER"]);
+  assert.deepStrictEqual(peekLabels("P 0 MOVING 635157640000 2 440700001000 000000000001 000000000101".split(" ")),
+                         ["PEEK SIOT MOVING 2 'A'", "PEEK MOVING 2", "PEEK"]);
+});
+
+test("Refusals", () => {
+  assert.deepStrictEqual(marksOf("TICK 0 1001\n", "? 1 RANGE\n"), [["refused", "refused: RANGE"]]);
+  assert.strictEqual(storyOfSession("FILE D A B\n", "? 2 CUT\n").pieces.pop().tip, "the input ends -> CUT");
+  assert.throws(() => storyOfSession(LOOP + "TICK 0 1\n", "J 0\nT 0 2*\n"), /the session, line 4 \(octal 4\): 'T 0 2\*' does not answer 'TICK 0 1'/);
 });

@@ -5,10 +5,11 @@ import stat
 import tempfile
 import unittest
 from types import SimpleNamespace
+from typing import Any, Dict
 from unittest import mock
 
 from shared import called, loaded, text_of
-from itslib.session import Wrong, lines_of
+from itslib.session import Wrong, split
 
 BENCH, MEASURE, REFUSED = loaded("bench"), loaded("measure"), loaded("refused-memory")
 
@@ -59,7 +60,7 @@ class Limits(unittest.TestCase):
         for row in self.rows():
             few, more = (row.session(n) for n in (row.rounds, row.rounds + 1))
             self.assertNotEqual(more, few, row.name)
-            self.assertNotIn("", {line.kind for line in lines_of(row.session(1))[:-1]})
+            self.assertTrue(all(line.split(";")[0].strip() for line in split(row.session(1))))
 
     def test_line(self):
         self.assertEqual(BENCH.line_of("a", 401.4, {"a": 400}, True), "PAST    401  a (at most 400)\n")
@@ -76,16 +77,16 @@ class Judged(unittest.TestCase):
 
     def test_table(self):
         table = "\n" + BENCH.AGAINST + "\n|---|---|---|\n| `TICK` of a | 1.05 | 1.2 |\n| b | 4.00 | |\n\n| another | table | 7 |\n"
-        self.assertEqual(BENCH.most_against(table), {"TICK of a": 1.2})
+        self.assertEqual(BENCH.most_of(table, BENCH.AGAINST), {"TICK of a": 1.2})
         with self.assertRaisesRegex(Wrong, "docs/COST.md has no table"):
-            BENCH.most_against(table.replace("At most", "Limit"))
+            BENCH.most_of(table.replace("At most", "Limit"), BENCH.AGAINST)
 
     def test_the_page(self):
         page = text_of("docs/COST.md")
         names = [row.name for row in self.rows()]
         for name in names:
             self.assertIn("| %s |" % name, page.replace("`", ""))
-        limits = BENCH.most_against(page)
+        limits = BENCH.most_of(page, BENCH.AGAINST)
         self.assertEqual(set(limits), set(names))
         for name, limit in limits.items():
             wanted = {"SIOT from a file": 1.4, "RUN of 64 jobs of which 60 wait": 2.8}.get(name, 1.2 if name.startswith(("TICK in", "SIOT", "OPEN")) else 1.6)
@@ -93,7 +94,7 @@ class Judged(unittest.TestCase):
 
     def test_sessions(self):
         for row in self.rows():
-            self.assertNotIn("", {line.kind for line in lines_of(row.session(1))[:-1]})
+            self.assertTrue(all(line.split(";")[0].strip() for line in split(row.session(1))))
 
     def test_against(self):
         row = BENCH.Row("a", lambda n: "x" * n, 10, 4)
@@ -108,10 +109,45 @@ class Judged(unittest.TestCase):
     def test_past(self):
         for number, past in ((1.2, False), (1.21, True)):
             with mock.patch.multiple(BENCH, judged_rows=lambda program: [BENCH.Row("a", str, 1, 1), BENCH.Row("b", str, 1, 1)],
-                                     against=lambda program, row: number if row.name == "a" else 9.0, most_against=lambda page: {"a": 1.2},
+                                     against=lambda program, row: number if row.name == "a" else 9.0, most_of=lambda page, head: {"a": 1.2},
                                      write=mock.DEFAULT) as put:
                 self.assertEqual(BENCH.judged("its", ""), past)
             self.assertIn("  b\n", put["write"].call_args[0][0])
+
+
+class Forms(unittest.TestCase):
+    """The module in node and the native program, by the proved build."""
+
+    def test_the_page(self):
+        limits = BENCH.most_of(text_of("docs/COST.md"), BENCH.FORMS)
+        self.assertEqual(limits, {"ten million ticks, module in node by proved build": 4, "ten million ticks, native program by proved build": 1.5,
+                                  "first answer of sessions/first.its, module in node, seconds": 0.4})
+
+    def test_ten_million(self):
+        seconds = {"a": 1.0, "b": 3.0}
+        with mock.patch.multiple(BENCH, assembled=lambda program, text: "", elapsed=lambda program, session: 9 + seconds[program] * session.count("TICK")):
+            self.assertEqual(BENCH.ten_million(["a", "b"], 10), [10.0, 30.0])
+
+    def test_first_answer(self):
+        with tempfile.TemporaryDirectory() as folder:
+            self.assertLess(BENCH.first_answer(script(folder, "echo J 0; exec sleep 3")), 3)
+
+    def past(self, took, first, there=("module", "native")):
+        """Whether a number is past its limit, and what is written."""
+        with mock.patch.multiple(BENCH, found_form=lambda form: form * (form in there), ten_million=lambda programs: [2.0] + [took] * (len(programs) - 1),
+                                 first_answer=lambda program: first, write=mock.DEFAULT) as put:
+            past = BENCH.other_forms("its", text_of("docs/COST.md"))
+            return past, "".join(call[0][0] for call in put["write"].call_args_list)
+
+    def test_limits(self):
+        self.assertFalse(self.past(3.0, 0.4)[0])
+        for took, first, name in ((3.02, 0.4, "native program by"), (3.0, 0.41, "first answer")):
+            past, written = self.past(took, first)
+            self.assertTrue(past)
+            self.assertEqual([name in line for line in written.splitlines() if line.startswith("PAST")], [True])
+        past, written = self.past(7.9, 0.1, ["module"])
+        self.assertFalse(past)
+        self.assertIn("skipped: the native program", written)
 
 
 class Counting(unittest.TestCase):
@@ -139,7 +175,7 @@ class Counting(unittest.TestCase):
         row = BENCH.Row("a tick", str, 1, 1)
         for counter, number, status in (("valgrind", 400.0, 0), ("valgrind", 401.0, 1), (None, 401.0, 0)):
             with mock.patch.multiple(BENCH, rows=lambda program: [row], counted=lambda program, row: number, spent=lambda *words: 0.0,
-                                     limits_of=lambda page: {"a tick": 400}, judged=lambda program, page: False), mock.patch("shutil.which", lambda name: counter):
+                                     limits_of=lambda page: {"a tick": 400}, judged=lambda program, page: False, other_forms=lambda program, page: False), mock.patch("shutil.which", lambda name: counter):
                 ended = called(BENCH, "/bin/sh")
             self.assertEqual((ended.status, "PAST" in ended.written), (status, status == 1))
             self.assertIn("%6.0f  a tick (at most 400)\n" % number, ended.written)
@@ -188,8 +224,25 @@ class Refused(unittest.TestCase):
         with mock.patch.object(REFUSED, "run", run):
             self.assertEqual(REFUSED.tried_words("its"), (3, 2, 8, 0))
 
+    def test_limit(self):
+        with tempfile.TemporaryDirectory() as folder:
+            program = script(folder, "cat; echo $(ulimit -v) $*; exit 3")
+            for limit, said in ((64 << 20, b"65536"), (None, b"unlimited")):
+                ended = REFUSED.run(program, [b"gen", b"1"], b"J\n", limit)
+                self.assertEqual((ended.returncode, ended.stdout), (3, b"J\n" + said + b" gen 1\n"))
+
+    def test_nothing_is_refused(self):
+        counts: Dict[str, Any] = {"tried": lambda program, words, session: (8, 0, 0), "tried_words": lambda program: (3, 2, 8, 0)}
+        for name, found, status in ((None, None, 1), ("tried", (8, 4, 0), 0), ("tried", (0, 4, 0), 1), ("tried", (8, 4, 1), 1),
+                                    ("tried_words", (0, 2, 8, 0), 1), ("tried_words", (3, 0, 8, 0), 1), ("tried_words", (3, 2, 0, 0), 1)):
+            made = dict(counts, tried=lambda program, words, session: (8, 4, 0)) if name else counts
+            if name:
+                made[name] = lambda *words: found
+            with mock.patch.multiple(REFUSED, **made):
+                self.assertEqual(called(REFUSED, "its").status, status, (name, found))
+
     def test_usage(self):
-        for words, status in (([], 1), (["--help"], 0), (["a", "b"], 1)):
+        for words, status in (((), 1), (("--help",), 0), (("a", "b"), 1)):
             ended = called(REFUSED, *words)
             self.assertEqual((ended.status, ended.written.split("\n")[0]), (status, "refused-memory PROGRAM"))
 
@@ -198,7 +251,7 @@ class Measures(unittest.TestCase):
     """tools/measure, with a substitute for the program."""
 
     def test_sessions(self):
-        self.assertEqual(len(lines_of(MEASURE.looking(5).decode())), 3 + 5 + 1 + 1)
+        self.assertEqual(len(split(MEASURE.looking(5).decode())), 3 + 5 + 1)
         session, transcript = MEASURE.crowd()
         self.assertEqual((session.count(b"LOAD "), transcript.split()[-1], transcript.count(b"\n")), (64, b"77", 64))
         self.assertEqual(MEASURE.reading(3).count(b"TICK 0 1000\n"), 3)
@@ -219,7 +272,7 @@ class Measures(unittest.TestCase):
 
     def test_halves(self):
         words = MEASURE.WORDS
-        with mock.patch.multiple(MEASURE, words_read=lambda program, lines: lines * 512, seconds=lambda program, lines: lines / 100):
+        with mock.patch.multiple(MEASURE, words_read=lambda program, lines: lines * 512, seconds=lambda program, lines: 5 + lines / 100):
             first, second = MEASURE.halves("its")
         self.assertAlmostEqual(first, words // 512 * 98 // 100 / 200, 1)
         self.assertAlmostEqual(first, second, 1)
@@ -240,8 +293,8 @@ class Measures(unittest.TestCase):
     def test_limits(self):
         def rows(**changed):
             """Whether each number is within its limit."""
-            found = dict(halves=lambda program: (1.0, 1.3), resident=lambda *words: 6144, looks=lambda program: (2.0, 1.0), with_data=runs,
-                         judging=lambda program: [])
+            found: Dict[str, Any] = dict(halves=lambda program: (1.0, 1.3), resident=lambda *words: 6144, looks=lambda program: (2.0, 1.0),
+                                         with_data=runs, judging=lambda program: [])
             with mock.patch.multiple(MEASURE, **{**found, **changed}):
                 return [within for _, within in MEASURE.measured("its")]
 
@@ -257,9 +310,36 @@ class Measures(unittest.TestCase):
         self.assertEqual(rows(with_data=lambda *words: MEASURE.Run(5, b"", 0.0, 0.0)), [True] * 4 + [False, True])
         self.assertEqual(rows(with_data=lambda *words: MEASURE.Run(0, b"", 0.0, 0.0)), [True] * 4 + [False] * 2)
 
+    def test_ratios(self):
+        ended = MEASURE.Run(0, b"", 0.0, 0.0)
+        with mock.patch.multiple(MEASURE, halves=lambda program: (2.0, 2.5), resident=lambda *words: 7, looks=lambda program: (1.5, 0.5),
+                                 with_data=lambda *words: ended, judging=lambda program: []):
+            told = [text for text, _ in MEASURE.measured("its")]
+        self.assertIn("the first half takes 2.000 s, the second 2.500 s; the second over the first is 1.25, at most 1.3", told[0])
+        self.assertIn("200000 EXAM lines: 1.500 s, and writing their transcript 0.500 s; the first over the second is 3.00, at most 2.0", told[1])
+        with mock.patch.multiple(MEASURE, many_lines=lambda: [("a", b"")], judged=lambda program, session: (2.0, 3.0)):
+            self.assertEqual(MEASURE.judging("its"), [("a: run takes 2.000 s, and verify 3.000 s; the second over the first is 1.50, at most 1.2", False)])
+
+    def test_judged(self):
+        sessions = []
+
+        def run(program, session, prepare=None, command="run"):
+            """A run whose time is the length of its input in seconds, and half of it in user mode."""
+            sessions.append((command, session))
+            return MEASURE.Run(0, b"J 0\n", len(session) / 2, float(len(session)))
+
+        with mock.patch.object(MEASURE, "run", run):
+            self.assertEqual(MEASURE.judged("its", b"END\n"), (4.0, 8.0))
+        self.assertEqual(set(sessions), {("run", b"END\n"), ("verify", b"END\nJ 0\n")})
+
+    def test_best(self):
+        took = iter([9.0, 3.0] + [7.0] * MEASURE.RUNS)
+        with mock.patch.object(MEASURE, "run", lambda program, session: MEASURE.Run(0, b"", next(took), 0.0)):
+            self.assertEqual(MEASURE.seconds("its", 0), 3.0)
+
     def test_many_lines(self):
         for name, session in MEASURE.many_lines():
-            self.assertNotIn("", {line.kind for line in lines_of(session[:4000].decode().rsplit("\n", 1)[0])[:-1]}, name)
+            self.assertTrue(all(line.split(";")[0].strip() for line in split(session[:4000].decode().rsplit("\n", 1)[0])), name)
         for taken, within in (((1.0, 1.2), True), ((1.0, 1.21), False)):
             with mock.patch.multiple(MEASURE, many_lines=lambda: [("a", b"")], judged=lambda program, session: taken):
                 self.assertEqual([ok for _, ok in MEASURE.judging("its")], [within])

@@ -1,58 +1,127 @@
-"""tools/crates: the table of crates and crates.txt."""
+"""tools/crates: the list of crates, its picture, and what the heads of crates say."""
 
 import os
+import re
 import tempfile
 import unittest
+import xml.etree.ElementTree as xml
 from unittest import mock
 
 from shared import called, loaded
 
+from itslib import crates
+from itslib.house import Drawing, picture, rows_of
+
 REAL = loaded("crates")
 
-LISTED = "# words\nits_word: arrayvec\n# a library\nits_web staticlib: its_word its_top\nits_robin: its_word\nits_top: its_robin its_word\na: its_word\nb: its_word\n"
-PAGE = """# Crates
+LISTED = """# What this is: no section
+# Words and records: words
+its_word: arrayvec
+its_robin: its_word
+# Text: lines
+its_io: its_word
+# Definitions: meanings
+its_plain: its_robin its_word
+# Stores: tables
+its_core: its_plain its_word
+# Processor: units
+pdp_exec: its_core its_plain its_word
+# Monitor: small steps
+its_calls: its_core its_word
+its_tick: its_calls pdp_exec its_word
+# Second machine: whole steps
+its_direct: pdp_exec its_io its_word
+# Program: all
+its_top: its_tick its_direct its_io its_word
+its_web staticlib: its_top its_word
+# Tests: trials
+test_exec: pdp_exec its_word
+"""
+PAGE = "# Page\n\n%s%s\nEnd.\n" % (REAL.BEGIN, REAL.END)
+HEAD = "//! %s: what it is (docs/A.md). More of it.\n//!\n//! Tests: test_exec/src/lib.rt.\n#![tactic(auto)]\n"
 
-%s
-|---|---|---|
-| its_word | words | arrayvec |
-| its_web | for C | its_top |
-| its_robin | turns | |
-| its_top | the top | its_robin |
-| a, b | two | |
 
-| its_none | another table | |
-""" % REAL.HEAD
+def changed(old, new):
+    """The list with one change."""
+    assert LISTED.count(old) == 1
+    return crates.house_of(LISTED.replace(old, new))
 
 
-class Tables(unittest.TestCase):
-    """What differs between a table and a list."""
-
-    def wrong(self, old, new):
-        """What is said of the page with `new` for `old`, and the page as it has to be."""
-        self.assertEqual(PAGE.count(old), 1)
-        text, wrong = REAL.compared(PAGE.replace(old, new), REAL.uses_of(LISTED))
-        return wrong, text
+class Lists(unittest.TestCase):
+    """The sections of a list, and what its crates use."""
 
     def test_uses(self):
-        self.assertEqual(REAL.uses_of(LISTED), {"its_word": ["arrayvec"], "its_web": ["its_word", "its_top"], "its_robin": ["its_word"],
-                                                "its_top": ["its_robin", "its_word"], "a": ["its_word"], "b": ["its_word"]})
+        house = crates.house_of(LISTED)
+        self.assertEqual([crate.name for crate in house.of("Monitor")], ["its_calls", "its_tick"])
+        self.assertEqual(house.named("its_web").uses, ["its_top", "its_word"])
+        self.assertEqual(house.below("its_calls"), {"its_core", "its_plain", "its_robin", "its_word"})
+        self.assertEqual(house.about["Stores"], "tables")
 
-    def test_same(self):
-        self.assertEqual(REAL.compared(PAGE, REAL.uses_of(LISTED)), (PAGE, []))
+    def test_reduced(self):
+        arrows = crates.house_of(LISTED).arrows()
+        self.assertEqual(arrows["its_tick"], ["its_calls", "pdp_exec"])
+        self.assertEqual(arrows["its_top"], ["its_tick", "its_direct"])
 
-    def test_differs(self):
-        for old, new, said in (("| its_robin |\n| a", "| its_robin, b |\n| a", "its_top: the page says 'its_robin, b', and crates.txt 'its_robin'"),
-                               ("| two | |", "| two | its_top |", "a, b: the page says 'its_top', and crates.txt ''")):
-            self.assertEqual(self.wrong(old, new), ([said], PAGE))
+    def test_order(self):
+        self.assertEqual(list(crates.wrong_order(crates.house_of(LISTED))), [])
+        for old, new, said in (("its_core: its_plain its_word", "its_core: its_tick", "its_core is above its_tick, which it uses"),
+                               ("# Text: lines\n", "", "the sections have to be Words and records, Text, "),
+                               ("# Words and records: words\n", "", "its_word is in no section"),
+                               ("test_exec:", "tests:", "tests: crates of tests, and no others, are in the section Tests"),
+                               ("its_calls:", "test_calls:", "test_calls: crates of tests, and no others, ")):
+            self.assertTrue(any(one.startswith(said) for one in crates.wrong_order(changed(old, new))), said)
 
-    def test_missing(self):
-        self.assertEqual(self.wrong("| a, b |", "| a |")[0], ["b has no row"])
-        self.assertEqual(self.wrong("| a, b |", "| a, c |")[0], ["c is not in crates.txt", "b has no row"])
-        self.assertEqual(REAL.rows_of("# Crates\n"), [])
 
-    def test_rows_of_several(self):
-        uses = {"a": ["its_word", "x"], "b": ["y", "its_word"]}
-        self.assertEqual(REAL.column(["a", "b"], uses), "x / y")
+class Heads(unittest.TestCase):
+    """What the head of a crate says."""
+
+    def test_summary(self):
+        for head, said in (("Words of 36 bits. More.", "Words of 36 bits."), ("Calls on files: .IOT (docs/CALLS.md, \"Files\"). More.", "Calls on files: .IOT."),
+                           ("One sentence", "One sentence.")):
+            self.assertEqual(crates.summary_of(head), said)
+
+    def test_places(self):
+        house = crates.house_of(LISTED)
+        with tempfile.TemporaryDirectory() as top:
+            for name in ("its_plain", "its_core", "test_exec"):
+                os.makedirs(os.path.join(top, "crates", name, "src"))
+                open(os.path.join(top, "crates", name, "src", "lib.rt"), "w").close()
+            open(os.path.join(top, "crates", "its_core", "src", "cores.rt"), "w").close()
+            for name, said, wrong in (("its_core", "test_exec", None), ("its_core", "test_exec/src/lib.rt, its_core/src/cores.rt", None),
+                                      ("its_plain", "none, because it has no code", None),
+                                      ("its_core", "none, because it has no code", "it has code"),
+                                      ("its_core", "test_exec/src/none.rt", "which are not there"),
+                                      ("its_core", "its_plain", "which is no crate of tests that uses it")):
+                found = list(crates.wrong_tests(house.named(name), house, "A crate. Tests: %s." % said, top))
+                self.assertEqual([bool(wrong), wrong in "".join(found)] if wrong else found, [True, True] if wrong else [], said)
+            self.assertIn("has to end with", list(crates.wrong_tests(house.named("its_core"), house, "A crate.", top))[0])
+
+
+class Pictures(unittest.TestCase):
+    """The picture of a list."""
+
+    def test_rows(self):
+        house = crates.house_of(LISTED)
+        rows = rows_of(house)
+        for crate in house.crates:
+            self.assertTrue(all(rows[one] < rows[crate.name] for one in crate.uses))
+        self.assertEqual(rows["its_direct"], rows["its_calls"])
+
+    def test_sides(self):
+        drawing = Drawing(crates.house_of(LISTED))
+        self.assertLess(drawing.boxes["its_tick"].x, drawing.boxes["its_direct"].x)
+        self.assertLess(drawing.boxes["its_direct"].x, drawing.boxes["test_exec"].x)
+
+    def test_apart(self):
+        for row in Drawing(crates.house_of(LISTED)).rows:
+            for one, other in zip(row, row[1:]):
+                self.assertLessEqual(one.x + one.width() / 2, other.x - other.width() / 2)
+
+    def test_drawn(self):
+        text = picture(crates.house_of(LISTED))
+        self.assertEqual(text, picture(crates.house_of(LISTED)))
+        names = [one.text for one in xml.fromstring(text).iter() if one.get("class") == "box"]
+        self.assertEqual(sorted(names), sorted(re.findall(r"(?m)^(\w+)(?: staticlib)?:", LISTED)))
 
 
 class Calls(unittest.TestCase):
@@ -62,17 +131,27 @@ class Calls(unittest.TestCase):
         self.assertEqual(called(REAL), (0, "", ""))
 
     def test_write(self):
-        with tempfile.TemporaryDirectory() as top, mock.patch.multiple(REAL, TOP=top, PAGE=os.path.join(top, "PAGE.md")):
-            for name, text in (("PAGE.md", PAGE.replace("for C | its_top", "for C | its_work")), ("crates.txt", LISTED)):
+        with tempfile.TemporaryDirectory() as top, mock.patch.object(REAL, "TOP", top):
+            os.makedirs(os.path.join(top, "docs"))
+            for name, text in (("docs/ARCHITECTURE.md", PAGE), ("crates.txt", LISTED)):
                 with open(os.path.join(top, name), "w", encoding="utf-8") as file:
                     file.write(text)
-            self.assertEqual(called(REAL), (1, "docs/ARCHITECTURE.md: its_web: the page says 'its_work', and crates.txt 'its_top'\n", ""))
-            self.assertEqual(called(REAL, "--write").status, 0)
-            self.assertEqual(called(REAL), (0, "", ""))
+            for crate in crates.house_of(LISTED).crates:
+                os.makedirs(os.path.join(top, "crates", crate.name, "src"))
+                with open(os.path.join(top, "crates", crate.name, "src", "lib.rt"), "w", encoding="utf-8") as file:
+                    file.write(HEAD % crate.name)
+            self.assertEqual(called(REAL).status, 1)
+            with mock.patch.object(REAL, "wrong_tests", return_value=[]):
+                self.assertEqual(called(REAL), (1, "docs/house.svg is not made from the crates (tools/crates --write)\n"
+                                                   "docs/ARCHITECTURE.md is not made from the crates (tools/crates --write)\n", ""))
+                self.assertEqual(called(REAL, "--write").status, 0)
+                self.assertEqual(called(REAL), (0, "", ""))
+            with open(os.path.join(top, "docs", "ARCHITECTURE.md"), encoding="utf-8") as file:
+                self.assertIn("\n- `its_core`: its_core: what it is.\n", file.read())
 
-    def test_no_page(self):
-        with mock.patch.object(REAL, "PAGE", "/none"):
-            self.assertEqual(called(REAL), (1, "", "crates: /none: No such file or directory\n"))
+    def test_no_list(self):
+        with self.assertRaises(Exception):
+            REAL.with_list("# Page\n", "")
 
 
 if __name__ == "__main__":

@@ -109,7 +109,7 @@ class Repository(unittest.TestCase):
 
     def test_files(self) -> None:
         files = REAL.written()
-        for path in ("crates/its_top/specs/Promise.antt", "crates/its_core/src/lib.rt", "tools/page/words.js", "tools/page/page.css", "tools/web", "its"):
+        for path in ("crates/its_top/specs/Promise.antt", "crates/its_core/src/lib.rt", "tools/page/page.js", "tools/page/page.css", "tools/web", "its"):
             self.assertIn(path, files)
         self.assertEqual([path for path in files if "/out/" in path], [])
 
@@ -117,7 +117,8 @@ class Repository(unittest.TestCase):
         self.assertEqual(list(REAL.faults()) + list(REAL.faults_of_comments()), [])
 
     def test_status(self) -> None:
-        for found, status in (([], 0), (["README.md:1: 'behind': write after; past\n"], 1)):
+        none: List[str] = []
+        for found, status in ((none, 0), (["README.md:1: 'behind': write after; past\n"], 1)):
             with mock.patch.multiple(REAL, faults=lambda: found, faults_of_comments=lambda: []):
                 self.assertEqual(called(REAL), (status, "".join(found), ""))
 

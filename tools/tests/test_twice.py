@@ -7,14 +7,18 @@ from unittest import mock
 
 from shared import called, loaded
 
+from itslib import bodies
+
 REAL = loaded("twice")
 
 BODY = "    let a = 1;\n    let b = 2;\n    let c = 3;\n    let d = 4;\n    a + b + c + d\n"
 MONITOR = "//! One.\nuse its_word::Word;\n\n/// Adds.\nfn sum(n: u8) -> u8\n    requires { n < 2 }\n{\n" + BODY + "}\n"
 CHECKER = "ghost use Rattle.x.{y};\nuse its_core::Core;\n\nimpl Plain {\n/// Adds as well.\n#[tactic(auto)]\nfn sum(n: u8) -> u8\n    ensures { result\n      ≡ n }\n{\n\n" + BODY + "}\n}\n"
 RECORD = "-- only one is another\npub record One (old new : X) : Type 0 where\n" + "".join("  pub %s : new.%s ≡ old.%s\n" % (3 * (x,)) for x in "abcde")
-PAGE = "# Decisions\n\n%s\n\nWords.\n\n| What | One | Other | Why |\n|---|---|---|---|\n%s\n### More\n\n| a | b | c | d |\n"
+TABLE = "\n\nWords.\n\n| What | One | Other | Why |\n|---|---|---|---|\n%s\n"
+PAGE = "# Decisions\n\n%s" + TABLE + REAL.BODIES + TABLE % "" + "### More\n\n| a | b | c | d |\n"
 ROW = "| `sum` | `crates/its_world/src/a.rt` | `crates/its_direct/src/b.rt` | It has to be. |\n"
+ALIKE = "crates/its_world/src/a.rt:5 sum and crates/its_direct/src/b.rt:7 sum: 100 of 100 words are the same"
 SAID = "crates/its_world/src/a.rt:5-12 and crates/its_direct/src/b.rt:7-16 have 6 lines in common (sum)"
 
 
@@ -56,6 +60,40 @@ class Lines(unittest.TestCase):
         self.assertEqual(self.runs(RECORD, RECORD.replace("record One", "record Two"), ".antt"), [])
 
 
+class Bodies(unittest.TestCase):
+    """Whole bodies, without receivers."""
+
+    def body(self, text, name="f"):
+        """A function with these lines in its body."""
+        return "impl X {\n    fn %s(&self) -> u8\n        ensures { result ≡ 1 }\n    {\n%s    }\n}\n" % (
+            name, "".join("        %s\n" % line for line in text))
+
+    def test_bodies(self):
+        found = list(bodies.bodies_of("a", self.body(["let a = self.b;", "", "// why", "c(a);", "a"], "put")))
+        self.assertEqual([(one.name, one.at, one.lines) for one in found], [("put", 2, 4)])
+        self.assertEqual(list(bodies.bodies_of("a", self.body(["a;", "b"]))), [])
+
+    def test_receivers(self):
+        for one, other in ((["w.core.get(a)"], ["self.core.get(a)"]), (["next(w, slot, job, ask, true)"], ["self.next(true)"]),
+                           (["f(&mut w.jobs)"], ["f(&self.jobs,)"]), (["f(w)"], ["self.f()"])):
+            self.assertEqual(bodies.words_of(one), bodies.words_of(other))
+        self.assertNotEqual(bodies.words_of(["f(slot)"]), bodies.words_of(["f(a)"]))
+
+    def test_pairs(self):
+        lines = ["let a = w.first(b, c);", "let d = a + 1;", "d.min(c).max(b)"]
+        ones = list(bodies.bodies_of("a", self.body(lines, "one")))
+        for change, count in (("max(b)", 1), ("max(e)", 1), ("then(|| 1).map(|e| e + c + b).filter(|x| x > d)", 0)):
+            others = list(bodies.bodies_of("b", self.body([line.replace("max(b)", change) for line in lines], "other")))
+            self.assertEqual(len(list(bodies.pairs_of(ones, others))), count)
+
+    def test_constants(self):
+        text = "pub const A: u32 = 0o1_000;\nconst B: usize =\n    512;\nconst C: u8 = 3;\nconst D: usize = A as usize;\n"
+        found = list(bodies.constants_of("x", text))
+        self.assertEqual([(one.name, one.value) for one in found], [("A", "0o1000"), ("B", "512"), ("C", "3")])
+        others = list(bodies.constants_of("y", "const E: u32 = 0o1000;\nconst F: u8 = 3;\nconst B: u8 = 7;\n"))
+        self.assertEqual([[one.name for one in group] for group in bodies.repeated(found + others)], [["A", "E"], ["B", "B"]])
+
+
 class Reasons(unittest.TestCase):
     """The table."""
 
@@ -74,10 +112,11 @@ class Reasons(unittest.TestCase):
 class Calls(unittest.TestCase):
     """The tool on a repository."""
 
-    def told(self, rows, monitor=MONITOR, *words):
-        """What the tool says of a repository with these rows and this text of the monitor."""
+    def told(self, rows, monitor=MONITOR, *words, bodies=ROW):
+        """What the tool says of a repository with these rows, this text of the monitor, and these rows of bodies."""
+        page = (PAGE % (REAL.HEADING, rows)).replace(REAL.BODIES + TABLE % "", REAL.BODIES + TABLE % bodies)
         files = {"crates/its_world/src/a.rt": monitor, "crates/its_world/src/a/tests.rt": CHECKER, "crates/its_direct/src/b.rt": CHECKER,
-                 "crates/its_direct/src/b.antt": MONITOR, "docs/DECISIONS.md": PAGE % (REAL.HEADING, rows)}
+                 "crates/its_direct/src/b.antt": MONITOR, "docs/DECISIONS.md": page}
         with tempfile.TemporaryDirectory() as top, mock.patch.object(REAL, "TOP", top):
             for name, text in files.items():
                 os.makedirs(os.path.dirname(os.path.join(top, name)), exist_ok=True)
@@ -95,7 +134,17 @@ class Calls(unittest.TestCase):
 
     def test_reason(self):
         self.assertEqual(self.told(ROW), (0, "", ""))
-        self.assertEqual(self.told(ROW, MONITOR, "--all"), (0, SAID + ": on purpose\n", ""))
+        self.assertEqual(self.told(ROW, MONITOR, "--all"), (0, SAID + ": on purpose\n" + ALIKE + ": on purpose\n", ""))
+
+    def test_bodies(self):
+        self.assertEqual(self.told(ROW, bodies=""), (1, ALIKE + "\n", ""))
+        said = "docs/DECISIONS.md: 'other' is not alike in crates/its_world/src/a.rt and crates/its_direct/src/b.rt\n"
+        self.assertEqual(self.told(ROW, bodies=ROW + ROW.replace("sum", "other")), (1, said, ""))
+
+    def test_constants(self):
+        text = "const A: u32 = 0o1000;\npub const B: u8 =\n    3;\n"
+        self.assertEqual(self.told(ROW, MONITOR + text, "--constants"), (0, "", ""))
+        self.assertEqual(self.told(ROW, MONITOR + text + "const E: usize = 0o1000;\n", "--constants"), (0, "", ""))
 
     def test_a_reason_for_nothing(self):
         said = "docs/DECISIONS.md: 'sum' is not the same in crates/its_world/src/a.rt and crates/its_direct/src/b.rt\n"

@@ -61,7 +61,3 @@ struct tried rattle_realloc(void *old, word kept, word n, word align) {
 }
 
 void rattle_dealloc(void *place) { give(place); }
-
-/* Room for the bytes of the host: nothing if there is none. */
-__attribute__((export_name("its_take"))) void *its_take(word n) { return take(n); }
-__attribute__((export_name("its_give"))) void its_give(void *place) { if (place) give(place); }

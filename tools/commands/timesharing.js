@@ -1,0 +1,173 @@
+// A command: serves the eight consoles of a system over TCP, to several people at once.
+
+import {existsSync, readdirSync} from "node:fs";
+import path from "node:path";
+import process from "node:process";
+
+import {imageOf, systemLines} from "../lib/beginning.js";
+import {Words, command, textOf, write} from "../lib/node/command.js";
+import {Living} from "../lib/node/living.js";
+import {TOP, program, run} from "../lib/node/program.js";
+import {Folder} from "../lib/node/folder.js";
+import {Service} from "../lib/node/service.js";
+import {countOfKind} from "../lib/resuming.js";
+import {split} from "../lib/session.js";
+import {Over, withoutEnd} from "../lib/sitting.js";
+import {NO_SHOW, System} from "../lib/system.js";
+import {Wrong, octal} from "../lib/words.js";
+import {assembled} from "./terminal.js";
+
+const ABOUT = `
+Serves the eight consoles of a system over TCP, to several people at once: what they type becomes lines of one session.
+
+    tools/timesharing /tmp/mine
+    telnet 127.0.0.1 8230
+
+FOLDER keeps the session, session.its, which is added to before anything of it is shown. Started again, the session is run again and goes on where
+it was. If there is no session yet, it begins with the lines of FOLDER/start.its; without this file with the programs of system/, and a command
+job at each console. Meanwhile the operator may type who, and stop C: Control-Z is pressed at console C.
+
+Console 0 is at the port P, console 1 at P + 1, and so on. There are no passwords: without --address only this machine is served. Control-C
+stops the system (docs/TIMESHARING.md).
+`;
+const PORT = 8230, ROUNDS = 15;
+const PROGRAMS = path.join(TOP, "system");
+const MOST_LINE = 100;                   // bytes of a line of the operator
+const MANY = 1000;                       // lines of a transcript that are kept at once
+
+const WORDS = new Words("timesharing", ABOUT, [
+  {name: "FOLDER", about: "the folder of the system, which is made if there is none"},
+  {name: "--port", takes: "P", whole: true, otherwise: PORT, about: "the port of console 0 (" + PORT + "); 0 is any port for each console"},
+  {name: "--address", takes: "A", otherwise: "127.0.0.1", about: "the address that is served (127.0.0.1)"},
+  {name: "--rounds", takes: "N", whole: true, otherwise: ROUNDS,
+   about: "so many rounds a second go on for long: those of jobs that compute, and those of the keys of one console (" + ROUNDS + ")"},
+  {name: "--check", about: "keep the transcript, session.out, and verify it at the end"},
+  {name: "--verify", about: "verify the session and the transcript of FOLDER, and serve nobody"}]);
+
+/** The lines with which a system begins: those of its folder, or the programs of system/.
+ * @param {string} its
+ * @param {string} folder */
+export function beginningOf(its, folder) {
+  const name = path.join(folder, "start.its");
+  if (!existsSync(name)) return systemLines(programsIn(its, PROGRAMS));
+  const [text] = withoutEnd(textOf(name));
+  if (!/^ *VERSION +0*2 *\n/.test(text)) throw new Wrong(name + ": its first line has to be VERSION 2, because jobs have turns by RUN");
+  return text;
+}
+
+/** The images of the assembly texts of a folder, by their names.
+ * @param {string} its
+ * @param {string} folder */
+export function programsIn(its, folder) {
+  const names = readdirSync(folder).filter(name => name.endsWith(".asm"));
+  return new Map(names.map(name => [path.basename(name, ".asm").toUpperCase(), imageOf(assembled(its, name, textOf(path.join(folder, name))))]));
+}
+
+/** Runs the session so far, again if it was run before: what it shows is kept in mind.
+ * @param {System} system
+ * @param {Living} living
+ * @param {Folder} folder
+ * @param {string} text */
+export async function rerun(system, living, folder, text) {
+  const before = folder.toldBefore(), kept = [];
+  let at = 0, left = countOfKind(text, "DIR") + 1;
+  for (const line of split(text)) system.given(line);
+  folder.beginTranscript();
+  folder.add([NO_SHOW]);
+  living.write([...split(text), NO_SHOW]);
+  while (left) {
+    const answer = await living.read();
+    if (answer.startsWith("?")) throw new Wrong(folder.session + ": a line is refused: " + answer + " (tools/explain says why)");
+    if (at < before.length && before[at] !== answer) {
+      throw new Wrong(folder.transcript + ": line " + (at + 1) + " is not what the program answers now; move the file away to go on");
+    }
+    at += 1;
+    system.recalled(answer);
+    if (answer.startsWith("R ")) left -= 1;
+    if (kept.push(answer) >= MANY || !left) folder.told(kept.splice(0));
+  }
+}
+
+/** Whether the transcript of a folder is one of its session: what is said, and the status.
+ * @param {string} its
+ * @param {Folder} folder
+ * @returns {[string, number]} */
+export function verified(its, folder) {
+  const [text] = withoutEnd(textOf(folder.session));
+  const {output, problem} = run([its, "verify"], text + "END\n" + textOf(folder.transcript));
+  if (problem) return [folder.path + ": the transcript is not verified: " + problem, 1];
+  return [folder.path + ": verify says " + output.trim(), output.startsWith("YES") ? 0 : 1];
+}
+
+/** Obeys a line of the operator, who types at the host: what is said.
+ * @param {Service} service
+ * @param {string} line */
+export function operated(service, line) {
+  const [verb, console] = line.trim().split(/ +/), at = Number(console);
+  if (verb === "who") return service.clients.map((client, one) => "console " + octal(one) + ": " + (client ? "somebody" : "nobody") + "\n").join("");
+  if (verb === "stop" && /^[0-7]$/.test(console || "")) {
+    service.interrupt(at);
+    return "";
+  }
+  return verb ? "who, or stop and a console: Control-Z is pressed there\n" : "";
+}
+
+/** Reads the lines of the operator.
+ * @param {Service} service */
+function attend(service) {
+  let part = "";
+  process.stdin.on("error", () => {});
+  process.stdin.on("data", (/** @type {Buffer} */ data) => {
+    const lines = (part + data.toString("latin1")).split("\n");
+    part = (lines.pop() || "").slice(0, MOST_LINE);
+    for (const line of lines) write(operated(service, line));
+  });
+  service.over.then(() => process.stdin.destroy());
+}
+
+/** Serves the consoles until a signal comes: why it stopped.
+ * @param {Service} service
+ * @param {Record<string, *>} words */
+async function served(service, words) {
+  const ports = await service.listen(words.port, words.address);
+  process.removeAllListeners("SIGINT");
+  for (const signal of ["SIGINT", "SIGTERM", "SIGHUP"]) process.on(signal, () => service.stop(""));
+  write(ports.map((port, console) => "console " + octal(console) + ": telnet " + words.address + " " + port + "\n").join(""));
+  if (!process.env.ITS_NO_INPUT) attend(service);
+  await service.over;
+  return service.why;
+}
+
+/** Serves a folder, or verifies it.
+ * @param {string[]} given */
+export async function main(given) {
+  const words = WORDS.values(given), folder = new Folder(words.folder, words.check), its = program();
+  if (words.rounds < 1) throw new Wrong("--rounds is 1 or more");
+  if (words.verify) return reported(verified(its, folder));
+  folder.take();
+  const living = new Living(its, async () => { throw new Over("no copies are run"); }), system = new System(words.rounds);
+  try {
+    let text = folder.begun();
+    if (!text) folder.begin(text = beginningOf(its, words.folder));
+    await rerun(system, living, folder, text);
+    system.begin(Date.now());
+    const service = new Service(system, living, folder, Date.now), why = await served(service, words);
+    service.close();
+    if (service.isFull) folder.add(["END"]);
+    folder.told((await living.end())[0]);
+    if (why) throw new Wrong(why);
+  } finally {
+    living.child.stdin.end();
+    folder.close();
+  }
+  return words.check ? reported(verified(its, folder)) : 0;
+}
+
+/** Says something, and gives the status.
+ * @param {[string, number]} said */
+function reported([said, status]) {
+  write(said + "\n");
+  return status;
+}
+
+command("timesharing", main);
