@@ -5,10 +5,10 @@ use Rattle.its_records.specs.declared.jobs.Channel.{Channel}
 use Rattle.its_records.specs.declared.jobs.Channel.TheVariants.{Closed}
 use Rattle.its_records.specs.declared.jobs.Job.{Job}
 use Rattle.its_files.specs.Files.{Store}
-use Rattle.its_plain.specs.CallBasic.{channel_at, is_shut}
+use Rattle.its_plain.specs.Call.Basic.{channel_at, is_shut}
 use Rattle.its_world.specs.World.{chan_of, chans_of}
-use Rattle.its_machine.specs.Called.{channel_under}
-use Rattle.its_machine.proofs.NumberLaws.{under}
+use Rattle.its_shared.specs.Called.{channel_under}
+use Rattle.its_shared.proofs.NumberLaws.{under}
 use Rattle.call_basic.specs.Channels.{is_closed, is_free}
 
 closed_by : (s : Store) (c : Channel) → is_closed c ≡ is_shut (chan_of s c)

@@ -3,3 +3,4 @@ pub mod RawLaws
 pub mod ChannelLaws
 pub mod StopLaws
 pub mod PartLaws
+pub mod Groups

@@ -4,7 +4,7 @@ use Rattle.std.specs.Prelude.{◌&&◌, ℕ, Bool, true, false, nat_lt}
 use Rattle.its_records.specs.declared.jobs.Channel.{Channel}
 use Rattle.its_records.specs.declared.jobs.Channel.TheVariants.{Closed}
 use Rattle.its_records.specs.declared.jobs.Job.{Job}
-use Rattle.its_machine.specs.Called.{channel_under}
+use Rattle.its_shared.specs.Called.{channel_under}
 
 abbrev pub is_closed : Channel → Bool
 is_closed Closed = true

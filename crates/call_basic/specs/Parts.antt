@@ -7,12 +7,12 @@ use Rattle.its_frame.specs.declared.change.Change.{Change}
 use Rattle.its_frame.specs.declared.change.Change.TheVariants as changes
 use Rattle.its_frame.specs.declared.decision.Decision.{Decision}
 use Rattle.its_frame.specs.declared.decision.Decision.TheVariants as decisions
-use Rattle.its_plain.specs.Job.{bit_of, with_pending}
-use Rattle.its_plain.specs.Own.{exit_of, with_advance}
-use Rattle.its_plain.specs.Tests.{goes, number_at}
+use Rattle.its_plain.specs.Machine.Registers.{bit_of, with_pending}
+use Rattle.its_plain.specs.Machine.Own.{exit_of, with_advance}
+use Rattle.its_plain.specs.Call.Tests.{goes, number_at}
 use Rattle.call_basic.specs.declared.transfer.Moved.{Moved}
 use Rattle.call_basic.specs.declared.transfer.Moved.TheVariants as moved
-use Rattle.call_basic.specs.declared.transfer.Part.{Part}
+use Rattle.call_basic.specs.declared.transfer.NextByte.{NextByte}
 use Rattle.call_basic.specs.declared.transfer.Stop.{Stop}
 use Rattle.call_basic.specs.declared.transfer.Stop.TheVariants.{Fails, Faults, Finishes, Waits}
 
@@ -25,7 +25,7 @@ change_of (moved.Put c b) = changes.Put c b
 change_of (moved.Send l w) = changes.Send l w
 change_of (moved.Receive l) = changes.Receive l
 
-abbrev pub going : Part → Decision
+abbrev pub going : NextByte → Decision
 going p = goes (change_of p.moved ∷ []) p.held (p.next ∷ p.left ∷ [])
 
 -- what a job with these registers decides if SIOT moves no byte
@@ -35,11 +35,11 @@ stop_of j a (Faults f) = decisions.Ends (record { items = [] }) (record { items 
 stop_of j a Finishes = decisions.Ends (record { items = [] }) (record { items = [] }) (exit_of (with_advance 2 j))
 stop_of j a (Waits r) = decisions.Waits r
 
-abbrev pub part_of : Job → Ask → Result Part Stop → Decision
+abbrev pub part_of : Job → Ask → Result NextByte Stop → Decision
 part_of j a (Ok p) = going p
 part_of j a (Err s) = stop_of j a s
 
-abbrev pub part_in : Result Part Stop → Option Part
+abbrev pub part_in : Result NextByte Stop → Option NextByte
 part_in (Ok p) = Some p
 part_in (Err s) = None
 

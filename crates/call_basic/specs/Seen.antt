@@ -7,9 +7,9 @@ use Rattle.its_core.specs.Cores.{core_at}
 use Rattle.its_jobs.specs.Table.{superior_at}
 use Rattle.its_frame.specs.declared.decision.Decision.{Decision}
 use Rattle.its_frame.specs.declared.decision.Decision.TheVariants.{Waits}
-use Rattle.its_plain.specs.Decide.{target}
+use Rattle.its_plain.specs.Call.Decide.{target}
 use Rattle.its_plain.specs.Machine.{Whole}
-use Rattle.its_plain.specs.View.{Outline, View, outline, view}
+use Rattle.its_plain.specs.Machine.View.{Outline, View, outline, view}
 use Rattle.its_world.specs.World.{alarm_at, bare, chans_of, raw_at, state_of}
 use Rattle.its_world.specs.declared.world.World.{World}
 

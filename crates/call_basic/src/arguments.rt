@@ -1,7 +1,7 @@
 //! The arguments of a decoded call.
 ghost use Rattle.std.specs.Prelude.{◌≡◌};
-ghost use Rattle.its_plain.specs.Arguments.{has_input, input, place_of_input};
-ghost use Rattle.its_plain.specs.Footprint.{among, in_footprint, is_shared, times};
+ghost use Rattle.its_plain.specs.Call.Arguments.{has_input, input, place_of_input};
+ghost use Rattle.its_plain.specs.Call.Footprint.{among, in_footprint, is_shared, times};
 
 use its_records::Ask;
 use its_word::Word;
@@ -34,7 +34,7 @@ pub fn has_input(ask: &Ask, k: usize) -> bool
 }
 
 /// How often a place is among some.
-#[tactic(auto, unfolding(its_plain::specs::Footprint::times))]
+#[tactic(auto, unfolding(its_plain::specs::Call::Footprint::times))]
 fn times(place: u32, places: &[u32]) -> usize
     ensures { result ≡ times place places.now }
 {
@@ -49,7 +49,7 @@ fn among(place: u32, places: &[u32]) -> bool
 }
 
 /// Whether the word of an input is a decode word too, or that of another input or control argument.
-#[tactic(auto, unfolding(its_plain::specs::Footprint::is_shared))]
+#[tactic(auto, unfolding(its_plain::specs::Call::Footprint::is_shared))]
 pub(crate) fn is_shared(place: u32, ask: &Ask) -> bool
     ensures { result ≡ is_shared place ask.now }
 {
@@ -58,7 +58,7 @@ pub(crate) fn is_shared(place: u32, ask: &Ask) -> bool
 
 /// Whether a place is in the footprint of a call: the place of a decode word, or of the word of an
 /// input or of the control argument.
-#[tactic(auto, unfolding(its_plain::specs::Footprint::in_footprint))]
+#[tactic(auto, unfolding(its_plain::specs::Call::Footprint::in_footprint))]
 pub fn in_footprint(place: u32, ask: &Ask) -> bool
     ensures { result ≡ in_footprint place ask.now }
 {

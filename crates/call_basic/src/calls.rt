@@ -3,8 +3,8 @@
 ghost use Rattle.std.specs.Prelude.{◌≡◌, true, is_some, IfSome};
 ghost use Rattle.its_frame.specs.declared.decision.Decision.TheVariants.{Gone};
 ghost use Rattle.its_jobs.specs.Table.{job_at, superior_at};
-ghost use Rattle.its_plain.specs.CallBasic.{told_superior};
-ghost use Rattle.its_plain.specs.Decide.{reached_by, target};
+ghost use Rattle.its_plain.specs.Call.Basic.{told_superior};
+ghost use Rattle.its_plain.specs.Call.Decide.{reached_by, target};
 ghost use Rattle.its_world.specs.World.{raw_in};
 ghost use Rattle.call_basic.specs.Seen.{raw_with};
 
@@ -29,7 +29,7 @@ pub fn target_of(w: &World, slot: Slot, ask: &Ask) -> Option<u8>
 }
 
 /// Into which job a call reaches, by the registers of its caller.
-#[tactic(auto, unfolding(its_plain::specs::Decide::target))]
+#[tactic(auto, unfolding(its_plain::specs::Call::Decide::target))]
 fn target(w: &World, slot: Slot, job: &Job, ask: &Ask) -> Option<u8>
     ensures { result ≡ target (raw_with w.now slot job.now) ask.now }
 {
@@ -46,7 +46,7 @@ fn target(w: &World, slot: Slot, job: &Job, ask: &Ask) -> Option<u8>
 }
 
 /// The slot of the job that a job argument names, other than oneself.
-#[tactic(auto, using(its_machine::proofs::NumberLaws::under))]
+#[tactic(auto, using(its_shared::proofs::NumberLaws::under))]
 fn reached(w: &World, slot: Slot, job: &Job, party: Word) -> Option<u8>
     ensures { result ≡ reached_by (raw_with w.now slot job.now) party }
 {

@@ -1,9 +1,9 @@
 //! The ways in which a call ends.
 ghost use Rattle.std.specs.Prelude.{◌≡◌, ◌<◌, ◌+◌, ◌%◌, ◌^◌, [], ◌∷◌};
 ghost use Rattle.its_frame.specs.declared.decision.Decision.TheVariants.{Ends};
-ghost use Rattle.its_plain.specs.Job.{bit_of, with_pending, IOC as IOC_BIT};
-ghost use Rattle.its_plain.specs.Own.{with_advance, exit_of};
-ghost use Rattle.its_plain.specs.Tests.{number_at, out};
+ghost use Rattle.its_plain.specs.Machine.Registers.{bit_of, with_pending, IOC as IOC_BIT};
+ghost use Rattle.its_plain.specs.Machine.Own.{with_advance, exit_of};
+ghost use Rattle.its_plain.specs.Call.Tests.{number_at, out};
 
 use arrayvec::ArrayVec;
 use its_frame::{Change, Decision, Exit, Store};

@@ -7,9 +7,9 @@
 //! and fault. `target_of` says into which job a call reaches.
 //!
 //! A decision is a value of 208 bytes, and a long SIOT would make, merge and copy one for each of
-//! its bytes. So what SIOT does on a console, a file, a draft or a link is a `Part` (one change,
-//! the byte that is held, and the new pointer and count) or a `Stop` (why no byte is moved). One
-//! form of each function serves the tick, which carries a part out as it is (`moves`,
+//! its bytes. So what SIOT does on a console, a file, a draft or a link is a `NextByte` (one
+//! change, the byte that is held, and the new pointer and count) or a `Stop` (why no byte is
+//! moved). One form of each function serves the tick, which carries a part out as it is (`moves`,
 //! `carry_part`), and `decide`, which makes the decision of it (`decision_of`). SIOT through an
 //! inferior makes up to two changes and disturbs that job, so it decides like any other call.
 //!
@@ -59,6 +59,6 @@ pub use returning::dismiss;
 pub use setting::usrvar;
 pub use sleeping::{is_negative, is_read_only, is_shared_place, sleep};
 pub use transfer::{
-    Moved, Part, Stop, bar_of_store, change_of, decision_of, iot_ends, moves, moves_with,
+    Moved, NextByte, Stop, bar_of_store, change_of, decision_of, iot_ends, moves, moves_with,
     next_byte, next_pointer, one_less, part_in, stopped,
 };

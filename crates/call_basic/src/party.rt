@@ -1,7 +1,7 @@
 //! Whom a job argument names.
 ghost use Rattle.std.specs.Prelude.{◌≡◌};
-ghost use Rattle.its_plain.specs.CallBasic.{is_oneself, is_superior};
-ghost use Rattle.its_machine.specs.Called.{channel_under};
+ghost use Rattle.its_plain.specs.Call.Basic.{is_oneself, is_superior};
+ghost use Rattle.its_shared.specs.Called.{channel_under};
 ghost use Rattle.call_basic.specs.Seen.{outline_at};
 
 use its_records::{Channel, Job};

@@ -2,11 +2,11 @@
 
 ghost use Rattle.std.specs.Prelude.{◌≡◌, Some};
 ghost use Rattle.its_frame.specs.declared.name.CallName.TheVariants.{Usrvar};
-ghost use Rattle.its_plain.specs.Arguments.{has_input, input};
+ghost use Rattle.its_plain.specs.Call.Arguments.{has_input, input};
 ghost use Rattle.its_frame.specs.Variables.{variable_named};
-ghost use Rattle.its_plain.specs.CallBasic.{other_variable, own_variable, set_other, set_own, usrvar, value_of_other};
-ghost use Rattle.its_plain.specs.Decide.{call_named as call_named_by, target};
-ghost use Rattle.its_plain.specs.Own.{with_advance, exit_of};
+ghost use Rattle.its_plain.specs.Call.Basic.{other_variable, own_variable, set_other, set_own, usrvar, value_of_other};
+ghost use Rattle.its_plain.specs.Call.Decide.{call_named as call_named_by, target};
+ghost use Rattle.its_plain.specs.Machine.Own.{with_advance, exit_of};
 ghost use Rattle.its_frame.specs.declared.decision.Decision.TheVariants.{Ends};
 ghost use Rattle.its_world.specs.World.{raw_in};
 ghost use Rattle.call_basic.specs.Seen.{raw_with, seen_by};
@@ -24,7 +24,7 @@ use its_world::World;
 /// USRVAR job, name, optional new value: the output gets the value before, and then the new value
 /// is set. Errors 4 if the channel is closed, 5 if it is on no job, 22 if no variable has the name,
 /// 5 if the channel has no leave to write, and 22 if the variable cannot be set so.
-#[tactic(auto, using(its_machine::proofs::NumberLaws::under, crate::proofs::RawLaws::usrvar_target), unfolding(its_plain::specs::CallBasic::usrvar, its_plain::specs::View::view, its_world::specs::World::state_of))]
+#[tactic(auto, using(crate::proofs::Groups::usrvar_laws), unfolding(its_plain::specs::Call::Basic::usrvar, its_plain::specs::Machine::View::view, its_world::specs::World::state_of))]
 pub fn usrvar(w: &World, slot: Slot, job: &Job, ask: &Ask) -> Decision
     requires fail { ask.now.fail ≡ 0 }
     requires name { call_named_by ask.now.name ≡ Some Usrvar }
@@ -46,7 +46,7 @@ pub fn usrvar(w: &World, slot: Slot, job: &Job, ask: &Ask) -> Decision
 }
 
 /// USRVAR on oneself.
-#[tactic(auto, unfolding(its_plain::specs::View::view, its_world::specs::World::state_of))]
+#[tactic(auto, unfolding(its_plain::specs::Machine::View::view, its_world::specs::World::state_of))]
 fn own_variable(w: &World, slot: Slot, job: &Job, ask: &Ask) -> Decision
     ensures { result ≡ own_variable (seen_by w.now slot job.now ask.now) ask.now (variable_named (input ask.now 1)) }
 {
@@ -61,7 +61,7 @@ fn own_variable(w: &World, slot: Slot, job: &Job, ask: &Ask) -> Decision
 
 /// The output gets the value of a variable of one's own, and then the new value is set, if there is
 /// one.
-#[tactic(auto, using(its_machine::proofs::BareLaws::set_bare), unfolding(its_plain::specs::View::view, its_world::specs::World::state_of))]
+#[tactic(auto, using(its_shared::proofs::BareLaws::set_bare), unfolding(its_plain::specs::Machine::View::view, its_world::specs::World::state_of))]
 fn set_own(w: &World, slot: Slot, job: &Job, ask: &Ask, variable: Variable) -> Decision
     ensures { result ≡ set_own (seen_by w.now slot job.now ask.now) ask.now variable (has_input ask.now 2) }
 {
@@ -74,7 +74,7 @@ fn set_own(w: &World, slot: Slot, job: &Job, ask: &Ask, variable: Variable) -> D
 }
 
 /// USRVAR through a channel on an inferior.
-#[tactic(auto, unfolding(its_plain::specs::View::view, its_world::specs::World::state_of))]
+#[tactic(auto, unfolding(its_plain::specs::Machine::View::view, its_world::specs::World::state_of))]
 fn other_variable(
     w: &World,
     slot: Slot,

@@ -2,27 +2,22 @@
 
 ghost use Rattle.std.specs.Prelude.{◌≡◌, ◌+◌, ◌∷◌, [], None};
 ghost use Rattle.its_core.specs.Cores.{core_at};
-ghost use Rattle.its_plain.specs.CallBasic.{is_negative, negated, read_only, shared_place, sleep};
-ghost use Rattle.its_plain.specs.Tests.{goes};
+ghost use Rattle.its_plain.specs.Call.Basic.{is_negative, negated, read_only, shared_place, sleep};
+ghost use Rattle.its_plain.specs.Call.Tests.{goes};
 ghost use Rattle.call_basic.specs.Seen.{seen_by};
 
 use super::arguments::{input, is_shared, place_of_input};
 use super::ends::{fails, faults, finishes};
 use arrayvec::ArrayVec;
 use its_frame::{Decision, Wait, error};
+use its_plain::LONGEST_SLEEP;
 use its_records::{Ask, Job};
-use its_word::{Fault, Slot, Word};
+use its_word::{Fault, Slot, WORDS, Word};
 use its_world::World;
-
-/// The longest sleep, in thirtieths.
-const LONGEST_SLEEP: u64 = 0o200000000000;
-
-/// How many values a word has.
-const WORDS: u64 = 0o1000000000000;
 
 /// SLEEP n: for n above 0 its argument becomes minus the time of waking; for n below 0 it waits for
 /// that time. Errors 22 if n is too long, 17 if n is no word of its own, and WRO.
-#[tactic(auto, unfolding(its_plain::specs::CallBasic::sleep, its_plain::specs::View::view, its_world::specs::World::state_of))]
+#[tactic(auto, unfolding(its_plain::specs::Call::Basic::sleep, its_plain::specs::Machine::View::view, its_world::specs::World::state_of))]
 pub fn sleep(w: &World, slot: Slot, job: &Job, ask: &Ask) -> Decision
     ensures { result ≡ sleep (seen_by w.now slot job.now ask.now) ask.now }
 {

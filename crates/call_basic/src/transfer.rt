@@ -6,13 +6,13 @@ ghost use Rattle.its_word.specs.Byte.{size};
 ghost use Rattle.its_records.specs.declared.jobs.Job.{Job};
 ghost use Rattle.its_core.specs.Cores.{core_at};
 ghost use Rattle.its_frame.specs.declared.decision.Decision.TheVariants.{Ends, Goes};
-ghost use Rattle.its_plain.specs.Arguments.{input};
-ghost use Rattle.its_plain.specs.CallBasic.{shared_place};
-ghost use Rattle.its_plain.specs.Footprint.{in_footprint};
-ghost use Rattle.its_plain.specs.Own.{with_advance, exit_of};
-ghost use Rattle.its_plain.specs.Tests.{goes};
-ghost use Rattle.its_plain.specs.Transfer.{is_indexed, next_pointer, siot_tests, word_bits};
-ghost use Rattle.its_machine.specs.Called.{bar_of, first_of};
+ghost use Rattle.its_plain.specs.Call.Arguments.{input};
+ghost use Rattle.its_plain.specs.Call.Basic.{shared_place};
+ghost use Rattle.its_plain.specs.Call.Footprint.{in_footprint};
+ghost use Rattle.its_plain.specs.Machine.Own.{with_advance, exit_of};
+ghost use Rattle.its_plain.specs.Call.Tests.{goes};
+ghost use Rattle.its_plain.specs.Call.Transfer.{is_indexed, next_pointer, siot_tests, word_bits};
+ghost use Rattle.its_shared.specs.Called.{bar_of, first_of};
 ghost use Rattle.call_basic.specs.Parts.{change_of, going, part_in, part_of, stop_in, stop_of};
 ghost use Rattle.call_basic.specs.Seen.{seen_by};
 
@@ -22,22 +22,11 @@ use super::sleeping::{is_negative, is_read_only, is_shared_place};
 use arrayvec::ArrayVec;
 use its_bytes::{has_size, increment};
 use its_frame::{Change, Decision, Held, Store, Wait, error};
-use its_machine::are_apart;
 use its_records::{Ask, Job};
+use its_shared::are_apart;
+use its_word::pointer::{INDEXED, SIZE, SIZES, WORD_BITS};
 use its_word::{Fault, Slot, Word};
 use its_world::World;
-
-/// Bits 13 to 17 of a word are the low five bits of its left half: I and X of a byte pointer.
-const INDEXED: u32 = 0o40;
-
-/// S of a byte pointer, bits 6 to 11, is in its left half from this bit on.
-const SIZE: u32 = 0o100;
-
-/// How many values S has.
-const SIZES: u32 = 0o100;
-
-/// S of a pointer to whole words.
-const WORD_BITS: u32 = 36;
 
 /// `.IOT` is done: at most one thing changes outside its job's words and registers, and PC is past
 /// it.
@@ -109,7 +98,7 @@ pub fn change_of(moved: Moved) -> Change
 /// A part of SIOT that moves one byte: what changes, the byte that is held if it is input, and the
 /// pointer and count of the rest.
 #[derive(Clone, Copy, Debug, PartialEq, Eq)]
-pub struct Part {
+pub struct NextByte {
     pub moved: Moved,
     pub held: Option<Held>,
     pub next: Word,
@@ -121,7 +110,7 @@ pub struct Part {
 /// channel is at its end (of a file or of an inferior's core), and error 20. `words` says that its
 /// device moves only whole words.
 #[inline(always)]
-#[tactic(auto, unfolding(its_plain::specs::View::view, its_world::specs::World::state_of))]
+#[tactic(auto, unfolding(its_plain::specs::Machine::View::view, its_world::specs::World::state_of))]
 pub fn next_byte(w: &World, slot: Slot, ask: &Ask, words: bool, ended: bool) -> Result<Word, Stop>
     ensures stops { (j : Job) → stop_in j ask.now result ≡ first_of (siot_tests (seen_by w.now slot j ask.now) ask.now (input ask.now 1) (input ask.now 2) words ended) }
     ensures next { IfOk result (λ n. n ≡ next_pointer (input ask.now 1)) }
@@ -192,7 +181,7 @@ fn decision_of_stop(job: &Job, ask: &Ask, stop: Stop) -> Decision
 
 /// What SIOT decides: a part of it is done, or it moves no byte.
 #[inline(never)]
-pub fn decision_of(job: &Job, ask: &Ask, part: Result<Part, Stop>) -> Decision
+pub fn decision_of(job: &Job, ask: &Ask, part: Result<NextByte, Stop>) -> Decision
     ensures { result ≡ part_of job.now ask.now part }
 {
     match part {
@@ -203,7 +192,7 @@ pub fn decision_of(job: &Job, ask: &Ask, part: Result<Part, Stop>) -> Decision
 
 /// The part of SIOT that is done, if a byte is moved.
 #[inline(always)]
-pub fn part_in(part: Result<Part, Stop>) -> Option<Part>
+pub fn part_in(part: Result<NextByte, Stop>) -> Option<NextByte>
     ensures { result ≡ part_in part }
 {
     match part {
@@ -213,7 +202,7 @@ pub fn part_in(part: Result<Part, Stop>) -> Option<Part>
 }
 
 /// The decision that a part of SIOT is done.
-fn going(part: Part) -> Decision
+fn going(part: NextByte) -> Decision
     ensures { result ≡ going part }
 {
     let mut changes = ArrayVec::new();

@@ -1,7 +1,7 @@
 //! The variables of a job: their values, who may set them, and setting one.
 ghost use Rattle.std.specs.Prelude.{◌≡◌};
-ghost use Rattle.its_plain.specs.CallBasic.{by_oneself, by_superior};
-ghost use Rattle.its_plain.specs.Own.{with_advance, exit_of, variable_of, with_variable};
+ghost use Rattle.its_plain.specs.Call.Basic.{by_oneself, by_superior};
+ghost use Rattle.its_plain.specs.Machine.Own.{with_advance, exit_of, variable_of, with_variable};
 ghost use Rattle.call_basic.specs.Seen.{raw_with};
 
 use super::ends::exit_after;
@@ -14,7 +14,7 @@ use its_world::World;
 pub(crate) fn variable_of(w: &World, slot: Slot, job: &Job, variable: Variable) -> Word
     ensures { result ≡ variable_of slot (raw_with w.now slot job.now) variable }
 {
-    its_machine::variable_of(&w.core, &w.jobs, slot.number(), slot, job, variable)
+    its_shared::variable_of(&w.core, &w.jobs, slot.number(), slot, job, variable)
 }
 
 /// Whether a job may set a variable of its own.
@@ -45,7 +45,7 @@ pub(crate) fn by_superior(variable: Variable) -> bool
 
 /// The registers of a job whose call finishes and sets one of its own variables. Its stopped mark,
 /// its names and its console are no part of them.
-#[tactic(auto, unfolding(its_plain::specs::Own::with_variable))]
+#[tactic(auto, unfolding(its_plain::specs::Machine::Own::with_variable))]
 pub(crate) fn exit_with(job: &Job, variable: Variable, value: Word) -> Exit
     ensures { result ≡ exit_of (with_variable variable value (with_advance 2 job.now)) }
 {

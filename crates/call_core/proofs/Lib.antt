@@ -1,3 +1,4 @@
 pub mod RawLaws
 pub mod OtherLaws
 pub mod PartLaws
+pub mod Groups

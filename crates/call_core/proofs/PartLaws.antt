@@ -14,17 +14,17 @@ use Rattle.its_frame.specs.declared.decision.Decision.{Decision}
 use Rattle.its_frame.specs.declared.name.CallName.{CallName}
 use Rattle.its_frame.specs.declared.name.CallName.TheVariants.{Siot}
 use Rattle.its_jobs.specs.Table.{job_at}
-use Rattle.its_machine.specs.Called.{channel_under}
-use Rattle.its_machine.specs.Parts.{chan_of}
-use Rattle.its_machine.proofs.NumberLaws.{under, usr_on}
-use Rattle.its_plain.specs.Arguments.{input}
-use Rattle.its_plain.specs.CallBasic.{channel_at, is_oneself}
-use Rattle.its_plain.specs.CallDevice.{siot_call}
-use Rattle.its_plain.specs.CallStep.{decision}
-use Rattle.its_plain.specs.Decide.{argument_of, decided, decided_by, inferior_on, listed, reach, target, target_by}
+use Rattle.its_shared.specs.Called.{channel_under}
+use Rattle.its_shared.specs.Parts.{chan_of}
+use Rattle.its_shared.proofs.NumberLaws.{under, usr_on}
+use Rattle.its_plain.specs.Call.Arguments.{input}
+use Rattle.its_plain.specs.Call.Basic.{channel_at, is_oneself}
+use Rattle.its_plain.specs.Call.Device.{siot_call}
+use Rattle.its_plain.specs.Call.Step.{decision}
+use Rattle.its_plain.specs.Call.Decide.{argument_of, decided, decided_by, inferior_on, listed, reach, target, target_by}
 use Rattle.its_plain.specs.Machine.{Machine, Whole}
-use Rattle.its_plain.specs.Tests.{fails}
-use Rattle.its_plain.specs.View.{View, view}
+use Rattle.its_plain.specs.Call.Tests.{fails}
+use Rattle.its_plain.specs.Machine.View.{View, view}
 use Rattle.its_plain.proofs.TargetLaws.{reach_named, target_on}
 use Rattle.its_world.specs.World.{raw_at, state_of}
 use Rattle.its_world.specs.declared.world.World.{World}
@@ -32,7 +32,7 @@ use Rattle.call_basic.specs.Parts.{change_of, going, part_in, part_of, stop_of}
 use Rattle.call_basic.specs.Seen.{raw_with, seen_by}
 use Rattle.call_basic.specs.declared.transfer.Moved.{Moved}
 use Rattle.call_basic.specs.declared.transfer.Moved.TheVariants as moved
-use Rattle.call_basic.specs.declared.transfer.Part.{Part}
+use Rattle.call_basic.specs.declared.transfer.NextByte.{NextByte}
 use Rattle.call_basic.specs.declared.transfer.Stop.{Stop}
 use Rattle.call_basic.specs.declared.transfer.Stop.TheVariants as stops
 use Rattle.call_basic.proofs.RawLaws.{raw_here}
@@ -44,18 +44,20 @@ unfolding decided
 siot_decided v a z e = ap (λ (b : Bool). if b then decided_by v a (call_named a.name) else fails v a a.fail) (eq-eqb a.fail 0 z) ∙ ap (decided_by v a) e
 
 -- what holds of a part that is there
-of_part : (r : Option Part) (P Q : Part → Type 0) → ((p : Part) → P p → Q p) → IfSome r P → IfSome r Q
+of_part : (r : Option NextByte) (P Q : NextByte → Type 0) → ((p : NextByte) → P p → Q p) → IfSome r P → IfSome r Q
 of_part (Some p) P Q f h = f p h
 of_part None P Q f h = tt
 
-pub each_part : {X : Type 0} (r : Option Part) → X → IfSome r (λ p. X)
+pub each_part : {X : Type 0} (r : Option NextByte) → X → IfSome r (λ p. X)
 each_part (Some p) x = x
 each_part None x = tt
 
-pub part_goes : (w : World) (s : ℕ) (j : Job) (a : Ask) (r : Option Part) → job_at w.jobs s ≡ Some j → a.fail ≡ 0 → call_named a.name ≡ Some Siot
-    → IfSome r (λ p. going p ≡ siot_call (seen_by w s j a) a) → IfSome r (λ p. IfSome (raw_at w.files w.core w.jobs w.alarms.items s) (λ q. going p ≡ decision (state_of w).raw s q a))
+pub part_goes : (w : World) (s : ℕ) (j : Job) (a : Ask) (r : Option NextByte) → job_at w.jobs s ≡ Some j → a.fail ≡ 0 → call_named a.name ≡ Some Siot
+    → IfSome r (λ p. going p ≡ siot_call (seen_by w s j a) a)
+    → IfSome r (λ p. IfSome (raw_at w.files w.core w.jobs w.alarms.items s) (λ q. going p ≡ decision (state_of w).raw s q a))
 part_goes w s j a r h z e g =
-    of_part r (λ p. going p ≡ siot_call (seen_by w s j a) a) (λ p. IfSome (raw_at w.files w.core w.jobs w.alarms.items s) (λ q. going p ≡ decision (state_of w).raw s q a))
+    of_part r (λ p. going p ≡ siot_call (seen_by w s j a) a)
+    (λ p. IfSome (raw_at w.files w.core w.jobs w.alarms.items s) (λ q. going p ≡ decision (state_of w).raw s q a))
     (λ p t. decision_here w s j a (going p) h (t ∙ sym (siot_decided (seen_by w s j a) a z e))) g
 
 -- a channel that is on no inferior reaches nobody
@@ -74,13 +76,16 @@ untargeted q a z e h =
     ∙ ap (λ (o : Option CallName). target_by q a (argument_of o)) e
     ∙ either_none (is_oneself (input a 0)) (inferior_on (channel_at q.channels (input a 0))) h
 
-alone : (m : Machine) (j : ℕ) (q : Whole) (a : Ask) → a.fail ≡ 0 → call_named a.name ≡ Some Siot → inferior_on (channel_at q.channels (input a 0)) ≡ None → reach m j q a ≡ []
+alone : (m : Machine) (j : ℕ) (q : Whole) (a : Ask) → a.fail ≡ 0 → call_named a.name ≡ Some Siot
+    → inferior_on (channel_at q.channels (input a 0)) ≡ None → reach m j q a ≡ []
 alone m j q a z e h = reach_named m j q a Siot z e ∙ ap listed (untargeted q a z e h)
 
-pub part_alone : (w : World) (s : ℕ) (j : Job) (a : Ask) (r : Option Part) → job_at w.jobs s ≡ Some j → a.fail ≡ 0 → call_named a.name ≡ Some Siot
-    → IfSome r (λ p. is_usr (channel_under j (input a 0)) ≡ false) → IfSome r (λ p. IfSome (raw_at w.files w.core w.jobs w.alarms.items s) (λ q. reach (state_of w).raw s q a ≡ []))
+pub part_alone : (w : World) (s : ℕ) (j : Job) (a : Ask) (r : Option NextByte) → job_at w.jobs s ≡ Some j → a.fail ≡ 0 → call_named a.name ≡ Some Siot
+    → IfSome r (λ p. is_usr (channel_under j (input a 0)) ≡ false)
+    → IfSome r (λ p. IfSome (raw_at w.files w.core w.jobs w.alarms.items s) (λ q. reach (state_of w).raw s q a ≡ []))
 part_alone w s j a r h z e g =
-    of_part r (λ p. is_usr (channel_under j (input a 0)) ≡ false) (λ p. IfSome (raw_at w.files w.core w.jobs w.alarms.items s) (λ q. reach (state_of w).raw s q a ≡ []))
+    of_part r (λ p. is_usr (channel_under j (input a 0)) ≡ false)
+    (λ p. IfSome (raw_at w.files w.core w.jobs w.alarms.items s) (λ q. reach (state_of w).raw s q a ≡ []))
     (λ p t. raw_here (λ q. reach (state_of w).raw s q a ≡ []) w s j h
     (alone (state_of w).raw s (raw_with w s j) a z e
     (ap inferior_on (sym (under w.files j (input a 0))) ∙ inferior_by w.files (channel_under j (input a 0)) t))) g
@@ -90,14 +95,14 @@ moved_back : (x : Moved) → moved_of (change_of x) ≡ Some x
 moved_back (moved.Move n at) = refl
 moved_back _ = refl
 
-part_going : (p : Part) → Some p ≡ part_by (going p)
+part_going : (p : NextByte) → Some p ≡ part_by (going p)
 part_going p = sym (ap (option_map (λ (x : Moved). record { moved = x; held = p.held; next = p.next; left = p.left })) (moved_back p.moved))
 
 unparted : (j : Job) (a : Ask) (s : Stop) → None ≡ part_by (stop_of j a s)
 unparted j a (stops.Fails n) = refl
 unparted j a _ = refl
 
-pub part_found : (j : Job) (a : Ask) (r : Result Part Stop) → part_in r ≡ part_by (part_of j a r)
+pub part_found : (j : Job) (a : Ask) (r : Result NextByte Stop) → part_in r ≡ part_by (part_of j a r)
 part_found j a (Ok p) = part_going p
 part_found j a (Err s) = unparted j a s
 
@@ -108,13 +113,15 @@ part_other None k m j a f = tt
 part_other (Some q) (Some x) m j a f = refl
 part_other (Some q) None m j a f = sym (ap (λ (b : Bool). if b then going_alone (reach m j q a) (decision m j q a) else None) f)
 
-pub part_marked : (o : Option Whole) (k : Option Mark) (n : ℕ) (m : Machine) (j : ℕ) (a : Ask) → option_map (λ (x : Mark). x.owner) k ≡ Some n → IfSome o (λ q. None ≡ next_part k m j q a)
+pub part_marked : (o : Option Whole) (k : Option Mark) (n : ℕ) (m : Machine) (j : ℕ) (a : Ask)
+    → option_map (λ (x : Mark). x.owner) k ≡ Some n → IfSome o (λ q. None ≡ next_part k m j q a)
 unfolding next_part
 part_marked None k n m j a h = tt
 part_marked (Some q) (Some x) n m j a h = refl
 part_marked (Some q) None n m j a h = cc
 
-part_siot : (m : Machine) (j : ℕ) (q : Whole) (a : Ask) → a.fail ≡ 0 → call_named a.name ≡ Some Siot → going_alone (listed (target q a)) (siot_call (view m j q (target q a)) a) ≡ next_part None m j q a
+part_siot : (m : Machine) (j : ℕ) (q : Whole) (a : Ask) → a.fail ≡ 0 → call_named a.name ≡ Some Siot
+    → going_alone (listed (target q a)) (siot_call (view m j q (target q a)) a) ≡ next_part None m j q a
 unfolding next_part decision
 part_siot m j q a z e =
     sym
@@ -132,7 +139,8 @@ part_on w s j a c d z e is =
     (ap (λ (o : Option ℕ). going_alone (listed o) d)
     (untargeted (raw_with w s j) a z e (ap inferior_on (sym (under w.files j (input a 0)) ∙ ap (chan_of w.files) is) ∙ inferior_by w.files c refl)))
 
-pub part_next : (w : World) (s : ℕ) (j : Job) (a : Ask) (r : Option Part) → job_at w.jobs s ≡ Some j → a.fail ≡ 0 → call_named a.name ≡ Some Siot → w.files.mark ≡ None
+pub part_next : (w : World) (s : ℕ) (j : Job) (a : Ask) (r : Option NextByte) → job_at w.jobs s ≡ Some j → a.fail ≡ 0
+    → call_named a.name ≡ Some Siot → w.files.mark ≡ None
     → r ≡ (if is_usr (channel_under j (input a 0)) then None else part_by (siot_call (seen_by w s j a) a))
     → IfSome (raw_at w.files w.core w.jobs w.alarms.items s) (λ q. r ≡ next_part w.files.mark (state_of w).raw s q a)
 part_next w s j a r h z e unmarked is =

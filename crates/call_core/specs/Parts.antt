@@ -10,13 +10,13 @@ use Rattle.its_frame.specs.declared.change.Change.TheVariants as changes
 use Rattle.its_frame.specs.declared.decision.Decision.{Decision}
 use Rattle.its_frame.specs.declared.decision.Decision.TheVariants.{Goes}
 use Rattle.its_frame.specs.declared.decision.Held.{Held}
-use Rattle.its_plain.specs.CallStep.{decision}
+use Rattle.its_plain.specs.Call.Step.{decision}
 use Rattle.its_frame.specs.Calls.{is_siot}
-use Rattle.its_plain.specs.Decide.{call_named, reach}
+use Rattle.its_plain.specs.Call.Decide.{call_named, reach}
 use Rattle.its_plain.specs.Machine.{Machine, Whole}
 use Rattle.call_basic.specs.declared.transfer.Moved.{Moved}
 use Rattle.call_basic.specs.declared.transfer.Moved.TheVariants as moved
-use Rattle.call_basic.specs.declared.transfer.Part.{Part}
+use Rattle.call_basic.specs.declared.transfer.NextByte.{NextByte}
 
 -- whether a channel is on an inferior
 abbrev pub is_usr : Channel → Bool
@@ -35,11 +35,11 @@ moved_of _ = None
 
 -- the part that a decision does: a call that goes on does one if it makes one such change and gives
 -- two arguments new values. No other decision does one
-abbrev pub going_part : List Change → Option Held → List ℕ → Option Part
+abbrev pub going_part : List Change → Option Held → List ℕ → Option NextByte
 going_part (c ∷ []) h (next ∷ left ∷ []) = option_map (λ m. record { moved = m; held = h; next = next; left = left }) (moved_of c)
 going_part _ h _ = None
 
-abbrev pub part_by : Decision → Option Part
+abbrev pub part_by : Decision → Option NextByte
 part_by (Goes cs h vs) = going_part cs.items h vs.items
 part_by _ = None
 
@@ -49,10 +49,10 @@ asks_siot a = (a.fail == 0) && is_siot (call_named a.name)
 
 -- the part of a call that is done next: that of its decision, if it is such a SIOT, it reaches no
 -- other job, and no close is half made
-abbrev pub going_alone : List ℕ → Decision → Option Part
+abbrev pub going_alone : List ℕ → Decision → Option NextByte
 going_alone [] d = part_by d
 going_alone (k ∷ ks) d = None
 
-unfoldable pub next_part : Option Mark → Machine → ℕ → Whole → Ask → Option Part
+unfoldable pub next_part : Option Mark → Machine → ℕ → Whole → Ask → Option NextByte
 next_part (Some k) m j q a = None
 next_part None m j q a = if asks_siot a then going_alone (reach m j q a) (decision m j q a) else None

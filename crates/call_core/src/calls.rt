@@ -1,23 +1,22 @@
-//! The choice of the crate that decides a call, by its name; which call can go on, and which needs
-//! a page.
+//! The choice of the crate that decides a call, by its name; and which call needs a page.
 
-ghost use Rattle.std.specs.Prelude.{◌≡◌, true, not, is_some, IfSome, None, Some, []};
+ghost use Rattle.std.specs.Prelude.{◌≡◌, true, is_some, IfSome, None, Some, []};
 ghost use Rattle.its_frame.specs.declared.name.CallName.TheVariants.{Siot};
 ghost use Rattle.its_jobs.specs.Table.{job_at};
-ghost use Rattle.its_plain.specs.Arguments.{input};
-ghost use Rattle.its_plain.specs.CallStep.{decision};
-ghost use Rattle.its_plain.specs.Decide.{call_named as call_named_by, decided, reach};
+ghost use Rattle.its_plain.specs.Call.Arguments.{input};
+ghost use Rattle.its_plain.specs.Call.Step.{decision};
+ghost use Rattle.its_plain.specs.Call.Decide.{call_named as call_named_by, decided, reach};
 ghost use Rattle.its_stepped.specs.Forest.{Forest};
 ghost use Rattle.its_stepped.specs.Tick.{helps, makes_page, reserves};
 ghost use Rattle.its_world.specs.Tidy.{Tidy};
 ghost use Rattle.its_world.specs.World.{state_of, raw_in};
 ghost use Rattle.call_basic.specs.Parts.{going};
-ghost use Rattle.call_basic.specs.Seen.{is_waiting, raw_with, seen_by};
+ghost use Rattle.call_basic.specs.Seen.{raw_with, seen_by};
 ghost use Rattle.call_core.specs.Parts.{asks_siot, next_part};
 
 use super::devices::{close, iot, open, siot, siot_part};
 use super::pages::corblk;
-use call_basic::{Part, dismiss, fails, input, logout, realt, sleep, usrvar};
+use call_basic::{NextByte, dismiss, fails, input, logout, realt, sleep, usrvar};
 use call_file::{access, delete, fillen, rename};
 use call_tty::{finish, listen, ttylnd};
 use call_usr::{uclose, usrmem};
@@ -45,7 +44,7 @@ pub fn decide(w: &World, slot: Slot, ask: &Ask) -> Decision
 /// not SIOT or its decoding gave an error, that a close is half made, that the call reaches another
 /// job, or that its decision is no such part.
 #[tactic(auto, using(crate::proofs::PartLaws::part_other))]
-pub fn part(w: &World, slot: Slot, ask: &Ask) -> Option<Part>
+pub fn part(w: &World, slot: Slot, ask: &Ask) -> Option<NextByte>
     requires job { is_some (job_at w.now.jobs slot) ≡ true }
     requires tidy { Tidy w.now }
     ensures goes { IfSome result (λ p. IfSome (raw_in w.now slot) (λ q. going p ≡ decision (state_of w.now).raw slot q ask.now)) }
@@ -64,7 +63,7 @@ pub fn part(w: &World, slot: Slot, ask: &Ask) -> Option<Part>
 }
 
 /// The part of a SIOT that is done next, if no close is half made.
-fn unmarked_part(w: &World, slot: Slot, ask: &Ask) -> Option<Part>
+fn unmarked_part(w: &World, slot: Slot, ask: &Ask) -> Option<NextByte>
     requires job { is_some (job_at w.now.jobs slot) ≡ true }
     requires fail { ask.now.fail ≡ 0 }
     requires name { call_named_by ask.now.name ≡ Some Siot }
@@ -91,23 +90,9 @@ pub fn is_siot(ask: &Ask) -> bool
     ask.fail == 0 && CallName::is_siot(ask.name)
 }
 
-/// Whether the call of a slot's job can go on.
-pub fn ready(w: &World, slot: Slot, ask: &Ask) -> bool
-    requires job { is_some (job_at w.now.jobs slot) ≡ true }
-    requires tidy { Tidy w.now }
-    requires forest { Forest (state_of w.now).raw }
-    requires unmarked { IfSome (raw_in w.now slot) (λ q. helps q ask.now ≡ true → w.now.files.mark ≡ None) }
-    ensures { IfSome (raw_in w.now slot) (λ q. result ≡ not (is_waiting (decision (state_of w.now).raw slot q ask.now))) }
-{
-    match decide(w, slot, ask) {
-        Decision::Waits(_) => false,
-        _ => true,
-    }
-}
-
 /// The decision of the call of a job with these registers: the one place that says which function,
 /// of which crate, serves a call. An error of its decoding comes first.
-#[tactic(auto, unfolding(its_plain::specs::Decide::decided, its_plain::specs::View::view, its_world::specs::World::state_of))]
+#[tactic(auto, unfolding(its_plain::specs::Call::Decide::decided, its_plain::specs::Machine::View::view, its_world::specs::World::state_of))]
 fn decided(w: &World, slot: Slot, job: &Job, ask: &Ask) -> Decision
     requires job { job_at w.now.jobs slot ≡ Some job.now }
     requires tidy { Tidy w.now }

@@ -5,21 +5,21 @@ ghost use Rattle.its_frame.specs.declared.change.Change.TheVariants.{Shut};
 ghost use Rattle.its_frame.specs.declared.decision.Decision.TheVariants.{Ends};
 ghost use Rattle.its_frame.specs.declared.name.CallName.TheVariants.{Iot, Siot};
 ghost use Rattle.its_jobs.specs.Table.{job_at};
-ghost use Rattle.its_plain.specs.Arguments.{input};
-ghost use Rattle.its_plain.specs.CallDevice.{close_call, iot_call, open_call, siot_call};
-ghost use Rattle.its_plain.specs.Decide.{call_named};
-ghost use Rattle.its_plain.specs.Own.{with_advance, exit_of};
+ghost use Rattle.its_plain.specs.Call.Arguments.{input};
+ghost use Rattle.its_plain.specs.Call.Device.{close_call, iot_call, open_call, siot_call};
+ghost use Rattle.its_plain.specs.Call.Decide.{call_named};
+ghost use Rattle.its_plain.specs.Machine.Own.{with_advance, exit_of};
 ghost use Rattle.its_stepped.specs.Forest.{Forest};
 ghost use Rattle.its_stepped.specs.Tick.{helps};
 ghost use Rattle.its_world.specs.Tidy.{Tidy};
 ghost use Rattle.its_world.specs.World.{state_of};
-ghost use Rattle.its_machine.specs.Called.{channel_under};
+ghost use Rattle.its_shared.specs.Called.{channel_under};
 ghost use Rattle.call_basic.specs.Parts.{going, part_in, part_of};
 ghost use Rattle.call_basic.specs.Seen.{raw_with, seen_by};
 ghost use Rattle.call_core.specs.Parts.{is_usr, part_by};
 
 use arrayvec::ArrayVec;
-use call_basic::{Part, Stop, channel, decision_of, fails, finishes_with, input, ioc, part_in};
+use call_basic::{NextByte, Stop, channel, decision_of, fails, finishes_with, input, ioc, part_in};
 use call_file::{close_draft, iot_reads, iot_writes, is_disk, open_disk, siot_reads, siot_writes};
 use call_link::{close_end, iot_link, is_link, open_link, siot_link};
 use call_tty::{iot_in, iot_out, open_tty, siot_in, siot_out};
@@ -30,7 +30,7 @@ use its_word::Slot;
 use its_world::World;
 
 /// OPEN by its device: any but DSK, USR and LNK has to be TTY.
-#[tactic(auto, unfolding(its_plain::specs::CallDevice::open_call))]
+#[tactic(auto, unfolding(its_plain::specs::Call::Device::open_call))]
 pub(crate) fn open(w: &World, slot: Slot, job: &Job, ask: &Ask) -> Decision
     ensures { result ≡ open_call (seen_by w.now slot job.now ask.now) ask.now }
 {
@@ -47,7 +47,7 @@ pub(crate) fn open(w: &World, slot: Slot, job: &Job, ask: &Ask) -> Decision
 
 /// CLOSE by what the channel is on: a draft becomes a file, an end of a link is closed, any other
 /// channel is closed alone. Error 4, and those of a draft.
-#[tactic(auto, using(call_file::proofs::HeldLaws::reading, call_file::proofs::HeldLaws::writing, its_machine::proofs::NumberLaws::numbers), unfolding(its_plain::specs::CallDevice::close_call, its_plain::specs::View::view, its_world::specs::World::state_of))]
+#[tactic(auto, using(crate::proofs::Groups::close_laws), unfolding(its_plain::specs::Call::Device::close_call, its_plain::specs::Machine::View::view, its_world::specs::World::state_of))]
 pub(crate) fn close(w: &World, slot: Slot, job: &Job, ask: &Ask) -> Decision
     requires job { job_at w.now.jobs slot ≡ Some job.now }
     requires tidy { Tidy w.now }
@@ -76,7 +76,7 @@ fn shut(job: &Job, ask: &Ask) -> Decision
 }
 
 /// `.IOT` by what the channel is on; IOC if it is closed.
-#[tactic(auto, using(call_file::proofs::HeldLaws::reading, call_file::proofs::HeldLaws::writing, call_file::proofs::RawLaws::iot_helps), unfolding(its_plain::specs::CallDevice::iot_call, its_plain::specs::View::view, its_world::specs::World::state_of))]
+#[tactic(auto, using(crate::proofs::Groups::iot_laws), unfolding(its_plain::specs::Call::Device::iot_call, its_plain::specs::Machine::View::view, its_world::specs::World::state_of))]
 pub(crate) fn iot(w: &World, slot: Slot, job: &Job, ask: &Ask) -> Decision
     requires fail { ask.now.fail ≡ 0 }
     requires name { call_named ask.now.name ≡ Some Iot }
@@ -102,7 +102,7 @@ pub(crate) fn iot(w: &World, slot: Slot, job: &Job, ask: &Ask) -> Decision
 }
 
 /// SIOT by what the channel is on. Error 4.
-#[tactic(auto, using(call_file::proofs::HeldLaws::reading, call_file::proofs::HeldLaws::writing, call_file::proofs::RawLaws::siot_helps), unfolding(its_plain::specs::CallDevice::siot_call, its_plain::specs::View::view, its_world::specs::World::state_of))]
+#[tactic(auto, using(crate::proofs::Groups::siot_laws), unfolding(its_plain::specs::Call::Device::siot_call, its_plain::specs::Machine::View::view, its_world::specs::World::state_of))]
 pub(crate) fn siot(w: &World, slot: Slot, job: &Job, ask: &Ask) -> Decision
     requires fail { ask.now.fail ≡ 0 }
     requires name { call_named ask.now.name ≡ Some Siot }
@@ -134,8 +134,8 @@ pub(crate) fn siot(w: &World, slot: Slot, job: &Job, ask: &Ask) -> Decision
 /// The part of SIOT that is done next, if its channel is on a console, a file, a draft or a link
 /// and a byte can be moved: exactly the part that its decision does, but for a channel on an
 /// inferior.
-#[tactic(auto, using(call_file::proofs::HeldLaws::reading, call_file::proofs::HeldLaws::writing), unfolding(its_plain::specs::CallDevice::siot_call, its_plain::specs::View::view, its_world::specs::World::state_of))]
-pub(crate) fn siot_part(w: &World, slot: Slot, job: &Job, ask: &Ask) -> Option<Part>
+#[tactic(auto, using(crate::proofs::Groups::siot_part_laws), unfolding(its_plain::specs::Call::Device::siot_call, its_plain::specs::Machine::View::view, its_world::specs::World::state_of))]
+pub(crate) fn siot_part(w: &World, slot: Slot, job: &Job, ask: &Ask) -> Option<NextByte>
     requires job { job_at w.now.jobs slot ≡ Some job.now }
     requires tidy { Tidy w.now }
     requires unmarked { w.now.files.mark ≡ None }
@@ -157,7 +157,7 @@ pub(crate) fn siot_part(w: &World, slot: Slot, job: &Job, ask: &Ask) -> Option<P
 /// The part of SIOT that is done, if a byte is moved. This is all that its decision does.
 #[inline(always)]
 #[tactic(auto, using(crate::proofs::PartLaws::part_found))]
-fn found(job: &Job, ask: &Ask, part: Result<Part, Stop>) -> Option<Part>
+fn found(job: &Job, ask: &Ask, part: Result<NextByte, Stop>) -> Option<NextByte>
     ensures found { result ≡ part_in part }
     ensures part { result ≡ part_by (part_of job.now ask.now part) }
 {

@@ -4,9 +4,9 @@ ghost use Rattle.its_word.specs.Limits.{most_pages};
 ghost use Rattle.its_core.specs.Cores.{core_at};
 ghost use Rattle.its_frame.specs.declared.name.CallName.TheVariants.{Corblk};
 ghost use Rattle.its_jobs.specs.Table.{job_at};
-ghost use Rattle.its_plain.specs.Arguments.{input};
-ghost use Rattle.its_plain.specs.CallCore.{corblk, has_page, is_amiss, page_changed, pages_of};
-ghost use Rattle.its_plain.specs.Decide.{call_named};
+ghost use Rattle.its_plain.specs.Call.Arguments.{input};
+ghost use Rattle.its_plain.specs.Call.Core.{corblk, has_page, is_amiss, page_changed, pages_of};
+ghost use Rattle.its_plain.specs.Call.Decide.{call_named};
 ghost use Rattle.its_plain.specs.Machine.{mapped};
 ghost use Rattle.its_stepped.specs.Forest.{Forest};
 ghost use Rattle.its_world.specs.Tidy.{Tidy};
@@ -16,23 +16,15 @@ ghost use Rattle.call_basic.specs.Seen.{seen_by};
 use arrayvec::ArrayVec;
 use call_basic::{channel, fails, finishes_with, input, is_oneself};
 use its_frame::{Change, Decision, error};
+use its_plain::{HIGHEST_OPERATION, HIGHEST_PAGE};
 use its_records::{Ask, Channel, Job};
-use its_word::Slot;
+use its_word::{MAPPED_PAGES, Slot};
 use its_world::World;
-
-/// The highest operation.
-const OPERATIONS: u64 = 3;
-
-/// The highest page.
-const PAGES: u64 = 0o377;
-
-/// How many pages all jobs have at most.
-const MAPPED: u32 = 1024;
 
 /// CORBLK operation, job, page: drops a page (0), makes one of zeros (1), or makes it read only (2)
 /// or writable (3). Errors 22, 4, 5; 22 by the page, 16 if it exists, for operation 1, or is
 /// absent, for any other; 15 if all jobs together have 1024 pages.
-#[tactic(auto, using(its_machine::proofs::NumberLaws::under, crate::proofs::OtherLaws::other_few), unfolding(its_plain::specs::CallCore::corblk, its_plain::specs::View::view, its_world::specs::World::state_of))]
+#[tactic(auto, using(crate::proofs::Groups::corblk_laws), unfolding(its_plain::specs::Call::Core::corblk, its_plain::specs::Machine::View::view, its_world::specs::World::state_of))]
 pub(crate) fn corblk(w: &World, slot: Slot, job: &Job, ask: &Ask) -> Decision
     requires fail { ask.now.fail ≡ 0 }
     requires name { call_named ask.now.name ≡ Some Corblk }
@@ -42,7 +34,7 @@ pub(crate) fn corblk(w: &World, slot: Slot, job: &Job, ask: &Ask) -> Decision
     ensures { result ≡ corblk (seen_by w.now slot job.now ask.now) ask.now }
 {
     let party = input(ask, 1);
-    if input(ask, 0).value() > OPERATIONS {
+    if input(ask, 0).value() > HIGHEST_OPERATION {
         return fails(job, ask, error::OUT_OF_RANGE);
     }
     if is_oneself(party) {
@@ -60,14 +52,14 @@ pub(crate) fn corblk(w: &World, slot: Slot, job: &Job, ask: &Ask) -> Decision
 }
 
 /// The operation on a page of the job of a slot.
-#[tactic(auto, unfolding(its_plain::specs::View::view, its_world::specs::World::state_of))]
+#[tactic(auto, unfolding(its_plain::specs::Machine::View::view, its_world::specs::World::state_of))]
 fn pages_of(w: &World, slot: Slot, job: &Job, ask: &Ask, target: Slot) -> Decision
     requires tidy { Tidy w.now }
     ensures { result ≡ pages_of (seen_by w.now slot job.now ask.now) ask.now (input ask.now 0) target (core_at w.now.core target) (input ask.now 2) }
 {
     let operation = input(ask, 0).value();
     let page = input(ask, 2).value();
-    if page > PAGES {
+    if page > HIGHEST_PAGE {
         return fails(job, ask, error::OUT_OF_RANGE);
     }
     let page = page as u8;
@@ -101,7 +93,7 @@ fn is_full(w: &World) -> bool
     requires { Tidy w.now }
     ensures { result ≡ not (nat_lt (mapped (state_of w.now).raw) most_pages) }
 {
-    w.core.mapped() >= MAPPED
+    w.core.mapped() >= MAPPED_PAGES
 }
 
 /// What an operation does to a page.

@@ -1,3 +1,4 @@
 pub mod RawLaws
 pub mod HeldLaws
 pub mod SeenLaws
+pub mod Groups

@@ -6,14 +6,14 @@ use Rattle.its_records.specs.declared.calls.Ask.{Ask}
 use Rattle.its_records.specs.declared.jobs.Job.{Job}
 use Rattle.its_files.specs.Files.{IsStore, directory, found, words_at}
 use Rattle.its_plain.specs.Machine.{Names}
-use Rattle.its_plain.specs.CallFile.{channels_in, is_full as has_no_room, is_read}
-use Rattle.its_plain.specs.View.{view}
+use Rattle.its_plain.specs.Call.File.{channels_in, is_full as has_no_room, is_read}
+use Rattle.its_plain.specs.Machine.View.{view}
 use Rattle.its_world.specs.Tidy.{Tidy, channel_at}
 use Rattle.its_world.specs.World.{chan_of, state_of}
 use Rattle.its_world.specs.declared.world.World.{World}
-use Rattle.its_machine.proofs.StandLaws.{read_is, reader_found}
-use Rattle.its_machine.proofs.RoomLaws.{full_on}
-use Rattle.its_machine.proofs.SeenLaws.{chan_seen}
+use Rattle.its_shared.proofs.StandLaws.{read_is, reader_found}
+use Rattle.its_shared.proofs.RoomLaws.{full_on}
+use Rattle.its_shared.proofs.SeenLaws.{chan_seen}
 use Rattle.call_basic.specs.Seen.{seen_by}
 use Rattle.call_file.specs.Held.{has_readers}
 
@@ -37,7 +37,9 @@ pub seen_read : (w : World) (s : ℕ) (j : Job) (a : Ask) (names : Names) → Ti
 seen_read w s j a names t whole = ap (is_read names) (seen_channels w s j a) ∙ read_by w names (found w.files names) t whole refl
 
 -- whether there is no room for a word more, if no close is marked
-pub seen_full : (w : World) (s : ℕ) (j : Job) (a : Ask) (d : ℕ) → Tidy w → IsStore w.files → length (free_blocks w.files.stored.chains) + blocks_used w.files.stored ≡ blocks → w.files.mark ≡ None
+pub seen_full : (w : World) (s : ℕ) (j : Job) (a : Ask) (d : ℕ) → Tidy w → IsStore w.files
+    → length (free_blocks w.files.stored.chains) + blocks_used w.files.stored ≡ blocks → w.files.mark ≡ None
     → is_full w.files.stored d ≡ has_no_room (directory w.files) (channels_in (seen_by w s j a)) (words_at w.files d)
 seen_full w s j a d t whole sum none =
-    full_on w.files whole none w.jobs d t.across (omega arith) ∙ sym (ap (λ cs. has_no_room (directory w.files) cs (words_at w.files d)) (seen_channels w s j a))
+    full_on w.files whole none w.jobs d t.across (omega arith)
+    ∙ sym (ap (λ cs. has_no_room (directory w.files) cs (words_at w.files d)) (seen_channels w s j a))

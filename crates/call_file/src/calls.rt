@@ -1,16 +1,16 @@
 //! Which calls are those on files.
 ghost use Rattle.std.specs.Prelude.{◌≡◌, ◌==◌, IfSome};
-ghost use Rattle.its_plain.specs.Arguments.{input};
-ghost use Rattle.its_plain.specs.CallFile.{disk_device};
+ghost use Rattle.its_plain.specs.Call.Arguments.{input};
+ghost use Rattle.its_plain.specs.Call.File.{disk_device};
 ghost use Rattle.its_stepped.specs.Tick.{helps};
 ghost use Rattle.its_world.specs.World.{raw_in};
-ghost use Rattle.its_machine.specs.Called.{channel_under};
+ghost use Rattle.its_shared.specs.Called.{channel_under};
 ghost use Rattle.call_basic.specs.Seen.{raw_with};
 ghost use Rattle.call_file.specs.Held.{is_on_file};
 
-use super::directory::DSK;
 use call_basic::{channel, input};
 use its_frame::{CallName, OnFiles};
+use its_plain::DSK;
 use its_records::{Ask, Channel, Job};
 use its_word::Slot;
 use its_world::World;

@@ -3,17 +3,18 @@ ghost use Rattle.std.specs.Prelude.{◌≡◌, ◌==◌, ◌<◌, [], Some, true
 ghost use Rattle.its_frame.specs.declared.decision.Decision.TheVariants.{Ends};
 ghost use Rattle.its_files.specs.Files.{entry_at, file_at, is_draft, is_file, names_at, words_at};
 ghost use Rattle.its_jobs.specs.Table.{job_at};
-ghost use Rattle.its_plain.specs.Arguments.{input};
-ghost use Rattle.its_plain.specs.CallFile.{access, access_on, access_to, closes_draft, fillen, fillen_on, opens_as, opens_disk};
+ghost use Rattle.its_plain.specs.Call.Arguments.{input};
+ghost use Rattle.its_plain.specs.Call.File.{access, access_on, access_to, closes_draft, fillen, fillen_on, opens_as, opens_disk};
 ghost use Rattle.its_plain.specs.Machine.{Reads};
-ghost use Rattle.its_plain.specs.Own.{with_advance, exit_of};
-ghost use Rattle.its_plain.specs.Tests.{out};
+ghost use Rattle.its_plain.specs.Machine.Own.{with_advance, exit_of};
+ghost use Rattle.its_plain.specs.Call.Tests.{out};
 ghost use Rattle.its_world.specs.Tidy.{Tidy};
 ghost use Rattle.call_basic.specs.Seen.{seen_by};
 
 use super::directory::{has_file, is_read, names_from};
 use arrayvec::ArrayVec;
 use call_basic::{channel, control, fails, finishes, finishes_with, input, is_free, store_at};
+use its_files::MOST_FILES;
 use its_frame::{Change, Decision, Opened, error};
 use its_records::{Ask, Channel, Job};
 use its_word::{ADDRESSES, Slot, Word};
@@ -22,12 +23,9 @@ use its_world::World;
 /// The position at which a channel on an inferior is at its end, after word 777777 (octal).
 const END_OF_CORE: u32 = ADDRESSES;
 
-/// How many files there are at most.
-const FILES: u32 = 256;
-
 /// OPEN channel, DSK, name 1, name 2, directory: a file for input, or a new draft with control 1.
 /// Errors 4, 22, 6.
-#[tactic(auto, using(call_basic::proofs::ChannelLaws::free), unfolding(its_plain::specs::CallFile::opens_disk, its_plain::specs::View::view, its_world::specs::World::state_of))]
+#[tactic(auto, using(call_basic::proofs::ChannelLaws::free), unfolding(its_plain::specs::Call::File::opens_disk, its_plain::specs::Machine::View::view, its_world::specs::World::state_of))]
 pub fn open_disk(w: &World, slot: Slot, job: &Job, ask: &Ask) -> Decision
     ensures { result ≡ opens_disk (seen_by w.now slot job.now ask.now) ask.now }
 {
@@ -62,7 +60,7 @@ fn opened(control: u64, d: Word, x: Word, y: Word) -> Opened
 
 /// CLOSE of a draft. Errors 11 if a channel reads the file that it would replace, 7 if it replaces
 /// none and there are 256 files.
-#[tactic(auto, using(its_files::proofs::EntryLaws::draft_stands, its_machine::proofs::SeenLaws::seen_count), unfolding(its_plain::specs::CallFile::closes_draft, its_plain::specs::View::view, its_world::specs::World::state_of))]
+#[tactic(auto, using(crate::proofs::Groups::close_draft_laws), unfolding(its_plain::specs::Call::File::closes_draft, its_plain::specs::Machine::View::view, its_world::specs::World::state_of))]
 pub fn close_draft(w: &World, slot: Slot, job: &Job, ask: &Ask, draft: u32) -> Decision
     requires number { input ask.now 0 < 16 }
     requires draft { is_draft (entry_at w.now.files draft) ≡ true }
@@ -73,7 +71,7 @@ pub fn close_draft(w: &World, slot: Slot, job: &Job, ask: &Ask, draft: u32) -> D
     if is_read(w, slot, job, ask, names) {
         return fails(job, ask, error::FILE_LOCKED);
     }
-    if !has_file(w, names) && w.files.count() >= FILES {
+    if !has_file(w, names) && w.files.count() >= MOST_FILES {
         return fails(job, ask, error::DIRECTORY_FULL);
     }
     let change = Change::Close {
@@ -84,7 +82,7 @@ pub fn close_draft(w: &World, slot: Slot, job: &Job, ask: &Ask, draft: u32) -> D
 
 /// ACCESS channel, position: the next word that a file gives, or that a channel on an inferior is
 /// at. Errors 4, 5, 22 if the position is past the end.
-#[tactic(auto, using(crate::proofs::HeldLaws::reading), unfolding(its_plain::specs::CallFile::access, its_plain::specs::View::view, its_world::specs::World::state_of))]
+#[tactic(auto, using(crate::proofs::HeldLaws::reading), unfolding(its_plain::specs::Call::File::access, its_plain::specs::Machine::View::view, its_world::specs::World::state_of))]
 pub fn access(w: &World, slot: Slot, job: &Job, ask: &Ask) -> Decision
     requires job { job_at w.now.jobs slot ≡ Some job.now }
     requires tidy { Tidy w.now }
@@ -99,7 +97,7 @@ pub fn access(w: &World, slot: Slot, job: &Job, ask: &Ask) -> Decision
 }
 
 /// The position of a channel that reads a file is set.
-#[tactic(auto, using(its_machine::proofs::SeenLaws::seen_words, its_files::proofs::EntryLaws::file_stands), unfolding(its_plain::specs::View::view, its_world::specs::World::state_of))]
+#[tactic(auto, using(its_shared::proofs::SeenLaws::seen_words, its_files::proofs::EntryLaws::file_stands), unfolding(its_plain::specs::Machine::View::view, its_world::specs::World::state_of))]
 fn moved(w: &World, slot: Slot, job: &Job, ask: &Ask, file: u32, was: u32) -> Decision
     requires number { input ask.now 0 < 16 }
     requires file { is_file (entry_at w.now.files file) ≡ true }
@@ -110,7 +108,7 @@ fn moved(w: &World, slot: Slot, job: &Job, ask: &Ask, file: u32, was: u32) -> De
 }
 
 /// The position of a channel is set, which is at most this. Error 22 if it is above.
-#[tactic(auto, unfolding(its_plain::specs::View::view, its_world::specs::World::state_of))]
+#[tactic(auto, unfolding(its_plain::specs::Machine::View::view, its_world::specs::World::state_of))]
 fn access_to(w: &World, slot: Slot, job: &Job, ask: &Ask, most: u32) -> Decision
     requires { input ask.now 0 < 16 }
     ensures { result ≡ access_to (seen_by w.now slot job.now ask.now) ask.now most }
@@ -127,7 +125,7 @@ fn access_to(w: &World, slot: Slot, job: &Job, ask: &Ask, most: u32) -> Decision
 }
 
 /// FILLEN channel: how many words a file or a draft has. Errors 4, 5.
-#[tactic(auto, using(crate::proofs::HeldLaws::reading, crate::proofs::HeldLaws::writing, its_files::proofs::EntryLaws::draft_stands), unfolding(its_plain::specs::CallFile::fillen, its_plain::specs::View::view, its_world::specs::World::state_of))]
+#[tactic(auto, using(crate::proofs::Groups::fillen_laws), unfolding(its_plain::specs::Call::File::fillen, its_plain::specs::Machine::View::view, its_world::specs::World::state_of))]
 pub fn fillen(w: &World, slot: Slot, job: &Job, ask: &Ask) -> Decision
     requires job { job_at w.now.jobs slot ≡ Some job.now }
     requires tidy { Tidy w.now }
@@ -142,7 +140,7 @@ pub fn fillen(w: &World, slot: Slot, job: &Job, ask: &Ask) -> Decision
 }
 
 /// The length of a file is the output.
-#[tactic(auto, using(its_files::proofs::EntryLaws::file_stands, its_machine::proofs::SeenLaws::seen_words), unfolding(its_plain::specs::View::view, its_world::specs::World::state_of))]
+#[tactic(auto, using(its_files::proofs::EntryLaws::file_stands, its_shared::proofs::SeenLaws::seen_words), unfolding(its_plain::specs::Machine::View::view, its_world::specs::World::state_of))]
 fn file_measured(w: &World, slot: Slot, job: &Job, ask: &Ask, file: u32, at: u32) -> Decision
     requires { is_file (entry_at w.now.files file) ≡ true }
     ensures { result ≡ fillen_on (seen_by w.now slot job.now ask.now) ask.now (Reads (names_at w.now.files file) at) }

@@ -1,21 +1,19 @@
 //! DELETE and RENAME.
 ghost use Rattle.std.specs.Prelude.{◌≡◌, ◌<◌};
 ghost use Rattle.its_files.specs.Files.{directory, found};
-ghost use Rattle.its_plain.specs.CallFile.{channels_in, delete, file_tests, has_file, is_read, names_from, rename};
+ghost use Rattle.its_plain.specs.Call.File.{channels_in, delete, file_tests, has_file, is_read, names_from, rename};
 ghost use Rattle.its_world.specs.Tidy.{Tidy};
-ghost use Rattle.its_machine.specs.Called.{first_of};
+ghost use Rattle.its_shared.specs.Called.{first_of};
 ghost use Rattle.call_basic.specs.Seen.{seen_by};
 ghost use Rattle.call_file.specs.Held.{has_readers};
 
 use arrayvec::ArrayVec;
 use call_basic::{fails, finishes_with, input};
 use its_frame::{Change, Decision, error};
+use its_plain::DSK;
 use its_records::{Ask, Job};
 use its_word::{Slot, Word};
 use its_world::World;
-
-/// The device of files, in SIXBIT.
-pub(crate) const DSK: u64 = 0o446353000000;
 
 /// The directory, name 1 and name 2 of a file: the two names and the directory are the arguments
 /// from k on.
@@ -27,7 +25,7 @@ pub(crate) fn names_from(ask: &Ask, k: usize) -> [Word; 3]
 }
 
 /// The number of the file with these names.
-#[tactic(auto, using(its_machine::proofs::SeenLaws::three))]
+#[tactic(auto, using(its_shared::proofs::SeenLaws::three))]
 fn find(w: &World, names: [Word; 3]) -> Option<u32>
     ensures { result ≡ found w.now.files names }
 {
@@ -35,7 +33,7 @@ fn find(w: &World, names: [Word; 3]) -> Option<u32>
 }
 
 /// Whether there is a file with these names.
-#[tactic(auto, using(its_machine::proofs::StoreLaws::has_named))]
+#[tactic(auto, using(its_shared::proofs::StoreLaws::has_named))]
 pub(crate) fn has_file(w: &World, names: [Word; 3]) -> bool
     ensures { result ≡ has_file names (directory w.now.files) }
 {
@@ -64,7 +62,7 @@ fn has_readers(w: &World, file: Option<u32>) -> bool
 
 /// Why a file is neither deleted nor renamed: error 5 if the device is not DSK, 6 if there is no
 /// such file, 11 if a channel reads it.
-#[tactic(auto, unfolding(its_plain::specs::View::view, its_world::specs::World::state_of))]
+#[tactic(auto, unfolding(its_plain::specs::Machine::View::view, its_world::specs::World::state_of))]
 fn barred(w: &World, slot: Slot, job: &Job, ask: &Ask) -> Option<Decision>
     requires { Tidy w.now }
     ensures { result ≡ first_of (file_tests (seen_by w.now slot job.now ask.now) ask.now (names_from ask.now 1)) }
@@ -83,7 +81,7 @@ fn barred(w: &World, slot: Slot, job: &Job, ask: &Ask) -> Option<Decision>
 }
 
 /// DELETE device, name 1, name 2, directory. Errors 5, 6, 11.
-#[tactic(auto, unfolding(its_plain::specs::CallFile::delete, its_plain::specs::View::view, its_world::specs::World::state_of))]
+#[tactic(auto, unfolding(its_plain::specs::Call::File::delete, its_plain::specs::Machine::View::view, its_world::specs::World::state_of))]
 pub fn delete(w: &World, slot: Slot, job: &Job, ask: &Ask) -> Decision
     requires { Tidy w.now }
     ensures { result ≡ delete (seen_by w.now slot job.now ask.now) ask.now }
@@ -101,7 +99,7 @@ pub fn delete(w: &World, slot: Slot, job: &Job, ask: &Ask) -> Decision
 
 /// RENAME device, name 1, name 2, directory, new name 1, new name 2. Errors 5, 6, 11, and 23 if a
 /// file of the directory has the new names, itself included.
-#[tactic(auto, unfolding(its_plain::specs::CallFile::rename, its_plain::specs::View::view, its_world::specs::World::state_of))]
+#[tactic(auto, unfolding(its_plain::specs::Call::File::rename, its_plain::specs::Machine::View::view, its_world::specs::World::state_of))]
 pub fn rename(w: &World, slot: Slot, job: &Job, ask: &Ask) -> Decision
     requires { Tidy w.now }
     ensures { result ≡ rename (seen_by w.now slot job.now ask.now) ask.now }

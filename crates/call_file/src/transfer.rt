@@ -2,28 +2,26 @@
 ghost use Rattle.std.specs.Prelude.{◌≡◌, ◌<◌, ◌-◌, ◌^◌, ◌∷◌, [], None, IfSome, true, slice_get, slice_index_or};
 ghost use Rattle.its_word.specs.Byte.{has_size};
 ghost use Rattle.its_files.specs.Files.{directory, entry_at, file_at, is_draft, is_file, names_at};
-ghost use Rattle.its_plain.specs.Arguments.{input};
-ghost use Rattle.its_plain.specs.CallFile.{file_named, iot_reads, iot_writes, siot_read, siot_reads, siot_write, siot_writes, words_by, words_of};
-ghost use Rattle.its_plain.specs.Transfer.{next_pointer};
+ghost use Rattle.its_plain.specs.Call.Arguments.{input};
+ghost use Rattle.its_plain.specs.Call.File.{file_named, iot_reads, iot_writes, siot_read, siot_reads, siot_write, siot_writes, words_by, words_of};
+ghost use Rattle.its_plain.specs.Call.Transfer.{next_pointer};
 ghost use Rattle.its_world.specs.Tidy.{Tidy};
 ghost use Rattle.call_basic.specs.Parts.{part_of};
 ghost use Rattle.call_basic.specs.Seen.{seen_by};
 
 use arrayvec::ArrayVec;
 use call_basic::{
-    Moved, Part, Stop, bar_of_store, faults, input, ioc, iot_ends, next_byte, one_less,
+    Moved, NextByte, Stop, bar_of_store, faults, input, ioc, iot_ends, next_byte, one_less,
 };
 use its_bytes::load;
 use its_frame::{Change, Decision, Held, Store, error};
+use its_plain::END_OF_FILE;
 use its_records::{Ask, Job};
 use its_word::{Fault, Slot, Word};
 use its_world::World;
 
-/// What `.IOT` gets at the end of a file.
-const END_OF_FILE: u64 = 0o777777000003;
-
 /// The word of a file at a position; None at its end.
-#[tactic(auto, using(its_machine::proofs::SeenLaws::seen_words, its_machine::proofs::SeenLaws::few_words))]
+#[tactic(auto, using(its_shared::proofs::SeenLaws::seen_words, its_shared::proofs::SeenLaws::few_words))]
 fn word_at(w: &World, file: u32, at: u32) -> Option<Word>
     requires { is_file (entry_at w.now.files file) ≡ true }
     ensures word { result ≡ slice_get (words_by (file_named (names_at w.now.files file) (directory w.now.files))) at }
@@ -35,7 +33,7 @@ fn word_at(w: &World, file: u32, at: u32) -> Option<Word>
 
 /// `.IOT` from a file: the word at its position, which is then one more; 777777000003 at its end.
 /// MPV or WRO by the word at E.
-#[tactic(auto, unfolding(its_plain::specs::View::view, its_world::specs::World::state_of))]
+#[tactic(auto, unfolding(its_plain::specs::Machine::View::view, its_world::specs::World::state_of))]
 pub fn iot_reads(w: &World, slot: Slot, job: &Job, ask: &Ask, file: u32, at: u32) -> Decision
     requires number { input ask.now 0 < 16 }
     requires file { is_file (entry_at w.now.files file) ≡ true }
@@ -68,7 +66,7 @@ fn one_store(at: u32, word: Word) -> ArrayVec<Store, 2>
 }
 
 /// `.IOT` to a draft: the word at E is appended. MPV by that word; IOC if there is no room.
-#[tactic(auto, using(crate::proofs::SeenLaws::seen_full, its_files::proofs::EntryLaws::draft_stands), unfolding(its_plain::specs::View::view, its_world::specs::World::state_of))]
+#[tactic(auto, using(crate::proofs::SeenLaws::seen_full, its_files::proofs::EntryLaws::draft_stands), unfolding(its_plain::specs::Machine::View::view, its_world::specs::World::state_of))]
 pub fn iot_writes(w: &World, slot: Slot, job: &Job, ask: &Ask, draft: u32) -> Decision
     requires number { input ask.now 0 < 16 }
     requires draft { is_draft (entry_at w.now.files draft) ≡ true }
@@ -93,7 +91,7 @@ pub fn iot_writes(w: &World, slot: Slot, job: &Job, ask: &Ask, draft: u32) -> De
 
 /// SIOT from a file: the word at its position is held, and stored by the next step.
 #[inline(always)]
-#[tactic(auto, unfolding(its_plain::specs::View::view, its_world::specs::World::state_of))]
+#[tactic(auto, unfolding(its_plain::specs::Machine::View::view, its_world::specs::World::state_of))]
 pub fn siot_reads(
     w: &World,
     slot: Slot,
@@ -101,7 +99,7 @@ pub fn siot_reads(
     ask: &Ask,
     file: u32,
     at: u32,
-) -> Result<Part, Stop>
+) -> Result<NextByte, Stop>
     requires number { input ask.now 0 < 16 }
     requires file { is_file (entry_at w.now.files file) ≡ true }
     ensures { part_of job.now ask.now result ≡ siot_reads (seen_by w.now slot job.now ask.now) ask.now (input ask.now 0) at (slice_get (words_of (seen_by w.now slot job.now ask.now) (names_at w.now.files file)) at) }
@@ -116,7 +114,7 @@ pub fn siot_reads(
 /// SIOT from a file once no test stops it: the word at its position is held, with the pointer and
 /// the count of the rest.
 #[inline(always)]
-#[tactic(auto, unfolding(its_plain::specs::View::view, its_world::specs::World::state_of))]
+#[tactic(auto, unfolding(its_plain::specs::Machine::View::view, its_world::specs::World::state_of))]
 fn siot_read(
     w: &World,
     slot: Slot,
@@ -125,7 +123,7 @@ fn siot_read(
     next: Word,
     at: u32,
     word: Word,
-) -> Result<Part, Stop>
+) -> Result<NextByte, Stop>
     requires number { input ask.now 0 < 16 }
     requires few { at < 2 ^ 18 }
     ensures { part_of job.now ask.now result ≡ siot_read (seen_by w.now slot job.now ask.now) next (input ask.now 2) (input ask.now 0) at word }
@@ -134,7 +132,7 @@ fn siot_read(
     if let Some(fault) = bar_of_store(w, slot, place) {
         return Err(Stop::Faults(fault));
     }
-    Ok(Part {
+    Ok(NextByte {
         moved: Moved::Move {
             channel: input(ask, 0).value() as u8,
             at: at + 1,
@@ -147,8 +145,14 @@ fn siot_read(
 
 /// SIOT to a draft. Error 10 if there is no room.
 #[inline(always)]
-#[tactic(auto, using(its_plain::proofs::SizeLaws::next_sized), unfolding(its_plain::specs::View::view, its_world::specs::World::state_of))]
-pub fn siot_writes(w: &World, slot: Slot, job: &Job, ask: &Ask, draft: u32) -> Result<Part, Stop>
+#[tactic(auto, using(its_plain::proofs::SizeLaws::next_sized), unfolding(its_plain::specs::Machine::View::view, its_world::specs::World::state_of))]
+pub fn siot_writes(
+    w: &World,
+    slot: Slot,
+    job: &Job,
+    ask: &Ask,
+    draft: u32,
+) -> Result<NextByte, Stop>
     requires number { input ask.now 0 < 16 }
     requires draft { is_draft (entry_at w.now.files draft) ≡ true }
     requires unmarked { w.now.files.mark ≡ None }
@@ -164,7 +168,7 @@ pub fn siot_writes(w: &World, slot: Slot, job: &Job, ask: &Ask, draft: u32) -> R
 /// SIOT to a draft once no test stops it: the byte becomes a word at its end. Error 10 if there is
 /// no room.
 #[inline(always)]
-#[tactic(auto, using(its_machine::proofs::StopLaws::loaded_fits, crate::proofs::SeenLaws::seen_full, its_files::proofs::EntryLaws::draft_stands), unfolding(its_plain::specs::View::view, its_world::specs::World::state_of))]
+#[tactic(auto, using(crate::proofs::Groups::siot_write_laws), unfolding(its_plain::specs::Machine::View::view, its_world::specs::World::state_of))]
 fn siot_write(
     w: &World,
     slot: Slot,
@@ -172,7 +176,7 @@ fn siot_write(
     ask: &Ask,
     next: Word,
     draft: u32,
-) -> Result<Part, Stop>
+) -> Result<NextByte, Stop>
     requires number { input ask.now 0 < 16 }
     requires size { has_size next ≡ true }
     requires draft { is_draft (entry_at w.now.files draft) ≡ true }
@@ -187,7 +191,7 @@ fn siot_write(
     if w.files.is_full(draft) {
         return Err(Stop::Fails(error::DEVICE_FULL));
     }
-    Ok(Part {
+    Ok(NextByte {
         moved: Moved::Append {
             channel: input(ask, 0).value() as u8,
             word: Word::new(load(next, word)),

@@ -4,27 +4,30 @@ use Rattle.std.proofs.Common.{sym, ◌∙◌, ap, subst}
 use Rattle.std.proofs.lemmas.Bool.{le-ltb}
 use Rattle.its_records.specs.declared.calls.Ask.{Ask}
 use Rattle.its_records.specs.declared.jobs.Job.{Job}
-use Rattle.its_plain.specs.Arguments.{input}
-use Rattle.its_plain.specs.CallBasic.{channel_at, is_shut}
-use Rattle.its_plain.specs.CallLink.{link_named, link_tests, opens_end, opens_link}
-use Rattle.its_plain.specs.View.{View, view}
+use Rattle.its_plain.specs.Call.Arguments.{input}
+use Rattle.its_plain.specs.Call.Basic.{channel_at, is_shut}
+use Rattle.its_plain.specs.Call.Link.{link_named, link_tests, opens_end, opens_link}
+use Rattle.its_plain.specs.Machine.View.{View, view}
 use Rattle.its_world.specs.declared.world.World.{World}
-use Rattle.its_machine.specs.Called.{first_of}
+use Rattle.its_shared.specs.Called.{first_of}
 use Rattle.call_basic.specs.Seen.{seen_by}
 use Rattle.call_basic.specs.Channels.{is_free}
 use Rattle.call_basic.proofs.ChannelLaws.{free}
-use Rattle.its_machine.proofs.StopLaws.{unstopped}
+use Rattle.its_shared.proofs.StopLaws.{unstopped}
 
 -- the channel is free, and the control argument is 0 or 1
 seen_free : (w : World) (s : ℕ) (j : Job) (a : Ask) (n : ℕ) → is_free j n ≡ (nat_lt n 16 && is_shut (channel_at (seen_by w s j a).own.channels n))
 unfolding view
 seen_free w s j a n = free w.files j n
 
-no_test : (v : View) (a : Ask) (n control : ℕ) → (nat_lt n 16 && is_shut (channel_at v.own.channels n)) ≡ true → control ≤ 1 → first_of (link_tests v a n control) ≡ None
+no_test : (v : View) (a : Ask) (n control : ℕ) → (nat_lt n 16 && is_shut (channel_at v.own.channels n)) ≡ true → control ≤ 1
+    → first_of (link_tests v a n control) ≡ None
 no_test v a n control f l = let low = le-ltb 1 control l in rw (f, low) refl
 
-pub opens_goes : (w : World) (s : ℕ) (j : Job) (a : Ask) (n control : ℕ) → n ≡ input a 0 → control ≡ unwrap_or a.control 0 → is_free j (input a 0) ≡ true → control ≤ 1
-    → opens_end (seen_by w s j a) a n (control == 1) (input a 2) (input a 3) (link_named (seen_by w s j a).links (input a 2) (input a 3)) ≡ opens_link (seen_by w s j a) a
+pub opens_goes : (w : World) (s : ℕ) (j : Job) (a : Ask) (n control : ℕ) → n ≡ input a 0 → control ≡ unwrap_or a.control 0
+    → is_free j (input a 0) ≡ true → control ≤ 1
+    → opens_end (seen_by w s j a) a n (control == 1) (input a 2) (input a 3)
+    (link_named (seen_by w s j a).links (input a 2) (input a 3)) ≡ opens_link (seen_by w s j a) a
 unfolding opens_link
 opens_goes w s j a n control en ec f l =
     let v = seen_by w s j a in

@@ -2,23 +2,21 @@
 ghost use Rattle.std.specs.Prelude.{◌≡◌, ◌==◌, ◌<◌, ◌∷◌, []};
 ghost use Rattle.its_records.specs.Links.{is_unopened, link_end, most_links};
 ghost use Rattle.its_records.specs.Tree.{least_free};
-ghost use Rattle.its_frame.specs.declared.change.Change.TheVariants.{Join, Part};
+ghost use Rattle.its_frame.specs.declared.change.Change.TheVariants.{Join, CloseEnd};
 ghost use Rattle.its_frame.specs.declared.decision.Decision.TheVariants.{Ends};
-ghost use Rattle.its_plain.specs.Arguments.{input};
-ghost use Rattle.its_plain.specs.CallLink.{can_open, link_device, link_named, makes_link, opens_end, opens_link};
-ghost use Rattle.its_plain.specs.Own.{with_advance, exit_of};
+ghost use Rattle.its_plain.specs.Call.Arguments.{input};
+ghost use Rattle.its_plain.specs.Call.Link.{can_open, link_device, link_named, makes_link, opens_end, opens_link};
+ghost use Rattle.its_plain.specs.Machine.Own.{with_advance, exit_of};
 ghost use Rattle.its_pipes.specs.Pipes.{piped};
 ghost use Rattle.call_basic.specs.Seen.{seen_by};
 
 use arrayvec::ArrayVec;
 use call_basic::{control, fails, finishes_with, input, is_free};
 use its_frame::{Change, Decision, error};
+use its_plain::LNK;
 use its_records::{Ask, End, Job, Link};
 use its_word::Slot;
 use its_world::World;
-
-/// The device of links, in SIXBIT.
-const LNK: u64 = 0o545653000000;
 
 /// Whether the device of OPEN is LNK.
 pub fn is_link(ask: &Ask) -> bool
@@ -30,7 +28,7 @@ pub fn is_link(ask: &Ask) -> bool
 /// OPEN channel, LNK, name 1, name 2: the reading end, or with control 1 the writing end, of the
 /// link with these names. Errors 4, 22; 24 if the end is open or was open, 25 if no link has the
 /// names and there are 16.
-#[tactic(auto, using(call_basic::proofs::ChannelLaws::free), unfolding(its_plain::specs::CallLink::opens_link, its_plain::specs::View::view, its_world::specs::World::state_of))]
+#[tactic(auto, using(call_basic::proofs::ChannelLaws::free), unfolding(its_plain::specs::Call::Link::opens_link, its_plain::specs::Machine::View::view, its_world::specs::World::state_of))]
 pub fn open_link(w: &World, slot: Slot, job: &Job, ask: &Ask) -> Decision
     ensures { result ≡ opens_link (seen_by w.now slot job.now ask.now) ask.now }
 {
@@ -47,7 +45,7 @@ pub fn open_link(w: &World, slot: Slot, job: &Job, ask: &Ask) -> Decision
 
 /// The end with the names of OPEN is opened, if nobody has opened it before; without a link of
 /// these names one is made.
-#[tactic(auto, unfolding(its_plain::specs::View::view, its_world::specs::World::state_of))]
+#[tactic(auto, unfolding(its_plain::specs::Machine::View::view, its_world::specs::World::state_of))]
 fn opens_end(w: &World, slot: Slot, job: &Job, ask: &Ask, n: u8, write: bool) -> Decision
     ensures { result ≡ opens_end (seen_by w.now slot job.now ask.now) ask.now n write (input ask.now 2) (input ask.now 3) (link_named (seen_by w.now slot job.now ask.now).links (input ask.now 2) (input ask.now 3)) }
 {
@@ -59,7 +57,7 @@ fn opens_end(w: &World, slot: Slot, job: &Job, ask: &Ask, n: u8, write: bool) ->
 }
 
 /// A link with the names of OPEN is made under the least number that has none, and its end opened.
-#[tactic(auto, unfolding(its_plain::specs::View::view, its_world::specs::World::state_of))]
+#[tactic(auto, unfolding(its_plain::specs::Machine::View::view, its_world::specs::World::state_of))]
 fn makes_link(w: &World, slot: Slot, job: &Job, ask: &Ask, n: u8, write: bool) -> Decision
     ensures { result ≡ makes_link (seen_by w.now slot job.now ask.now) ask.now n write (input ask.now 2) (input ask.now 3) (least_free most_links (seen_by w.now slot job.now ask.now).links) }
 {
@@ -110,9 +108,9 @@ fn is_unopened(end: End) -> bool
 /// CLOSE of a channel on a link: the end is closed with it.
 pub fn close_end(job: &Job, ask: &Ask, link: u8, write: bool) -> Decision
     requires { input ask.now 0 < 16 }
-    ensures { result ≡ Ends (record { items = Part (input ask.now 0) link write ∷ [] }) (record { items = [] }) (exit_of (with_advance 2 job.now)) }
+    ensures { result ≡ Ends (record { items = CloseEnd (input ask.now 0) link write ∷ [] }) (record { items = [] }) (exit_of (with_advance 2 job.now)) }
 {
-    let change = Change::Part {
+    let change = Change::CloseEnd {
         channel: input(ask, 0).value() as u8,
         link,
         write,

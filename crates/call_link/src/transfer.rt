@@ -1,24 +1,23 @@
 //! `.IOT` and SIOT on links: whole words, or bytes that become words.
 ghost use Rattle.std.specs.Prelude.{◌≡◌, true, slice_index_or};
 ghost use Rattle.its_word.specs.Byte.{has_size};
-ghost use Rattle.its_plain.specs.Arguments.{input};
-ghost use Rattle.its_plain.specs.CallLink.{iot_linked, iot_receives, iot_sends, siot_linked, siot_receive, siot_receives, siot_send, siot_sends};
-ghost use Rattle.its_plain.specs.Transfer.{next_pointer};
+ghost use Rattle.its_plain.specs.Call.Arguments.{input};
+ghost use Rattle.its_plain.specs.Call.Link.{iot_linked, iot_receives, iot_sends, siot_linked, siot_receive, siot_receives, siot_send, siot_sends};
+ghost use Rattle.its_plain.specs.Call.Transfer.{next_pointer};
 ghost use Rattle.call_basic.specs.Parts.{part_of};
 ghost use Rattle.call_basic.specs.Seen.{seen_by};
 
 use arrayvec::ArrayVec;
 use call_basic::{
-    Moved, Part, Stop, bar_of_store, faults, input, ioc, iot_ends, next_byte, one_less, store_at,
+    Moved, NextByte, Stop, bar_of_store, faults, input, ioc, iot_ends, next_byte, one_less,
+    store_at,
 };
 use its_bytes::load;
 use its_frame::{Change, Decision, Held, Wait, error};
+use its_plain::END_OF_FILE;
 use its_records::{Ask, Job};
 use its_word::{Fault, Slot, Word};
 use its_world::World;
-
-/// What `.IOT` gets at the end of a link.
-const END_OF_LINK: u64 = 0o777777000003;
 
 /// `.IOT` through a channel on a link: to it, if the channel is on the writing end, else from it.
 pub fn iot_link(w: &World, slot: Slot, job: &Job, ask: &Ask, link: u8, write: bool) -> Decision
@@ -32,7 +31,7 @@ pub fn iot_link(w: &World, slot: Slot, job: &Job, ask: &Ask, link: u8, write: bo
 }
 
 /// `.IOT` from a link: its first word; 777777000003 at its end. MPV or WRO by the word at E.
-#[tactic(auto, unfolding(its_plain::specs::View::view, its_world::specs::World::state_of))]
+#[tactic(auto, unfolding(its_plain::specs::Machine::View::view, its_world::specs::World::state_of))]
 fn iot_receives(w: &World, slot: Slot, job: &Job, ask: &Ask, link: u8) -> Decision
     ensures { result ≡ iot_receives (seen_by w.now slot job.now ask.now) (slice_index_or ask.now.outputs.items 0 0) link }
 {
@@ -45,12 +44,12 @@ fn iot_receives(w: &World, slot: Slot, job: &Job, ask: &Ask, link: u8) -> Decisi
     }
     match w.pipes.first_word(link) {
         Some(word) => iot_ends(job, Some(Change::Receive { link }), store_at(Some(e), word)),
-        None => iot_ends(job, None, store_at(Some(e), Word::new(END_OF_LINK))),
+        None => iot_ends(job, None, store_at(Some(e), Word::new(END_OF_FILE))),
     }
 }
 
 /// `.IOT` to a link: the word at E is sent. MPV by that word; IOC if the reading end is closed.
-#[tactic(auto, unfolding(its_plain::specs::View::view, its_world::specs::World::state_of))]
+#[tactic(auto, unfolding(its_plain::specs::Machine::View::view, its_world::specs::World::state_of))]
 fn iot_sends(w: &World, slot: Slot, job: &Job, ask: &Ask, link: u8) -> Decision
     ensures { result ≡ iot_sends (seen_by w.now slot job.now ask.now) (slice_index_or ask.now.outputs.items 0 0) link }
 {
@@ -76,7 +75,7 @@ pub fn siot_link(
     ask: &Ask,
     link: u8,
     write: bool,
-) -> Result<Part, Stop>
+) -> Result<NextByte, Stop>
     ensures { part_of job.now ask.now result ≡ siot_linked (seen_by w.now slot job.now ask.now) ask.now link write }
 {
     if write {
@@ -89,8 +88,8 @@ pub fn siot_link(
 /// SIOT from a link: its first word is held, and its low bits stored by the next step. At the end
 /// of the link it finishes.
 #[inline(always)]
-#[tactic(auto, unfolding(its_plain::specs::View::view, its_world::specs::World::state_of))]
-fn siot_receives(w: &World, slot: Slot, job: &Job, ask: &Ask, link: u8) -> Result<Part, Stop>
+#[tactic(auto, unfolding(its_plain::specs::Machine::View::view, its_world::specs::World::state_of))]
+fn siot_receives(w: &World, slot: Slot, job: &Job, ask: &Ask, link: u8) -> Result<NextByte, Stop>
     ensures { part_of job.now ask.now result ≡ siot_receives (seen_by w.now slot job.now ask.now) ask.now link }
 {
     match next_byte(w, slot, ask, false, w.pipes.is_ended(link)) {
@@ -102,7 +101,7 @@ fn siot_receives(w: &World, slot: Slot, job: &Job, ask: &Ask, link: u8) -> Resul
 /// SIOT from a link once no test of its arguments stops it: the first word is held, if there is
 /// one.
 #[inline(always)]
-#[tactic(auto, unfolding(its_plain::specs::View::view, its_world::specs::World::state_of))]
+#[tactic(auto, unfolding(its_plain::specs::Machine::View::view, its_world::specs::World::state_of))]
 fn siot_receive(
     w: &World,
     slot: Slot,
@@ -110,7 +109,7 @@ fn siot_receive(
     ask: &Ask,
     next: Word,
     link: u8,
-) -> Result<Part, Stop>
+) -> Result<NextByte, Stop>
     ensures { part_of job.now ask.now result ≡ siot_receive (seen_by w.now slot job.now ask.now) next (input ask.now 2) link }
 {
     let place = next.right();
@@ -124,7 +123,7 @@ fn siot_receive(
         place,
         byte: w.pipes.first_word(link).unwrap_or(Word::ZERO),
     };
-    Ok(Part {
+    Ok(NextByte {
         moved: Moved::Receive { link },
         held: Some(held),
         next,
@@ -134,8 +133,8 @@ fn siot_receive(
 
 /// SIOT to a link: the byte becomes a word, which is sent. Error 26 if the reading end is closed.
 #[inline(always)]
-#[tactic(auto, using(its_plain::proofs::SizeLaws::next_sized), unfolding(its_plain::specs::View::view, its_world::specs::World::state_of))]
-fn siot_sends(w: &World, slot: Slot, job: &Job, ask: &Ask, link: u8) -> Result<Part, Stop>
+#[tactic(auto, using(its_plain::proofs::SizeLaws::next_sized), unfolding(its_plain::specs::Machine::View::view, its_world::specs::World::state_of))]
+fn siot_sends(w: &World, slot: Slot, job: &Job, ask: &Ask, link: u8) -> Result<NextByte, Stop>
     ensures { part_of job.now ask.now result ≡ siot_sends (seen_by w.now slot job.now ask.now) ask.now link }
 {
     match next_byte(w, slot, ask, false, false) {
@@ -147,7 +146,7 @@ fn siot_sends(w: &World, slot: Slot, job: &Job, ask: &Ask, link: u8) -> Result<P
 /// SIOT to a link once no test of its arguments stops it: the byte becomes a word, which is sent if
 /// there is room. Error 26 if the reading end is closed.
 #[inline(always)]
-#[tactic(auto, using(its_machine::proofs::StopLaws::loaded_fits), unfolding(its_plain::specs::View::view, its_world::specs::World::state_of))]
+#[tactic(auto, using(its_shared::proofs::StopLaws::loaded_fits), unfolding(its_plain::specs::Machine::View::view, its_world::specs::World::state_of))]
 fn siot_send(
     w: &World,
     slot: Slot,
@@ -155,7 +154,7 @@ fn siot_send(
     ask: &Ask,
     next: Word,
     link: u8,
-) -> Result<Part, Stop>
+) -> Result<NextByte, Stop>
     requires size { has_size next ≡ true }
     ensures { part_of job.now ask.now result ≡ siot_send (seen_by w.now slot job.now ask.now) ask.now next (input ask.now 2) link }
 {
@@ -169,7 +168,7 @@ fn siot_send(
         return Err(Stop::Waits(Wait::Room(link)));
     }
     let word = Word::new(load(next, word));
-    Ok(Part {
+    Ok(NextByte {
         moved: Moved::Send { link, word },
         held: None,
         next,

@@ -2,8 +2,8 @@
 use Rattle.std.specs.Prelude.{◌≡◌, ℕ, Option, Some, None, refl}
 use Rattle.its_records.specs.declared.calls.Ask.{Ask}
 use Rattle.its_records.specs.declared.jobs.Job.{Job}
-use Rattle.its_plain.specs.CallTty.{can_take, is_holder}
-use Rattle.its_plain.specs.View.{view}
+use Rattle.its_plain.specs.Call.Tty.{can_take, is_holder}
+use Rattle.its_plain.specs.Machine.View.{view}
 use Rattle.its_world.specs.World.{state_of}
 use Rattle.its_world.specs.declared.world.World.{World}
 use Rattle.call_basic.specs.Seen.{seen_by}

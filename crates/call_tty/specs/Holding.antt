@@ -1,7 +1,7 @@
 -- Who may hold a console, in the forms that code answers.
 -- No promise rests on this.
 use Rattle.std.specs.Prelude.{◌==◌, ◌||◌, ℕ, Bool, true, false, Option, Some, None}
-use Rattle.its_plain.specs.CallBasic.{is_superior}
+use Rattle.its_plain.specs.Call.Basic.{is_superior}
 use Rattle.its_world.specs.declared.world.World.{World}
 use Rattle.call_basic.specs.Seen.{outline_at}
 

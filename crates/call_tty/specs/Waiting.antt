@@ -2,7 +2,7 @@
 -- No promise rests on this.
 use Rattle.std.specs.Prelude.{◌||◌, ℕ, Bool, not, Option, nat_lt, length}
 use Rattle.its_word.specs.Console.{Console, most_waiting}
-use Rattle.its_plain.specs.CallTty.{is_empty, is_other}
+use Rattle.its_plain.specs.Call.Tty.{is_empty, is_other}
 
 abbrev pub cannot_take : Console → ℕ → Option ℕ → Bool
 cannot_take x j holder = is_empty x.input || is_other j holder

@@ -1,16 +1,13 @@
 //! What a call sees of a console.
 ghost use Rattle.std.specs.Prelude.{◌≡◌, ◌==◌, ◌||◌, not, length, unwrap_or, slice_get};
 ghost use Rattle.its_word.specs.Console.{most_waiting};
-ghost use Rattle.its_plain.specs.CallTty.{is_empty, is_other};
+ghost use Rattle.its_plain.specs.Call.Tty.{is_empty, is_other};
 ghost use Rattle.its_world.specs.World.{console_at, holder_at};
 ghost use Rattle.call_tty.specs.Waiting.{cannot_put, cannot_take};
 
 use its_records::Job;
-use its_word::Slot;
+use its_word::{MOST_WAITING, Slot};
 use its_world::World;
-
-/// The bytes that can wait in one direction.
-const RING_BYTES: u32 = 64;
 
 /// The number of a job's console. A channel on a console is opened only if its job has one.
 pub(crate) fn console_of(job: &Job) -> u8
@@ -70,7 +67,7 @@ pub(crate) fn input_waits(w: &World, slot: Slot, console: u8) -> bool
 pub(crate) fn output_waits(w: &World, slot: Slot, console: u8) -> bool
     ensures { result ≡ cannot_put (console_at w.now.consoles.items console) slot (holder_at w.now.holders console) }
 {
-    waiting(w, console).1 >= RING_BYTES || is_other(w, slot, console)
+    waiting(w, console).1 >= MOST_WAITING || is_other(w, slot, console)
 }
 
 /// Whether output of a console is not drained yet.

@@ -1,22 +1,20 @@
 //! OPEN of a console.
 
 ghost use Rattle.std.specs.Prelude.{◌≡◌};
-ghost use Rattle.its_plain.specs.CallTty.{opens, opens_on};
+ghost use Rattle.its_plain.specs.Call.Tty.{opens, opens_on};
 ghost use Rattle.call_basic.specs.Seen.{seen_by};
 
 use arrayvec::ArrayVec;
 use call_basic::{control, fails, finishes_with, input, is_free};
 use its_frame::{Change, Decision, Opened, error};
+use its_plain::TTY;
 use its_records::{Ask, Job};
 use its_word::Slot;
 use its_world::World;
 
-/// The device of consoles, in SIXBIT.
-const TTY: u64 = 0o646471000000;
-
 /// OPEN channel, device: input, or output with control 1. Errors 4, 5 if the device is not TTY, 22,
 /// and 5 if the job has no console.
-#[tactic(auto, using(call_basic::proofs::ChannelLaws::free), unfolding(its_plain::specs::CallTty::opens, its_plain::specs::View::view, its_world::specs::World::state_of))]
+#[tactic(auto, using(call_basic::proofs::ChannelLaws::free), unfolding(its_plain::specs::Call::Tty::opens, its_plain::specs::Machine::View::view, its_world::specs::World::state_of))]
 pub fn open_tty(w: &World, slot: Slot, job: &Job, ask: &Ask) -> Decision
     ensures { result ≡ opens (seen_by w.now slot job.now ask.now) ask.now }
 {

@@ -2,27 +2,27 @@
 
 ghost use Rattle.std.specs.Prelude.{◌≡◌, true, false, slice_index_or, unwrap_or};
 ghost use Rattle.its_word.specs.Byte.{has_size};
-ghost use Rattle.its_plain.specs.Arguments.{input};
-ghost use Rattle.its_plain.specs.CallTty.{iot_in, iot_out, shown_byte, siot_in, siot_out};
-ghost use Rattle.its_plain.specs.Transfer.{next_pointer, siot_by};
+ghost use Rattle.its_plain.specs.Call.Arguments.{input};
+ghost use Rattle.its_plain.specs.Call.Tty.{iot_in, iot_out, shown_byte, siot_in, siot_out};
+ghost use Rattle.its_plain.specs.Call.Transfer.{next_pointer, siot_by};
 ghost use Rattle.call_basic.specs.Parts.{part_of};
 ghost use Rattle.call_basic.specs.Seen.{seen_by};
 
 use super::consoles::{console_of, first_typed, input_waits, output_waits};
 use arrayvec::ArrayVec;
-use call_basic::{Moved, Part, Stop, bar_of_store, faults, input, iot_ends, next_byte, one_less};
+use call_basic::{
+    Moved, NextByte, Stop, bar_of_store, faults, input, iot_ends, next_byte, one_less,
+};
 use its_bytes::load;
 use its_frame::{Change, Decision, Held, Store, Wait};
+use its_plain::SHOWN;
 use its_records::{Ask, Job};
 use its_word::{Fault, Slot, Word};
 use its_world::World;
 
-/// The bits of a byte that a console shows.
-const SHOWN: u64 = 0o177;
-
 /// `.IOT` from a console: its first byte becomes the word at E, right-justified. MPV or WRO by the
 /// word.
-#[tactic(auto, unfolding(its_plain::specs::View::view, its_world::specs::World::state_of))]
+#[tactic(auto, unfolding(its_plain::specs::Machine::View::view, its_world::specs::World::state_of))]
 pub fn iot_in(w: &World, slot: Slot, job: &Job, ask: &Ask) -> Decision
     ensures { result ≡ iot_in (seen_by w.now slot job.now ask.now) (slice_index_or ask.now.outputs.items 0 0) (unwrap_or job.now.console 0) }
 {
@@ -43,7 +43,7 @@ pub fn iot_in(w: &World, slot: Slot, job: &Job, ask: &Ask) -> Decision
 }
 
 /// `.IOT` to a console: the byte in the word at E is put out. MPV by the word.
-#[tactic(auto, unfolding(its_plain::specs::View::view, its_world::specs::World::state_of))]
+#[tactic(auto, unfolding(its_plain::specs::Machine::View::view, its_world::specs::World::state_of))]
 pub fn iot_out(w: &World, slot: Slot, job: &Job, ask: &Ask) -> Decision
     ensures { result ≡ iot_out (seen_by w.now slot job.now ask.now) (slice_index_or ask.now.outputs.items 0 0) (unwrap_or job.now.console 0) }
 {
@@ -69,7 +69,7 @@ fn shown(word: Word) -> u8
 /// SIOT from a console: one byte, which is held and stored by the next step; pointer and count
 /// become those of the rest.
 #[inline(always)]
-pub fn siot_in(w: &World, slot: Slot, job: &Job, ask: &Ask) -> Result<Part, Stop>
+pub fn siot_in(w: &World, slot: Slot, job: &Job, ask: &Ask) -> Result<NextByte, Stop>
     ensures { part_of job.now ask.now result ≡ siot_by (seen_by w.now slot job.now ask.now) ask.now false false (siot_in (seen_by w.now slot job.now ask.now) ask.now (next_pointer (input ask.now 1)) (input ask.now 2) (unwrap_or job.now.console 0)) }
 {
     match next_byte(w, slot, ask, false, false) {
@@ -80,7 +80,7 @@ pub fn siot_in(w: &World, slot: Slot, job: &Job, ask: &Ask) -> Result<Part, Stop
 
 /// SIOT to a console: one byte; pointer and count become those of the rest.
 #[inline(always)]
-pub fn siot_out(w: &World, slot: Slot, job: &Job, ask: &Ask) -> Result<Part, Stop>
+pub fn siot_out(w: &World, slot: Slot, job: &Job, ask: &Ask) -> Result<NextByte, Stop>
     ensures { part_of job.now ask.now result ≡ siot_by (seen_by w.now slot job.now ask.now) ask.now false false (siot_out (seen_by w.now slot job.now ask.now) ask.now (next_pointer (input ask.now 1)) (input ask.now 2) (unwrap_or job.now.console 0)) }
 {
     match next_byte(w, slot, ask, false, false) {
@@ -91,8 +91,8 @@ pub fn siot_out(w: &World, slot: Slot, job: &Job, ask: &Ask) -> Result<Part, Sto
 
 /// SIOT from a console if no test of its arguments stops it.
 #[inline(always)]
-#[tactic(auto, unfolding(its_plain::specs::View::view, its_world::specs::World::state_of))]
-fn takes_byte(w: &World, slot: Slot, job: &Job, ask: &Ask, next: Word) -> Result<Part, Stop>
+#[tactic(auto, unfolding(its_plain::specs::Machine::View::view, its_world::specs::World::state_of))]
+fn takes_byte(w: &World, slot: Slot, job: &Job, ask: &Ask, next: Word) -> Result<NextByte, Stop>
     ensures { part_of job.now ask.now result ≡ siot_in (seen_by w.now slot job.now ask.now) ask.now next (input ask.now 2) (unwrap_or job.now.console 0) }
 {
     let console = console_of(job);
@@ -107,7 +107,7 @@ fn takes_byte(w: &World, slot: Slot, job: &Job, ask: &Ask, next: Word) -> Result
         place,
         byte: Word::new(u64::from(first_typed(w, console))),
     };
-    Ok(Part {
+    Ok(NextByte {
         moved: Moved::Take { console },
         held: Some(held),
         next,
@@ -117,8 +117,8 @@ fn takes_byte(w: &World, slot: Slot, job: &Job, ask: &Ask, next: Word) -> Result
 
 /// SIOT to a console if no test of its arguments stops it.
 #[inline(always)]
-#[tactic(auto, unfolding(its_plain::specs::View::view, its_world::specs::World::state_of))]
-fn puts_byte(w: &World, slot: Slot, job: &Job, ask: &Ask, next: Word) -> Result<Part, Stop>
+#[tactic(auto, unfolding(its_plain::specs::Machine::View::view, its_world::specs::World::state_of))]
+fn puts_byte(w: &World, slot: Slot, job: &Job, ask: &Ask, next: Word) -> Result<NextByte, Stop>
     requires size { has_size next ≡ true }
     ensures { part_of job.now ask.now result ≡ siot_out (seen_by w.now slot job.now ask.now) ask.now next (input ask.now 2) (unwrap_or job.now.console 0) }
 {
@@ -130,7 +130,7 @@ fn puts_byte(w: &World, slot: Slot, job: &Job, ask: &Ask, next: Word) -> Result<
         return Err(Stop::Waits(Wait::Output(console)));
     }
     let byte = shown(Word::new(load(next, word)));
-    Ok(Part {
+    Ok(NextByte {
         moved: Moved::Put { console, byte },
         held: None,
         next,

@@ -1,7 +1,7 @@
 //! FINISH, LISTEN and TTYLND.
 
 ghost use Rattle.std.specs.Prelude.{◌≡◌, unwrap_or};
-ghost use Rattle.its_plain.specs.CallTty.{finish, lands, listen, listens, ttylnd};
+ghost use Rattle.its_plain.specs.Call.Tty.{finish, lands, listen, listens, ttylnd};
 ghost use Rattle.its_world.specs.World.{holder_at};
 ghost use Rattle.call_basic.specs.Seen.{seen_by};
 ghost use Rattle.call_tty.specs.Holding.{holds, may_take};
@@ -17,7 +17,7 @@ use its_word::{Slot, Word};
 use its_world::World;
 
 /// FINISH channel: waits until all output of the console is drained. Errors 4, 5.
-#[tactic(auto, using(its_machine::proofs::NumberLaws::under), unfolding(its_plain::specs::CallTty::finish, its_plain::specs::View::view, its_world::specs::World::state_of))]
+#[tactic(auto, using(its_shared::proofs::NumberLaws::under), unfolding(its_plain::specs::Call::Tty::finish, its_plain::specs::Machine::View::view, its_world::specs::World::state_of))]
 pub fn finish(w: &World, slot: Slot, job: &Job, ask: &Ask) -> Decision
     ensures { result ≡ finish (seen_by w.now slot job.now ask.now) ask.now }
 {
@@ -36,7 +36,7 @@ pub fn finish(w: &World, slot: Slot, job: &Job, ask: &Ask) -> Decision
 }
 
 /// LISTEN channel: also waits, and gives the number of bytes of input. Errors 4, 5.
-#[tactic(auto, using(its_machine::proofs::NumberLaws::under), unfolding(its_plain::specs::CallTty::listen, its_plain::specs::View::view, its_world::specs::World::state_of))]
+#[tactic(auto, using(its_shared::proofs::NumberLaws::under), unfolding(its_plain::specs::Call::Tty::listen, its_plain::specs::Machine::View::view, its_world::specs::World::state_of))]
 pub fn listen(w: &World, slot: Slot, job: &Job, ask: &Ask) -> Decision
     ensures { result ≡ listen (seen_by w.now slot job.now ask.now) ask.now }
 {
@@ -49,7 +49,7 @@ pub fn listen(w: &World, slot: Slot, job: &Job, ask: &Ask) -> Decision
 }
 
 /// The number of bytes of input, once all output is drained.
-#[tactic(auto, unfolding(its_plain::specs::View::view, its_world::specs::World::state_of))]
+#[tactic(auto, unfolding(its_plain::specs::Machine::View::view, its_world::specs::World::state_of))]
 fn listened(w: &World, slot: Slot, job: &Job, ask: &Ask) -> Decision
     ensures { result ≡ listens (seen_by w.now slot job.now ask.now) ask.now (unwrap_or job.now.console 0) }
 {
@@ -64,7 +64,7 @@ fn listened(w: &World, slot: Slot, job: &Job, ask: &Ask) -> Decision
 /// TTYLND job: the job becomes the holder of the caller's console. Errors 4, 5; 5 if the caller has
 /// no console; for oneself 13 if a stranger holds it; for an inferior 5 if the caller does not hold
 /// it.
-#[tactic(auto, using(crate::proofs::HoldLaws::takes, crate::proofs::HoldLaws::holds_it, its_machine::proofs::NumberLaws::under), unfolding(its_plain::specs::CallTty::ttylnd, its_plain::specs::View::view, its_world::specs::World::state_of))]
+#[tactic(auto, using(crate::proofs::Groups::ttylnd_laws), unfolding(its_plain::specs::Call::Tty::ttylnd, its_plain::specs::Machine::View::view, its_world::specs::World::state_of))]
 pub fn ttylnd(w: &World, slot: Slot, job: &Job, ask: &Ask) -> Decision
     ensures { result ≡ ttylnd (seen_by w.now slot job.now ask.now) ask.now }
 {
@@ -105,7 +105,7 @@ fn is_holder(w: &World, slot: Slot, console: u8) -> bool
 }
 
 /// A job becomes the holder of the caller's console, if it may.
-#[tactic(auto, unfolding(its_plain::specs::View::view, its_world::specs::World::state_of))]
+#[tactic(auto, unfolding(its_plain::specs::Machine::View::view, its_world::specs::World::state_of))]
 fn lands(w: &World, slot: Slot, job: &Job, ask: &Ask, may: bool, number: u8, holder: u8) -> Decision
     ensures { result ≡ lands (seen_by w.now slot job.now ask.now) ask.now may number holder }
 {

@@ -8,26 +8,27 @@ use Rattle.its_records.specs.declared.jobs.Job.{Job}
 use Rattle.its_frame.specs.declared.name.CallName.{CallName}
 use Rattle.its_core.specs.Cores.{core_at}
 use Rattle.its_jobs.specs.Table.{job_at}
-use Rattle.its_plain.specs.Arguments.{input}
-use Rattle.its_plain.specs.CallUsr.{other_core}
-use Rattle.its_plain.specs.Decide.{call_named, reaching}
+use Rattle.its_plain.specs.Call.Arguments.{input}
+use Rattle.its_plain.specs.Call.Usr.{other_core}
+use Rattle.its_plain.specs.Call.Decide.{call_named, reaching}
 use Rattle.its_plain.specs.Machine.{core_of}
-use Rattle.its_plain.specs.View.{job_at as job_seen, view}
+use Rattle.its_plain.specs.Machine.View.{job_at as job_seen, view}
 use Rattle.its_stepped.specs.Forest.{Forest}
-use Rattle.its_stepped.proofs.ForestLaws.{inferior_stands, job_few, on_inferior}
+use Rattle.its_stepped.proofs.Keeping.ForestLaws.{inferior_stands, job_few, on_inferior}
 use Rattle.its_plain.proofs.TargetLaws.{target_on}
 use Rattle.its_world.specs.Storage.{HasJob}
 use Rattle.its_world.specs.World.{state_of}
 use Rattle.its_world.specs.declared.world.World.{World}
 use Rattle.its_world.proofs.StateLaws.{raw_some}
 use Rattle.its_world.proofs.StorageLaws.{has_job}
-use Rattle.its_machine.specs.Called.{channel_under}
+use Rattle.its_shared.specs.Called.{channel_under}
 use Rattle.call_basic.specs.Seen.{raw_with, seen_by}
-use Rattle.its_machine.proofs.NumberLaws.{usr_number, usr_on}
-use Rattle.its_machine.proofs.SeenLaws.{core_here}
+use Rattle.its_shared.proofs.NumberLaws.{usr_number, usr_on}
+use Rattle.its_shared.proofs.SeenLaws.{core_here}
 use Rattle.call_usr.specs.Targets.{Targets}
 
-pub usr_stands : (w : World) (s : ℕ) (j : Job) (n k at : ℕ) (b : Bool) → Forest (state_of w).raw → job_at w.jobs s ≡ Some j → channel_under j n ≡ Usr k b at → HasJob (state_of w) k
+pub usr_stands : (w : World) (s : ℕ) (j : Job) (n k at : ℕ) (b : Bool) → Forest (state_of w).raw → job_at w.jobs s ≡ Some j
+    → channel_under j n ≡ Usr k b at → HasJob (state_of w) k
 unfolding state_of
 usr_stands w s j n k at b f h e =
     inferior_stands (state_of w).raw k s (on_inferior (state_of w).raw s (raw_with w s j) n k at b f (raw_some w s j h) (usr_on w.files j n k at b e))

@@ -5,8 +5,8 @@ use Rattle.its_word.specs.Limits.{slots}
 use Rattle.its_records.specs.declared.calls.Ask.{Ask}
 use Rattle.its_records.specs.declared.jobs.Job.{Job}
 use Rattle.its_jobs.specs.Table.{job_at}
-use Rattle.its_plain.specs.Arguments.{input}
-use Rattle.its_plain.specs.Decide.{target}
+use Rattle.its_plain.specs.Call.Arguments.{input}
+use Rattle.its_plain.specs.Call.Decide.{target}
 use Rattle.its_world.specs.declared.world.World.{World}
 use Rattle.call_basic.specs.Seen.{raw_with}
 

@@ -3,12 +3,12 @@ ghost use Rattle.std.specs.Prelude.{◌≡◌, Some};
 ghost use Rattle.its_jobs.specs.Table.{job_at};
 ghost use Rattle.its_frame.specs.declared.decision.Decision.TheVariants.{Ends};
 ghost use Rattle.its_frame.specs.declared.name.CallName.TheVariants.{Usrmem};
-ghost use Rattle.its_plain.specs.Arguments.{has_input, input};
-ghost use Rattle.its_plain.specs.CallUsr.{set_word, uclose, usrmem, usrmem_on};
-ghost use Rattle.its_plain.specs.Decide.{call_named};
+ghost use Rattle.its_plain.specs.Call.Arguments.{has_input, input};
+ghost use Rattle.its_plain.specs.Call.Usr.{set_word, uclose, usrmem, usrmem_on};
+ghost use Rattle.its_plain.specs.Call.Decide.{call_named};
 ghost use Rattle.its_plain.specs.Machine.{On};
-ghost use Rattle.its_plain.specs.Own.{with_advance, exit_of};
-ghost use Rattle.its_plain.specs.Tests.{out};
+ghost use Rattle.its_plain.specs.Machine.Own.{with_advance, exit_of};
+ghost use Rattle.its_plain.specs.Call.Tests.{out};
 ghost use Rattle.its_stepped.specs.Forest.{Forest};
 ghost use Rattle.its_world.specs.World.{state_of};
 ghost use Rattle.call_basic.specs.Seen.{seen_by};
@@ -27,7 +27,7 @@ const HIGHEST: u64 = 0o777777;
 /// USRMEM channel, address, optional new word: the output gets the word of the inferior, and then
 /// the new one is stored. Errors 4, 5, 22; 5 if the channel has no leave to write, 16 if the word
 /// is absent or cannot be stored.
-#[tactic(auto, using(its_machine::proofs::NumberLaws::under), unfolding(its_plain::specs::CallUsr::usrmem, its_plain::specs::View::view, its_world::specs::World::state_of))]
+#[tactic(auto, using(its_shared::proofs::NumberLaws::under), unfolding(its_plain::specs::Call::Usr::usrmem, its_plain::specs::Machine::View::view, its_world::specs::World::state_of))]
 pub fn usrmem(w: &World, slot: Slot, job: &Job, ask: &Ask) -> Decision
     requires fail { ask.now.fail ≡ 0 }
     requires name { call_named ask.now.name ≡ Some Usrmem }
@@ -47,7 +47,7 @@ pub fn usrmem(w: &World, slot: Slot, job: &Job, ask: &Ask) -> Decision
 }
 
 /// USRMEM on this inferior: the output gets its word, and then the new one is stored.
-#[tactic(auto, using(crate::proofs::OtherLaws::other_here), unfolding(its_plain::specs::View::view, its_world::specs::World::state_of))]
+#[tactic(auto, using(crate::proofs::OtherLaws::other_here), unfolding(its_plain::specs::Machine::View::view, its_world::specs::World::state_of))]
 fn usrmem_on(
     w: &World,
     slot: Slot,
@@ -96,7 +96,7 @@ fn set_word(job: &Job, ask: &Ask, inferior: u8, at: u32, word: Word) -> Decision
 }
 
 /// UCLOSE channel: the inferior and all jobs below it are removed. Errors 4, 5.
-#[tactic(auto, using(its_machine::proofs::NumberLaws::under), unfolding(its_plain::specs::CallUsr::uclose, its_plain::specs::View::view, its_world::specs::World::state_of))]
+#[tactic(auto, using(its_shared::proofs::NumberLaws::under), unfolding(its_plain::specs::Call::Usr::uclose, its_plain::specs::Machine::View::view, its_world::specs::World::state_of))]
 pub fn uclose(w: &World, slot: Slot, job: &Job, ask: &Ask) -> Decision
     ensures { result ≡ uclose (seen_by w.now slot job.now ask.now) ask.now }
 {

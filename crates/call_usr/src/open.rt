@@ -4,15 +4,16 @@ ghost use Rattle.its_records.specs.Tree.{least_free};
 ghost use Rattle.its_frame.specs.declared.change.Change.TheVariants.{Make, Open};
 ghost use Rattle.its_frame.specs.declared.change.Opened.TheVariants.{Usr};
 ghost use Rattle.its_frame.specs.declared.decision.Decision.TheVariants.{Ends};
-ghost use Rattle.its_plain.specs.Arguments.{input};
-ghost use Rattle.its_plain.specs.CallBasic.{is_superior};
-ghost use Rattle.its_plain.specs.CallUsr.{any_named, has_names, inferior_named, makes_job, opens_job, opens_usr, usr_device};
-ghost use Rattle.its_plain.specs.Own.{with_advance, exit_of};
+ghost use Rattle.its_plain.specs.Call.Arguments.{input};
+ghost use Rattle.its_plain.specs.Call.Basic.{is_superior};
+ghost use Rattle.its_plain.specs.Call.Usr.{any_named, has_names, inferior_named, makes_job, opens_job, opens_usr, usr_device};
+ghost use Rattle.its_plain.specs.Machine.Own.{with_advance, exit_of};
 ghost use Rattle.call_basic.specs.Seen.{seen_by, outline_at};
 
 use arrayvec::ArrayVec;
 use call_basic::{control, exit_after, fails, finishes_with, input, is_free, is_superior};
 use its_frame::{Change, Decision, Opened, error};
+use its_plain::USR;
 use its_records::{Ask, Job};
 use its_word::{SLOTS, Slot, Word};
 use its_world::World;
@@ -20,7 +21,7 @@ use its_world::World;
 /// OPEN channel, USR, user name, job name: the caller's inferior with these names. Errors 4, 22; 13
 /// if they are those of another job, 12 for input if no job has them, 14 if all slots below the
 /// limit have jobs.
-#[tactic(auto, using(call_basic::proofs::ChannelLaws::free), unfolding(its_plain::specs::CallUsr::opens_usr, its_plain::specs::View::view, its_world::specs::World::state_of))]
+#[tactic(auto, using(call_basic::proofs::ChannelLaws::free), unfolding(its_plain::specs::Call::Usr::opens_usr, its_plain::specs::Machine::View::view, its_world::specs::World::state_of))]
 pub fn open_usr(w: &World, slot: Slot, job: &Job, ask: &Ask) -> Decision
     ensures { result ≡ opens_usr (seen_by w.now slot job.now ask.now) ask.now }
 {
@@ -36,7 +37,7 @@ pub fn open_usr(w: &World, slot: Slot, job: &Job, ask: &Ask) -> Decision
 }
 
 /// The inferior with the names of OPEN is opened, or made.
-#[tactic(auto, unfolding(its_plain::specs::View::view, its_world::specs::World::state_of))]
+#[tactic(auto, unfolding(its_plain::specs::Machine::View::view, its_world::specs::World::state_of))]
 fn opens_job(w: &World, slot: Slot, job: &Job, ask: &Ask, n: u8, write: bool) -> Decision
     ensures { result ≡ opens_job (seen_by w.now slot job.now ask.now) ask.now n (input ask.now 2) (input ask.now 3) write (inferior_named (seen_by w.now slot job.now ask.now) (input ask.now 2) (input ask.now 3)) }
 {
@@ -58,7 +59,7 @@ fn opens_job(w: &World, slot: Slot, job: &Job, ask: &Ask, n: u8, write: bool) ->
 }
 
 /// An inferior with these names is made in the least free slot, and opened.
-#[tactic(auto, unfolding(its_plain::specs::View::view, its_world::specs::World::state_of))]
+#[tactic(auto, unfolding(its_plain::specs::Machine::View::view, its_world::specs::World::state_of))]
 fn makes_job(w: &World, slot: Slot, job: &Job, ask: &Ask, n: u8, u: Word, x: Word) -> Decision
     ensures { result ≡ makes_job (seen_by w.now slot job.now ask.now) ask.now n u x (least_free (seen_by w.now slot job.now ask.now).limit (seen_by w.now slot job.now ask.now).outlines) }
 {
@@ -85,7 +86,7 @@ fn made(job: &Job, n: u8, slot: u8, u: Word, x: Word) -> Decision
 }
 
 /// The least slot whose job is an inferior of the caller with these names.
-#[tactic(auto, unfolding(its_plain::specs::View::view, its_world::specs::World::state_of))]
+#[tactic(auto, unfolding(its_plain::specs::Machine::View::view, its_world::specs::World::state_of))]
 fn inferior_named(w: &World, slot: Slot, job: &Job, ask: &Ask, u: Word, x: Word) -> Option<u8>
     ensures { result ≡ inferior_named (seen_by w.now slot job.now ask.now) u x }
 {
@@ -100,7 +101,7 @@ fn is_named_inferior(w: &World, slot: Slot, inferior: u8, u: Word, x: Word) -> b
 }
 
 /// Whether any job has these names.
-#[tactic(auto, unfolding(its_plain::specs::View::view, its_world::specs::World::state_of))]
+#[tactic(auto, unfolding(its_plain::specs::Machine::View::view, its_world::specs::World::state_of))]
 fn any_named(w: &World, slot: Slot, job: &Job, ask: &Ask, u: Word, x: Word) -> bool
     ensures { result ≡ any_named (seen_by w.now slot job.now ask.now) u x }
 {
@@ -116,9 +117,6 @@ fn has_names(w: &World, slot: u8, u: Word, x: Word) -> bool
         None => false,
     }
 }
-
-/// The device of inferiors, in SIXBIT.
-const USR: u64 = 0o656362000000;
 
 /// Whether the device of OPEN is USR.
 pub fn is_usr(ask: &Ask) -> bool

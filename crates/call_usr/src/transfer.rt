@@ -2,9 +2,9 @@
 ghost use Rattle.std.specs.Prelude.{◌≡◌, ◌<◌, ◌+◌, ◌^◌, [], ◌∷◌, true, slice_index_or};
 ghost use Rattle.its_word.specs.Byte.{has_size};
 ghost use Rattle.its_frame.specs.declared.change.Change.TheVariants.{Move, Poke};
-ghost use Rattle.its_plain.specs.Arguments.{input};
-ghost use Rattle.its_plain.specs.Transfer.{next_pointer};
-ghost use Rattle.its_plain.specs.CallUsr.{at_end, iot_from, iot_into, iot_through, siot_from, siot_into, siot_peeks, siot_pokes, siot_through};
+ghost use Rattle.its_plain.specs.Call.Arguments.{input};
+ghost use Rattle.its_plain.specs.Call.Transfer.{next_pointer};
+ghost use Rattle.its_plain.specs.Call.Usr.{at_end, iot_from, iot_into, iot_through, siot_from, siot_into, siot_peeks, siot_pokes, siot_through};
 ghost use Rattle.call_basic.specs.Seen.{seen_by};
 ghost use Rattle.call_usr.specs.Targets.{Targets};
 
@@ -15,12 +15,10 @@ use call_basic::{
 };
 use its_bytes::load;
 use its_frame::{Change, Decision, Held, error};
+use its_plain::END_OF_FILE;
 use its_records::{Ask, Job};
 use its_word::{ADDRESSES, Fault, Slot, Word};
 use its_world::World;
-
-/// What `.IOT` gets at the end of an inferior's core.
-const END_OF_CORE: u64 = 0o777777000003;
 
 /// Whether a channel on an inferior is at its end.
 fn at_end(at: u32) -> bool
@@ -52,7 +50,7 @@ pub fn iot_through(
 
 /// `.IOT` from an inferior: the word at the channel's position, which is then one more;
 /// 777777000003 at the end. MPV or WRO by the word at E; IOC if the inferior's word is absent.
-#[tactic(auto, using(crate::proofs::OtherLaws::other_here), unfolding(its_plain::specs::View::view, its_world::specs::World::state_of))]
+#[tactic(auto, using(crate::proofs::OtherLaws::other_here), unfolding(its_plain::specs::Machine::View::view, its_world::specs::World::state_of))]
 fn iot_from(w: &World, slot: Slot, job: &Job, ask: &Ask, inferior: u8, at: u32) -> Decision
     requires targets { Targets w.now slot job.now ask.now inferior }
     ensures { result ≡ iot_from (seen_by w.now slot job.now ask.now) (slice_index_or ask.now.outputs.items 0 0) (input ask.now 0) at }
@@ -62,7 +60,7 @@ fn iot_from(w: &World, slot: Slot, job: &Job, ask: &Ask, inferior: u8, at: u32) 
         return faults(job, fault);
     }
     if at_end(at) {
-        return iot_ends(job, None, store_at(Some(e), Word::new(END_OF_CORE)));
+        return iot_ends(job, None, store_at(Some(e), Word::new(END_OF_FILE)));
     }
     match w.core.word(Slot::new(inferior), at) {
         Some(word) => {
@@ -78,7 +76,7 @@ fn iot_from(w: &World, slot: Slot, job: &Job, ask: &Ask, inferior: u8, at: u32) 
 
 /// `.IOT` into an inferior: the word at E is stored at the channel's position, which is then one
 /// more. MPV by the word at E; IOC at the end, and if the inferior's word cannot be stored.
-#[tactic(auto, using(crate::proofs::OtherLaws::other_here), unfolding(its_plain::specs::View::view, its_world::specs::World::state_of))]
+#[tactic(auto, using(crate::proofs::OtherLaws::other_here), unfolding(its_plain::specs::Machine::View::view, its_world::specs::World::state_of))]
 fn iot_into(w: &World, slot: Slot, job: &Job, ask: &Ask, inferior: u8, at: u32) -> Decision
     requires targets { Targets w.now slot job.now ask.now inferior }
     ensures { result ≡ iot_into (seen_by w.now slot job.now ask.now) (slice_index_or ask.now.outputs.items 0 0) (input ask.now 0) inferior at }
@@ -149,7 +147,7 @@ fn siot_from(w: &World, slot: Slot, job: &Job, ask: &Ask, inferior: u8, at: u32)
 
 /// SIOT from an inferior once no test of its arguments stops it: its word is held. Error 16 if it
 /// is absent.
-#[tactic(auto, unfolding(its_plain::specs::View::view, its_world::specs::World::state_of))]
+#[tactic(auto, unfolding(its_plain::specs::Machine::View::view, its_world::specs::World::state_of))]
 fn siot_peeks(w: &World, slot: Slot, job: &Job, ask: &Ask, at: u32, word: Option<Word>) -> Decision
     requires number { input ask.now 0 < 16 }
     requires below { at < 2 ^ 18 }
@@ -172,7 +170,7 @@ fn siot_peeks(w: &World, slot: Slot, job: &Job, ask: &Ask, at: u32, word: Option
 }
 
 /// SIOT into an inferior: the word is stored at the channel's position. Error 16 if it cannot be.
-#[tactic(auto, using(its_plain::proofs::SizeLaws::next_sized), unfolding(its_plain::specs::View::view, its_world::specs::World::state_of))]
+#[tactic(auto, using(its_plain::proofs::SizeLaws::next_sized), unfolding(its_plain::specs::Machine::View::view, its_world::specs::World::state_of))]
 fn siot_into(w: &World, slot: Slot, job: &Job, ask: &Ask, inferior: u8, at: u32) -> Decision
     requires targets { Targets w.now slot job.now ask.now inferior }
     ensures { result ≡ siot_into (seen_by w.now slot job.now ask.now) ask.now (input ask.now 0) inferior at }
@@ -185,7 +183,7 @@ fn siot_into(w: &World, slot: Slot, job: &Job, ask: &Ask, inferior: u8, at: u32)
 
 /// SIOT into an inferior once no test of its arguments stops it: the word is stored. Error 16 if it
 /// cannot be.
-#[tactic(auto, using(its_machine::proofs::StopLaws::loaded_fits, crate::proofs::OtherLaws::other_here), unfolding(its_plain::specs::View::view, its_world::specs::World::state_of))]
+#[tactic(auto, using(its_shared::proofs::StopLaws::loaded_fits, crate::proofs::OtherLaws::other_here), unfolding(its_plain::specs::Machine::View::view, its_world::specs::World::state_of))]
 fn siot_pokes(w: &World, slot: Slot, job: &Job, ask: &Ask, inferior: u8, at: u32) -> Decision
     requires below { at < 2 ^ 18 }
     requires targets { Targets w.now slot job.now ask.now inferior }

@@ -1,8 +1,8 @@
 -- The exit statuses (docs/SESSION.md, "The program").
 -- No promise rests on this.
 use Rattle.std.specs.Prelude.{ℕ}
-use Rattle.its_top.specs.declared.status.Status.{Status}
-use Rattle.its_top.specs.declared.status.Status.TheVariants.{Done, Usage, Refused, ReadFault, WriteFault, NoMemory, TooLong}
+use Rattle.its_top.specs.declared.commands.status.Status.{Status}
+use Rattle.its_top.specs.declared.commands.status.Status.TheVariants.{Done, Usage, Refused, ReadFault, WriteFault, NoMemory, TooLong}
 
 abbrev pub exit_status : Status → ℕ
 exit_status Done = 0

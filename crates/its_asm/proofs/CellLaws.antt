@@ -98,7 +98,8 @@ unfolding filled
 none_given n = none_by 0 n
 
 -- one word more
-pub cells_more : (k i : ℕ) (ws : List (Option ℕ)) (d : Option ℕ) → i < length ws → cells_from k (take (suc i) ws) ≡ cells_from k (take i ws) ++ cell_at (k + i) (get_or ws i d)
+pub cells_more : (k i : ℕ) (ws : List (Option ℕ)) (d : Option ℕ) → i < length ws
+    → cells_from k (take (suc i) ws) ≡ cells_from k (take i ws) ++ cell_at (k + i) (get_or ws i d)
 cells_more k i [] d h = absurd (omega arith)
 cells_more k zero (None ∷ ws) d h = refl
 cells_more k zero (Some v ∷ ws) d h = let e : k + 0 ≡ k = omega arith in rw e refl
@@ -112,13 +113,15 @@ cells_more k (suc i) (Some v ∷ ws) d h =
 pub cells_none : (ws : List (Option ℕ)) → [] ≡ cells_from 0 (take 0 ws)
 cells_none ws = refl
 
-cells_turn : (ws : List (Option ℕ)) (i : ℕ) (r : Option ℕ) → i < length ws → cells_from 0 (take (i + 1) ws) ≡ cells_from 0 (take i ws) ++ cell_at i (get_or ws i r)
+cells_turn : (ws : List (Option ℕ)) (i : ℕ) (r : Option ℕ) → i < length ws
+    → cells_from 0 (take (i + 1) ws) ≡ cells_from 0 (take i ws) ++ cell_at i (get_or ws i r)
 cells_turn ws i r h =
     let e : 0 + i ≡ i = omega arith in
     let more : cells_from 0 (take (suc i) ws) ≡ cells_from 0 (take i ws) ++ cell_at i (get_or ws i r) = rw e at (cells_more 0 i ws r h) in
     rw add-one more
 
-pub cells_next : (ws : List (Option ℕ)) (i at : ℕ) (r : Option ℕ) (cells more : List (ℕ × ℕ)) → i < length ws → r ≡ get_or ws i r → cells ≡ cells_from 0 (take i ws) → more ≡ cells ++ cell_at at r → at ≡ i
+pub cells_next : (ws : List (Option ℕ)) (i at : ℕ) (r : Option ℕ) (cells more : List (ℕ × ℕ)) → i < length ws → r ≡ get_or ws i r
+    → cells ≡ cells_from 0 (take i ws) → more ≡ cells ++ cell_at at r → at ≡ i
     → more ≡ cells_from 0 (take (i + 1) ws)
 cells_next ws i at r cells more h read before after same =
     let turn : cells_from 0 (take (i + 1) ws) ≡ cells_from 0 (take i ws) ++ cell_at i (get_or ws i r) = cells_turn ws i r h in

@@ -35,13 +35,15 @@ pub labelled_none : (symbols : List (ℕ × ℕ)) (value : ℕ) → labelled sym
 unfolding labelled
 labelled_none symbols value = refl
 
-labelled_by : (symbols : List (ℕ × ℕ)) (value : ℕ) (labels : List ℕ) (i d : ℕ) → i < length labels → labelled symbols value (take (suc i) labels) ≡ defined (labelled symbols value (take i labels)) (get_or labels i d) value
+labelled_by : (symbols : List (ℕ × ℕ)) (value : ℕ) (labels : List ℕ) (i d : ℕ) → i < length labels
+    → labelled symbols value (take (suc i) labels) ≡ defined (labelled symbols value (take i labels)) (get_or labels i d) value
 unfolding labelled
 labelled_by symbols value [] i d h = absurd (omega arith)
 labelled_by symbols value (n ∷ ns) zero d h = refl
 labelled_by symbols value (n ∷ ns) (suc i) d h = labelled_by (defined symbols n value) value ns i d (omega arith)
 
-pub labelled_more : (symbols : List (ℕ × ℕ)) (value : ℕ) (labels : List ℕ) (i d : ℕ) → i < length labels → labelled symbols value (take (i + 1) labels) ≡ defined (labelled symbols value (take i labels)) (get_or labels i d) value
+pub labelled_more : (symbols : List (ℕ × ℕ)) (value : ℕ) (labels : List ℕ) (i d : ℕ) → i < length labels
+    → labelled symbols value (take (i + 1) labels) ≡ defined (labelled symbols value (take i labels)) (get_or labels i d) value
 labelled_more symbols value labels i d h = rw add-one (labelled_by symbols value labels i d h)
 
 or_assoc : (x y z : Bool) → (x || (y || z)) ≡ ((x || y) || z)
@@ -53,14 +55,17 @@ or_false true = refl
 or_false false = refl
 
 any_defined_by : (symbols : List (ℕ × ℕ)) (value : ℕ) (labels : List ℕ) (i d : ℕ) → i < length labels
-    → any_defined symbols value (take (suc i) labels) ≡ (any_defined symbols value (take i labels) || is_defined (labelled symbols value (take i labels)) (get_or labels i d))
+    → any_defined symbols value (take (suc i) labels) ≡ (any_defined symbols value (take i labels) || is_defined
+    (labelled symbols value (take i labels)) (get_or labels i d))
 unfolding labelled
 any_defined_by symbols value [] i d h = absurd (omega arith)
 any_defined_by symbols value (n ∷ ns) zero d h = or_false (is_defined symbols n)
 any_defined_by symbols value (n ∷ ns) (suc i) d h =
     ap (λ b. is_defined symbols n || b) (any_defined_by (defined symbols n value) value ns i d (omega arith))
-    ∙ or_assoc (is_defined symbols n) (any_defined (defined symbols n value) value (take i ns)) (is_defined (labelled (defined symbols n value) value (take i ns)) (get_or ns i d))
+    ∙ or_assoc (is_defined symbols n) (any_defined (defined symbols n value) value (take i ns))
+    (is_defined (labelled (defined symbols n value) value (take i ns)) (get_or ns i d))
 
 pub any_defined_more : (symbols : List (ℕ × ℕ)) (value : ℕ) (labels : List ℕ) (i d : ℕ) → i < length labels
-    → any_defined symbols value (take (i + 1) labels) ≡ (any_defined symbols value (take i labels) || is_defined (labelled symbols value (take i labels)) (get_or labels i d))
+    → any_defined symbols value (take (i + 1) labels) ≡ (any_defined symbols value (take i labels) || is_defined
+    (labelled symbols value (take i labels)) (get_or labels i d))
 any_defined_more symbols value labels i d h = rw add-one (any_defined_by symbols value labels i d h)

@@ -57,22 +57,26 @@ not_past base (w ∷ ws) i h lt =
     let few = ltb-false (2 ^ 18) (base + length (w ∷ ws)) h in
     omega arith
 
-placed_by : (base : ℕ) (ws : List ℕ) (cells : List (ℕ × ℕ)) (i d : ℕ) → i < length ws → placed base (take (suc i) ws) cells ≡ inserted (base + i) (get_or ws i d) (placed base (take i ws) cells)
+placed_by : (base : ℕ) (ws : List ℕ) (cells : List (ℕ × ℕ)) (i d : ℕ) → i < length ws
+    → placed base (take (suc i) ws) cells ≡ inserted (base + i) (get_or ws i d) (placed base (take i ws) cells)
 placed_by base [] cells i d h = absurd (omega arith)
 placed_by base (w ∷ ws) cells zero d h = let e : base + 0 ≡ base = omega arith in rw e refl
 placed_by base (w ∷ ws) cells (suc i) d h =
     let e : base + suc i ≡ base + 1 + i = omega arith in
     rw e (placed_by (base + 1) ws (inserted base w cells) i d (omega arith))
 
-pub placed_more : (base : ℕ) (ws : List ℕ) (cells : List (ℕ × ℕ)) (i d at : ℕ) → i < length ws → at ≡ base + i → placed base (take (i + 1) ws) cells ≡ inserted at (get_or ws i d) (placed base (take i ws) cells)
+pub placed_more : (base : ℕ) (ws : List ℕ) (cells : List (ℕ × ℕ)) (i d at : ℕ) → i < length ws → at ≡ base + i
+    → placed base (take (i + 1) ws) cells ≡ inserted at (get_or ws i d) (placed base (take i ws) cells)
 placed_more base ws cells i d at h e = rw (add-one, e) (placed_by base ws cells i d h)
 
-pub any_here : (base : ℕ) (ws : List ℕ) (cells : List (ℕ × ℕ)) (i at : ℕ) → i < length ws → at ≡ base + i → is_given cells at ≡ true → any_given base ws cells ≡ true
+pub any_here : (base : ℕ) (ws : List ℕ) (cells : List (ℕ × ℕ)) (i at : ℕ) → i < length ws → at ≡ base + i → is_given cells at ≡ true
+    → any_given base ws cells ≡ true
 any_here base [] cells i at h e t = absurd (omega arith)
 any_here base (w ∷ ws) cells zero at h e t =
     let same : base ≡ at = omega arith in
     rw (same, t) refl
-any_here base (w ∷ ws) cells (suc i) at h e t = or_right (is_given cells base) (any_given (base + 1) ws cells) (any_here (base + 1) ws cells i at (omega arith) (omega arith) t)
+any_here base (w ∷ ws) cells (suc i) at h e t = or_right (is_given cells base) (any_given (base + 1) ws cells)
+    (any_here (base + 1) ws cells i at (omega arith) (omega arith) t)
 
 -- none of the first i has a word
 pub record NoneOf (base : ℕ) (ws : List ℕ) (cells : List (ℕ × ℕ)) (i : ℕ) : Type 0 where
@@ -81,7 +85,8 @@ pub record NoneOf (base : ℕ) (ws : List ℕ) (cells : List (ℕ × ℕ)) (i : 
 pub none_yet : (base : ℕ) (ws : List ℕ) (cells : List (ℕ × ℕ)) → NoneOf base ws cells 0
 none_yet base ws cells = record { none = λ k h. absurd (omega arith) }
 
-pub none_more : (base : ℕ) (ws : List ℕ) (cells : List (ℕ × ℕ)) (i at : ℕ) → NoneOf base ws cells i → at ≡ base + i → is_given cells at ≡ false → NoneOf base ws cells (i + 1)
+pub none_more : (base : ℕ) (ws : List ℕ) (cells : List (ℕ × ℕ)) (i at : ℕ) → NoneOf base ws cells i → at ≡ base + i
+    → is_given cells at ≡ false → NoneOf base ws cells (i + 1)
 none_more base ws cells i at n e f = record {
   none = λ k h. elim (cases_lt k i) [
     | inl below ↦ n.none k below
@@ -94,7 +99,8 @@ none_by base [] cells f = refl
 none_by base (w ∷ ws) cells f =
     let e : base + 0 ≡ base = omega arith in
     let first : is_given cells base ≡ false = rw e at (f 0 (omega arith)) in
-    let rest : (k : ℕ) → k < length ws → is_given cells (base + 1 + k) ≡ false = λ k h. (let s : base + 1 + k ≡ base + suc k = omega arith in rw s (f (suc k) (omega arith))) in
+    let rest : (k : ℕ) → k < length ws → is_given cells (base + 1 + k) ≡ false =
+    λ k h. (let s : base + 1 + k ≡ base + suc k = omega arith in rw s (f (suc k) (omega arith))) in
     or_from (is_given cells base) (any_given (base + 1) ws cells) first (none_by (base + 1) ws cells rest)
 
 pub none_given_all : (base : ℕ) (ws : List ℕ) (cells : List (ℕ × ℕ)) (i : ℕ) → NoneOf base ws cells i → length ws ≤ i → any_given base ws cells ≡ false
@@ -104,10 +110,12 @@ none_given_all base ws cells i n h = none_by base ws cells (λ k lt. n.none k (o
 pub from_none : (whole : Layout) (n : ℕ) (a : Assembly) → from_line whole n a [] ≡ ended n a.layout.stage a
 from_none whole n a = refl
 
-pub from_taken : (whole : Layout) (n : ℕ) (a b : Assembly) (line : List ℕ) (lines : List (List ℕ)) → with_line whole a line ≡ unless None b → from_line whole n a (line ∷ lines) ≡ from_line whole (n + 1) b lines
+pub from_taken : (whole : Layout) (n : ℕ) (a b : Assembly) (line : List ℕ) (lines : List (List ℕ)) → with_line whole a line ≡ unless None b
+    → from_line whole n a (line ∷ lines) ≡ from_line whole (n + 1) b lines
 from_taken whole n a b line lines h = rw h refl
 
-pub from_refused : (whole : Layout) (n : ℕ) (a b : Assembly) (line : List ℕ) (lines : List (List ℕ)) (reason : AsmReason) → with_line whole a line ≡ unless (Some reason) b → from_line whole n a (line ∷ lines) ≡ Err (Line n reason)
+pub from_refused : (whole : Layout) (n : ℕ) (a b : Assembly) (line : List ℕ) (lines : List (List ℕ)) (reason : AsmReason)
+    → with_line whole a line ≡ unless (Some reason) b → from_line whole n a (line ∷ lines) ≡ Err (Line n reason)
 from_refused whole n a b line lines reason h = rw h refl
 
 -- no lines are left

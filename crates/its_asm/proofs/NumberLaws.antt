@@ -26,7 +26,8 @@ cut_unmarked marks (b ∷ rest) h =
           rw (miss, none) refl)
     ]
 
-pub cut_marked : (marks xs : List ℕ) (m : ℕ) (ys : List ℕ) → list_all (unmarked marks) xs ≡ true → is_mark marks m ≡ true → cut marks (xs ++ m ∷ ys) ≡ Some (xs, m, ys)
+pub cut_marked : (marks xs : List ℕ) (m : ℕ) (ys : List ℕ) → list_all (unmarked marks) xs ≡ true → is_mark marks m ≡ true
+    → cut marks (xs ++ m ∷ ys) ≡ Some (xs, m, ys)
 cut_marked marks [] m ys h t = rw t refl
 cut_marked marks (b ∷ rest) m ys h t =
     elim (cases_Bool (is_mark marks b)) [

@@ -5,7 +5,8 @@ use Rattle.std.specs.Map.{lookup}
 use Rattle.indexmap.specs.IndexMap.{insert_entry}
 use Rattle.its_asm.specs.Layout.{defined}
 
-goes_last : (symbols : List (ℕ × ℕ)) (name value : ℕ) → lookup (nat_eq name) symbols ≡ None → insert_entry nat_eq symbols name value ≡ symbols ++ (name, value) ∷ []
+goes_last : (symbols : List (ℕ × ℕ)) (name value : ℕ) → lookup (nat_eq name) symbols ≡ None
+    → insert_entry nat_eq symbols name value ≡ symbols ++ (name, value) ∷ []
 goes_last [] name value none = refl
 goes_last (s ∷ ss) name value none =
     elim (cases_Bool (nat_eq name s.0)) [
@@ -16,7 +17,8 @@ goes_last (s ∷ ss) name value none =
     ]
 
 -- a new name goes last
-pub defines : (symbols : List (ℕ × ℕ)) (name value : ℕ) → lookup (nat_eq name) symbols ≡ None → insert_entry nat_eq symbols name value ≡ defined symbols name value
+pub defines : (symbols : List (ℕ × ℕ)) (name value : ℕ) → lookup (nat_eq name) symbols ≡ None
+    → insert_entry nat_eq symbols name value ≡ defined symbols name value
 defines symbols name value none = goes_last symbols name value none ∙ sym (rw none refl)
 
 -- a name that has a value keeps it

@@ -40,12 +40,15 @@ unfolding statement_words
 words_plain line h = rw h refl
 
 -- a line of a name, a space and an operand has these two words
-two_words : (n t : List ℕ) → 1 ≤ length n → 1 ≤ length t → list_all is_letter n ≡ true → list_all is_operand t ≡ true → statement_words (n ++ 32 ∷ t) ≡ n ∷ t ∷ []
+two_words : (n t : List ℕ) → 1 ≤ length n → 1 ≤ length t → list_all is_letter n ≡ true → list_all is_operand t ≡ true
+    → statement_words (n ++ 32 ∷ t) ≡ n ∷ t ∷ []
 two_words n t some more h k =
     let plain : cut (codes ";") (n ++ 32 ∷ t) ≡ None =
     cut_unmarked (codes ";") (n ++ 32 ∷ t)
-    (all_two (unmarked (codes ";")) n t (all_imp is_letter (unmarked (codes ";")) letter_code_free n h) (all_imp is_operand (unmarked (codes ";")) operand_code_free t k) refl) in
-    let first : words_of (n ++ 32 ∷ t) ≡ n ∷ words_of t = words_first n t (record { some = some; visible = all_imp is_letter (is_code 33 126) letter_visible n h }) in
+    (all_two (unmarked (codes ";")) n t (all_imp is_letter (unmarked (codes ";")) letter_code_free n h)
+    (all_imp is_operand (unmarked (codes ";")) operand_code_free t k) refl) in
+    let first : words_of (n ++ 32 ∷ t) ≡ n ∷ words_of t = words_first n t
+    (record { some = some; visible = all_imp is_letter (is_code 33 126) letter_visible n h }) in
     let last : words_of t ≡ t ∷ [] = words_one t (record { some = more; visible = all_imp is_operand (is_code 33 126) operand_visible t k }) in
     words_plain (n ++ 32 ∷ t) plain ∙ first ∙ ap (λ ws. n ∷ ws) last
 
@@ -62,10 +65,12 @@ read_line n t w some few more short h k made =
     rw (fits, shown, two, made) refl
 
 -- a word whose opcode has no name
-halves_made : (w : ℕ) → w < 2 ^ 36 → with_one no_names no_names (codes "WORD") (digits_of (left_of w) ++ (codes ",," ++ digits_of (right_of w))) ≡ Some (Gives (Ok (without_literal w)))
+halves_made : (w : ℕ) → w < 2 ^ 36 → with_one no_names no_names (codes "WORD")
+    (digits_of (left_of w) ++ (codes ",," ++ digits_of (right_of w))) ≡ Some (Gives (Ok (without_literal w)))
 unfolding with_one
 halves_made w h =
-    let made : whole no_names (digits_of (left_of w) ++ (codes ",," ++ digits_of (right_of w))) ≡ Ok (pair_of (left_of w) (right_of w)) = whole_number no_names (left_of w) (right_of w) (omega arith) (omega arith) in
+    let made : whole no_names (digits_of (left_of w) ++ (codes ",," ++ digits_of (right_of w))) ≡ Ok (pair_of (left_of w) (right_of w)) =
+    whole_number no_names (left_of w) (right_of w) (omega arith) (omega arith) in
     let same : pair_of (left_of w) (right_of w) ≡ w = omega arith in
     rw (made, same) refl
 
@@ -79,7 +84,8 @@ read_halves w h =
     (halves_bytes (left_of w) (right_of w) (omega arith) (omega arith)) (halves_made w h)
 
 -- an operation by its name
-operation_made : (n t : List ℕ) (op v : ℕ) → is_other n ≡ false → opcode_named n ≡ Some op → instruction no_names op t ≡ Ok (without_literal v) → with_one no_names no_names n t ≡ Some (Gives (Ok (without_literal v)))
+operation_made : (n t : List ℕ) (op v : ℕ) → is_other n ≡ false → opcode_named n ≡ Some op
+    → instruction no_names op t ≡ Ok (without_literal v) → with_one no_names no_names n t ≡ Some (Gives (Ok (without_literal v)))
 unfolding with_one
 operation_made n t op v other found made =
     let a = or_parts (bytes_eq n (codes "LOC")) (bytes_eq n (codes "GO") || (bytes_eq n (codes "WORD") || bytes_eq n (codes "SIXBIT"))) other in
@@ -113,7 +119,8 @@ read_operation w n h named =
     let y : right_of w < 2 ^ 18 = omega arith in
     let size = operand_length (ac_of w) (indirect_of w) (right_of w) (index_of w) a y x in
     let made : instruction no_names (opcode_of w) (typed_operand w) ≡ Ok (without_literal w) =
-    instruction_number no_names (opcode_of w) (ac_of w) (indirect_of w) (right_of w) (index_of w) a i y x ∙ ap (λ (v : ℕ). Ok (without_literal v)) (fields w h) in
+    instruction_number no_names (opcode_of w) (ac_of w) (indirect_of w) (right_of w) (index_of w) a i y x
+    ∙ ap (λ (v : ℕ). Ok (without_literal v)) (fields w h) in
     read_line n (typed_operand w) w long short size.0 size.1 bytes.0 (operand_bytes (ac_of w) (indirect_of w) (right_of w) (index_of w) a y x)
     (operation_made n (typed_operand w) (opcode_of w) w other (named_first n (opcode_of w) below own.first) made)
 

@@ -35,7 +35,8 @@ place_number s n (d ∷ ds) h k =
     rw (bracket, one) refl
 
 -- an address after its `@`
-indexed_number : (s : Scope) (i y x : ℕ) → y < 2 ^ 18 → x < 16 → indexed s i (digits_of y ++ typed_index x) ≡ Ok (without_literal (i * 2 ^ 22 + x * 2 ^ 18 + y))
+indexed_number : (s : Scope) (i y x : ℕ) → y < 2 ^ 18 → x < 16
+    → indexed s i (digits_of y ++ typed_index x) ≡ Ok (without_literal (i * 2 ^ 22 + x * 2 ^ 18 + y))
 indexed_number s i y x hy hx =
     let ny = digits_number y hy in
     let nx = digits_number x (omega arith) in
@@ -48,7 +49,8 @@ indexed_number s i y x hy hx =
           let nil : digits_of y ++ [] ≡ digits_of y = append-nil (digits_of y) in
           rw (none) (rw (nil, one, py) refl))
       | inr miss ↦
-          (let two : cut (codes "(") (digits_of y ++ 40 ∷ (digits_of x ++ 41 ∷ [])) ≡ Some (digits_of y, 40, digits_of x ++ 41 ∷ []) = cut_marked (codes "(") (digits_of y) 40 (digits_of x ++ 41 ∷ []) free refl in
+          (let two : cut (codes "(") (digits_of y ++ 40 ∷ (digits_of x ++ 41 ∷ [])) ≡ Some
+          (digits_of y, 40, digits_of x ++ 41 ∷ []) = cut_marked (codes "(") (digits_of y) 40 (digits_of x ++ 41 ∷ []) free refl in
           let last : closed 41 (digits_of x ++ 41 ∷ []) ≡ Some (digits_of x) = closed_last (digits_of x) 41 in
           let rx : register s (digits_of x) ≡ Ok x = register_number s x (digits_of x) (omega arith) nx in
           rw (miss, two, py, last, rx) refl)
@@ -61,7 +63,8 @@ no_at n (d ∷ ds) u k =
     let digit = first_digit d ds k.digits in
     grind (arith, nat_tests)
 
-pub address_number : (s : Scope) (i y x : ℕ) → i < 2 → y < 2 ^ 18 → x < 16 → address s (typed_indirect i ++ (digits_of y ++ typed_index x)) ≡ Ok (without_literal (i * 2 ^ 22 + x * 2 ^ 18 + y))
+pub address_number : (s : Scope) (i y x : ℕ) → i < 2 → y < 2 ^ 18 → x < 16
+    → address s (typed_indirect i ++ (digits_of y ++ typed_index x)) ≡ Ok (without_literal (i * 2 ^ 22 + x * 2 ^ 18 + y))
 unfolding address
 address_number s zero y x hi hy hx = rw (no_at y (digits_of y) (typed_index x) (digits_number y hy)) (indexed_number s 0 y x hy hx)
 address_number s (suc zero) y x hi hy hx = indexed_number s 1 y x hy hx
@@ -69,7 +72,8 @@ address_number s (suc (suc i)) y x hi hy hx = absurd (omega arith)
 
 -- the operand of an instruction
 pub instruction_number : (s : Scope) (op a i y x : ℕ) → a < 16 → i < 2 → y < 2 ^ 18 → x < 16
-    → instruction s op (typed_ac a ++ (typed_indirect i ++ (digits_of y ++ typed_index x))) ≡ Ok (without_literal (op * 2 ^ 27 + a * 2 ^ 23 + (i * 2 ^ 22 + x * 2 ^ 18 + y)))
+    → instruction s op (typed_ac a ++ (typed_indirect i ++ (digits_of y ++ typed_index x))) ≡ Ok
+    (without_literal (op * 2 ^ 27 + a * 2 ^ 23 + (i * 2 ^ 22 + x * 2 ^ 18 + y)))
 unfolding instruction
 instruction_number s op a i y x ha hi hy hx =
     let rest = typed_indirect i ++ (digits_of y ++ typed_index x) in
@@ -96,7 +100,8 @@ whole_number s l r hl hr =
     let nl = digits_number l hl in
     let nr = digits_number r hr in
     let free = all_imp (is_code 48 55) (unmarked (codes ",")) lone_comma_free (digits_of l) nl.digits in
-    let two : cut (codes ",") (digits_of l ++ 44 ∷ (44 ∷ digits_of r)) ≡ Some (digits_of l, 44, 44 ∷ digits_of r) = cut_marked (codes ",") (digits_of l) 44 (44 ∷ digits_of r) free refl in
+    let two : cut (codes ",") (digits_of l ++ 44 ∷ (44 ∷ digits_of r)) ≡ Some (digits_of l, 44, 44 ∷ digits_of r) =
+    cut_marked (codes ",") (digits_of l) 44 (44 ∷ digits_of r) free refl in
     let el : expression s (digits_of l) ≡ Ok l = expression_number s l (digits_of l) hl nl in
     let er : expression s (digits_of r) ≡ Ok r = expression_number s r (digits_of r) hr nr in
     rw (two, el, er) refl

@@ -3,12 +3,9 @@ ghost use Rattle.std.specs.Prelude.{◌≡◌, ◌<◌, ◌^◌, [], length, sli
 ghost use Rattle.its_asm.specs.Assembly.{inserted, is_given};
 ghost use Rattle.its_asm.specs.Cells.{cell_at, cells_from};
 
-use its_word::{Word, filled};
+use its_word::{ADDRESSES, Word, filled};
 use std::alloc::{AllocError, Global};
 use std::marker::Model;
-
-/// How many addresses there are.
-const ADDRESSES: usize = 0o1000000;
 
 /// Addresses with their words. Contracts see the list of pairs, in rising order of address.
 #[derive(Drop)]
@@ -64,7 +61,7 @@ impl Given {
     pub fn new(alloc: Global) -> Result<Given, AllocError>
         ensures { IfOk result (λ g. g ≡ []) }
     {
-        let words = filled(alloc, None, ADDRESSES).map_err(|_| AllocError)?;
+        let words = filled(alloc, None, ADDRESSES as usize).map_err(|_| AllocError)?;
         Ok(Given { words })
     }
 

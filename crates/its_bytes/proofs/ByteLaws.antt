@@ -4,7 +4,8 @@ use Rattle.std.proofs.lemmas.Nat.{mod_below, mul-add-lt, one_shl, or_shifted, po
 
 -- the bits above, the byte and the bits below share no bit
 pub spliced : (w p s b : ℕ) → p < 64 → s ≤ 36 → b < 2 ^ s → w < 2 ^ 128
-    → bit_or (w / 2 ^ (p + s) * 2 ^ (p + s) % 2 ^ 128) (bit_or (b * 2 ^ p % 2 ^ 128) (w % (1 * 2 ^ p % 2 ^ 128))) ≡ w / 2 ^ (p + s) * 2 ^ (p + s) + b * 2 ^ p + w % 2 ^ p
+    → bit_or (w / 2 ^ (p + s) * 2 ^ (p + s) % 2 ^ 128) (bit_or (b * 2 ^ p % 2 ^ 128) (w % (1 * 2 ^ p % 2 ^ 128))) ≡ w / 2 ^ (p + s) * 2 ^
+    (p + s) + b * 2 ^ p + w % 2 ^ p
 spliced w p s b place few fits below =
     let mask : 1 * 2 ^ p % 2 ^ 128 ≡ 2 ^ p = one_shl p 128 (omega arith) in
     let low : w % 2 ^ p < 2 ^ p = mod_below w (2 ^ p) (pow_pos p) in

@@ -2,7 +2,7 @@
 use Rattle.std.proofs.Common.{◌≡◌, ◌<◌, ◌≤◌, ◌+◌, ◌-◌, ◌*◌, ◌/◌, ◌%◌, ℕ, zero, suc, Bool, true, false, Option, Some, None, List, [], ◌∷◌, length, take, drop, slice_get, bytes_eq, codes, refl, sym, ap, ◌∙◌, arith, inl, inr}
 use Rattle.std.specs.List.{position_or_len}
 use Rattle.std.proofs.lemmas.Bool.{agree_below_at, cases_Bool, cases_lt, lt-ltb, le-ltb}
-use Rattle.its_word.specs.Opcode.{entry, instruction_of, monitor_opcode, byte_opcode, full_word_opcode, shift_opcode, branch_opcode, stack_opcode, compare_opcode, test_opcode, mode_of, mask_of}
+use Rattle.its_word.specs.Opcode.{boolean_for, entry, instruction_of, monitor_opcode, byte_opcode, full_word_opcode, shift_opcode, branch_opcode, stack_opcode, compare_opcode, test_opcode, mode_of, mask_of}
 use Rattle.its_word.specs.Table.{table}
 use Rattle.its_word.proofs.TableLaws.{get-table, length-table}
 use Rattle.its_word.specs.declared.instruction.Instruction.{Instruction}
@@ -33,7 +33,8 @@ cell_at op = cell_of (mnemonic_of op)
 
 -- the chart has the names of the families
 chart_is : cells CHART.now ≡ table 448 cell_at
-unfolding table mnemonic_of instruction_of monitor_opcode byte_opcode full_word_opcode shift_opcode branch_opcode stack_opcode compare_opcode test_opcode mode_of mask_of
+unfolding table mnemonic_of instruction_of monitor_opcode byte_opcode full_word_opcode shift_opcode branch_opcode stack_opcode
+    compare_opcode test_opcode mode_of mask_of
 chart_is = refl
 
 inside : {X : Type 0} (x y : X) → Some x ≡ Some y → x ≡ y
@@ -66,7 +67,7 @@ illegal op h =
     ∷ byte_opcode op
     ∷ full_word_opcode op
     ∷ compare_opcode op
-    ∷ Boolean (op / 4 % 16) (mode_of op)
+    ∷ Boolean (boolean_for op) (mode_of op)
     ∷ Half (op / 4 % 16) (mode_of op)
     ∷ test_opcode op
     ∷ Illegal
@@ -83,7 +84,8 @@ is_dash None = false
 is_dash (Some n) = bytes_eq n (codes "-")
 
 never_dash : (op : ℕ) → op < 448 → is_dash (mnemonic_of op) ≡ false
-unfolding mnemonic_of instruction_of monitor_opcode byte_opcode full_word_opcode shift_opcode branch_opcode stack_opcode compare_opcode test_opcode mode_of mask_of
+unfolding mnemonic_of instruction_of monitor_opcode byte_opcode full_word_opcode shift_opcode branch_opcode stack_opcode compare_opcode
+    test_opcode mode_of mask_of
 never_dash op h = agree_below_at (λ k. is_dash (mnemonic_of k)) (λ k. false) 448 op refl h
 
 unnamed_by : (r : Option (List ℕ)) → is_dash r ≡ false → bytes_eq (cell_of r) (codes "-") ≡ true → None ≡ r
@@ -110,7 +112,8 @@ unfolding names
 names_at k h = get-table 512 mnemonic_of k h
 
 -- the place of the first element that passes
-passes_here : {X : Type 0} (p : X → Bool) (xs : List X) (k : ℕ) (x : X) → slice_get xs k ≡ Some x → p x ≡ true → k ≤ position_or_len p xs → position_or_len p xs ≡ k
+passes_here : {X : Type 0} (p : X → Bool) (xs : List X) (k : ℕ) (x : X) → slice_get xs k ≡ Some x → p x ≡ true → k ≤ position_or_len p xs
+    → position_or_len p xs ≡ k
 passes_here p [] k x e t h = cc
 passes_here p (y ∷ ys) zero x e t h =
     let same : y ≡ x = cc in
@@ -123,7 +126,8 @@ passes_here p (y ∷ ys) (suc k) x e t h =
           rw (miss, more) (omega arith))
     ]
 
-fails_here : {X : Type 0} (p : X → Bool) (xs : List X) (k : ℕ) (x : X) → slice_get xs k ≡ Some x → p x ≡ false → k ≤ position_or_len p xs → k + 1 ≤ position_or_len p xs
+fails_here : {X : Type 0} (p : X → Bool) (xs : List X) (k : ℕ) (x : X) → slice_get xs k ≡ Some x → p x ≡ false → k ≤ position_or_len p xs
+    → k + 1 ≤ position_or_len p xs
 fails_here p [] k x e t h = cc
 fails_here p (y ∷ ys) zero x e t h =
     let same : y ≡ x = cc in

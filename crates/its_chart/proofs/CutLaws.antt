@@ -17,7 +17,8 @@ cut_past marks (b ∷ rest) h =
     ]
 
 -- a text with its first mark at a place
-cut_first : (marks text : List ℕ) (k : ℕ) → k ≡ position_or_len (is_mark marks) text → k < length text → cut marks text ≡ Some (take k text, slice_index text k, drop (suc k) text)
+cut_first : (marks text : List ℕ) (k : ℕ) → k ≡ position_or_len (is_mark marks) text → k < length text
+    → cut marks text ≡ Some (take k text, slice_index text k, drop (suc k) text)
 cut_first marks [] k e l = absurd (omega arith)
 cut_first marks (b ∷ rest) zero e l =
     elim (cases_Bool (is_mark marks b)) [
@@ -39,7 +40,8 @@ cut_none marks text none =
       | inr past ↦ cut_past marks text (ltb-false _ _ past)
     ]
 
-pub cut_found : (marks text : List ℕ) (k : ℕ) → position (is_mark marks) text ≡ Some k → cut marks text ≡ Some (take k text, slice_index text k, take (length text - (k + 1)) (drop (k + 1) text))
+pub cut_found : (marks text : List ℕ) (k : ℕ) → position (is_mark marks) text ≡ Some k
+    → cut marks text ≡ Some (take k text, slice_index text k, take (length text - (k + 1)) (drop (k + 1) text))
 cut_found marks text k found =
     elim (cases_Bool (ltb (position_or_len (is_mark marks) text) (length text))) [
       | inl some ↦

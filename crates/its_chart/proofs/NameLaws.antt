@@ -32,7 +32,8 @@ abbrev always : ℕ → Bool
 always k = true
 
 names_stand : (k : ℕ) → k < 512 → stands names k ≡ true
-unfolding names table mnemonic_of instruction_of monitor_opcode byte_opcode full_word_opcode shift_opcode branch_opcode stack_opcode compare_opcode test_opcode mode_of mask_of
+unfolding names table mnemonic_of instruction_of monitor_opcode byte_opcode full_word_opcode shift_opcode branch_opcode stack_opcode
+    compare_opcode test_opcode mode_of mask_of
 names_stand k h = agree_below_at (stands names) always 512 k refl h
 
 -- the first opcode with a name is its own, and it is written as an operation

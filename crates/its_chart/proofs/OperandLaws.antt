@@ -34,7 +34,8 @@ short_index x h =
     ]
 
 pub operand_length : (a i y x : ℕ) → a < 16 → y < 2 ^ 18 → x < 16
-    → (1 ≤ length (typed_ac a ++ (typed_indirect i ++ (digits_of y ++ typed_index x)))) × (length (typed_ac a ++ (typed_indirect i ++ (digits_of y ++ typed_index x))) ≤ 40)
+    → (1 ≤ length (typed_ac a ++ (typed_indirect i ++ (digits_of y ++ typed_index x))))
+    × (length (typed_ac a ++ (typed_indirect i ++ (digits_of y ++ typed_index x))) ≤ 40)
 operand_length a i y x ha hy hx =
     let la = short_ac a ha in
     let li = short_indirect i in
@@ -67,7 +68,8 @@ inner_index : (x : ℕ) → x < 16 → list_all is_inner (typed_index x) ≡ tru
 inner_index x h =
     elim (cases_Bool (x == 0)) [
       | inl hit ↦ rw hit refl
-      | inr miss ↦ (let more : list_all is_inner (digits_of x ++ 41 ∷ []) ≡ true = all_append is_inner (digits_of x) (41 ∷ []) (inner_digits x (omega arith)) refl in rw miss more)
+      | inr miss ↦ (let more : list_all is_inner (digits_of x ++ 41 ∷ []) ≡ true = all_append is_inner (digits_of x) (41 ∷ [])
+          (inner_digits x (omega arith)) refl in rw miss more)
     ]
 
 inner_indirect : (i : ℕ) → list_all is_inner (typed_indirect i) ≡ true
@@ -82,7 +84,8 @@ inner_address i y x hy hx =
     all_append is_inner (typed_indirect i) (digits_of y ++ typed_index x) (inner_indirect i)
     (all_append is_inner (digits_of y) (typed_index x) (inner_digits y hy) (inner_index x hx))
 
-pub operand_bytes : (a i y x : ℕ) → a < 16 → y < 2 ^ 18 → x < 16 → list_all is_operand (typed_ac a ++ (typed_indirect i ++ (digits_of y ++ typed_index x))) ≡ true
+pub operand_bytes : (a i y x : ℕ) → a < 16 → y < 2 ^ 18 → x < 16
+    → list_all is_operand (typed_ac a ++ (typed_indirect i ++ (digits_of y ++ typed_index x))) ≡ true
 operand_bytes a i y x ha hy hx =
     let inner = all_imp is_inner is_operand inner_operand (typed_indirect i ++ (digits_of y ++ typed_index x)) (inner_address i y x hy hx) in
     elim (cases_Bool (a == 0)) [

@@ -61,9 +61,11 @@ halves_printable w =
 operation_printable : (w : ℕ) (n : List ℕ) → opcode_of w < 512 → mnemonic_of (opcode_of w) ≡ Some n → is_printable (typed_by (Some n) w) ≡ true
 operation_printable w n below e =
     let op : is_op n ≡ true = (stood (opcode_of w) n below e).operation in
-    let letters = (both_true (list_all is_letter n) (not (is_other n)) (both_true (nat_le 1 (length n) && nat_le (length n) 7) (list_all is_letter n && not (is_other n)) op).1).0 in
+    let letters = (both_true (list_all is_letter n) (not (is_other n))
+    (both_true (nat_le 1 (length n) && nat_le (length n) 7) (list_all is_letter n && not (is_other n)) op).1).0 in
     let operand = operand_bytes (ac_of w) (indirect_of w) (right_of w) (index_of w) (omega arith) (omega arith) (omega arith) in
-    all_two (is_code 32 126) n (typed_operand w) (all_imp is_letter (is_code 32 126) letter_printable n letters) (all_imp is_operand (is_code 32 126) operand_printable (typed_operand w) operand) refl
+    all_two (is_code 32 126) n (typed_operand w) (all_imp is_letter (is_code 32 126) letter_printable n letters)
+    (all_imp is_operand (is_code 32 126) operand_printable (typed_operand w) operand) refl
 
 printable_by : (w : ℕ) (r : Option (List ℕ)) → mnemonic_of (opcode_of w) ≡ r → is_printable (typed_by r w) ≡ true
 printable_by w None e = halves_printable w

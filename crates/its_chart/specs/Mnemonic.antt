@@ -20,6 +20,14 @@ use Rattle.its_word.specs.declared.instruction.StackOp.{StackOp}
 use Rattle.its_word.specs.declared.instruction.StackOp.TheVariants.{Pushj, Push, Pop, Popj, Jsr, Jsp, Jsa, Jra}
 use Rattle.its_word.specs.declared.instruction.CompareOp.{CompareOp}
 use Rattle.its_word.specs.declared.instruction.CompareOp.TheVariants.{Cai, Cam, Jump, Skip, Aoj, Aos, Soj, Sos}
+use Rattle.its_word.specs.declared.instruction.BooleanOp.{BooleanOp}
+use Rattle.its_word.specs.declared.instruction.BooleanOp.TheVariants.{Setz, And, Andca, Setm, Andcm, Seta, Xor, Ior, Andcb, Eqv, Setca, Orca, Setcm, Orcm, Orcb, Seto}
+use Rattle.its_word.specs.declared.instruction.Condition.{Condition}
+use Rattle.its_word.specs.declared.instruction.Condition.TheVariants.{Never, L, E, Le, A, Ge, N, G}
+use Rattle.its_word.specs.declared.instruction.SkipWhen.{SkipWhen}
+use Rattle.its_word.specs.declared.instruction.SkipWhen.TheVariants.{NoSkip, AllZero, Always, NotAllZero}
+use Rattle.its_word.specs.declared.instruction.Modify.{Modify}
+use Rattle.its_word.specs.declared.instruction.Modify.TheVariants.{Unmodified, Zeros, Complement, Ones}
 use Rattle.its_word.specs.declared.instruction.MaskOp.{MaskOp}
 use Rattle.its_word.specs.declared.instruction.MaskOp.TheVariants.{Tr, Tl, Td, Ts}
 use Rattle.its_word.specs.declared.instruction.ByteOp.{ByteOp}
@@ -52,16 +60,24 @@ arithmetic_name Mul = codes "MUL"
 arithmetic_name Idiv = codes "IDIV"
 arithmetic_name Div = codes "DIV"
 
--- the sixteen Boolean functions, in the order of their opcodes
-abbrev pub boolean_name : ℕ → List ℕ
-boolean_name k =
-    text_at
-    (codes "SETZ" ∷ codes "AND" ∷ codes "ANDCA" ∷ codes "SETM"
-    ∷ codes "ANDCM" ∷ codes "SETA" ∷ codes "XOR" ∷ codes "IOR"
-    ∷ codes "ANDCB" ∷ codes "EQV" ∷ codes "SETCA" ∷ codes "ORCA"
-    ∷ codes "SETCM" ∷ codes "ORCM" ∷ codes "ORCB" ∷ codes "SETO"
-    ∷ [])
-    k
+-- the sixteen Boolean functions
+abbrev pub boolean_name : BooleanOp → List ℕ
+boolean_name Setz = codes "SETZ"
+boolean_name And = codes "AND"
+boolean_name Andca = codes "ANDCA"
+boolean_name Setm = codes "SETM"
+boolean_name Andcm = codes "ANDCM"
+boolean_name Seta = codes "SETA"
+boolean_name Xor = codes "XOR"
+boolean_name Ior = codes "IOR"
+boolean_name Andcb = codes "ANDCB"
+boolean_name Eqv = codes "EQV"
+boolean_name Setca = codes "SETCA"
+boolean_name Orca = codes "ORCA"
+boolean_name Setcm = codes "SETCM"
+boolean_name Orcm = codes "ORCM"
+boolean_name Orcb = codes "ORCB"
+boolean_name Seto = codes "SETO"
 
 -- the left half, or the right one
 abbrev pub half_letter : ℕ → List ℕ
@@ -116,9 +132,15 @@ compare_name Sos = codes "SOS"
 
 -- the eight conditions: never, less, equal, less or equal, always, greater or equal, not equal,
 -- greater
-abbrev pub condition : ℕ → List ℕ
-condition c =
-    text_at ([] ∷ codes "L" ∷ codes "E" ∷ codes "LE" ∷ codes "A" ∷ codes "GE" ∷ codes "N" ∷ codes "G" ∷ []) c
+abbrev pub condition : Condition → List ℕ
+condition Never = []
+condition L = codes "L"
+condition E = codes "E"
+condition Le = codes "LE"
+condition A = codes "A"
+condition Ge = codes "GE"
+condition N = codes "N"
+condition G = codes "G"
 
 -- the mask of a test: right, left, direct, swapped
 abbrev pub mask_letter : MaskOp → List ℕ
@@ -128,12 +150,18 @@ mask_letter Td = codes "D"
 mask_letter Ts = codes "S"
 
 -- what a test does to the masked bits: no change, zeros, complement, ones
-abbrev pub change_letter : ℕ → List ℕ
-change_letter c = text_at (codes "N" ∷ codes "Z" ∷ codes "C" ∷ codes "O" ∷ []) c
+abbrev pub change_letter : Modify → List ℕ
+change_letter Unmodified = codes "N"
+change_letter Zeros = codes "Z"
+change_letter Complement = codes "C"
+change_letter Ones = codes "O"
 
 -- when a test skips: never, all masked bits 0, always, not all 0
-abbrev pub skip_letter : ℕ → List ℕ
-skip_letter k = text_at ([] ∷ codes "E" ∷ codes "A" ∷ codes "N" ∷ []) k
+abbrev pub skip_letter : SkipWhen → List ℕ
+skip_letter NoSkip = []
+skip_letter AllZero = codes "E"
+skip_letter Always = codes "A"
+skip_letter NotAllZero = codes "N"
 
 abbrev pub byte_name : ByteOp → List ℕ
 byte_name Ibp = codes "IBP"
@@ -152,9 +180,9 @@ name_of (Branch op) = Some (branch_name op)
 name_of Xct = Some (codes "XCT")
 name_of (Stack op) = Some (stack_name op)
 name_of (Compare op c) = Some (compare_name op ++ condition c)
-name_of (Boolean k mode) = Some (boolean_name k ++ mode_letter (codes "B") mode)
+name_of (Boolean op mode) = Some (boolean_name op ++ mode_letter (codes "B") mode)
 name_of (Half k mode) = Some (half_name k ++ mode_letter (codes "S") mode)
-name_of (Test mask k c) = Some (codes "T" ++ mask_letter mask ++ change_letter c ++ skip_letter k)
+name_of (Test mask skips modify) = Some (codes "T" ++ mask_letter mask ++ change_letter modify ++ skip_letter skips)
 name_of (Byte op) = Some (byte_name op)
 name_of Iot = Some (codes ".IOT")
 name_of Call = Some (codes ".CALL")

@@ -8,14 +8,14 @@ use Rattle.its_frame.specs.declared.change.Change.TheVariants as changes
 use Rattle.its_frame.specs.declared.change.Opened.TheVariants as opened
 use Rattle.its_frame.specs.declared.decision.Decision.{Decision}
 use Rattle.its_frame.specs.declared.decision.Decision.TheVariants.{Waits, Goes, Ends, Gone}
-use Rattle.its_plain.specs.Change.{channel_in, effect}
+use Rattle.its_plain.specs.Machine.Change.{channel_in, effect}
 use Rattle.its_plain.specs.Machine.{Chan, Writes, Whole}
 use Rattle.its_stepped.specs.Commit.{effect_on}
 use Rattle.its_stepped.specs.State.{State}
 use Rattle.its_world.specs.Storage.{chan_in, IsDraft, HasRoom, CanClose}
-use Rattle.its_machine.specs.Can as plain
-use Rattle.its_machine.proofs.CanLaws.{Beside, Needs, nothing, CanAll}
-use Rattle.its_machine.proofs.CanLaws as parts
+use Rattle.its_shared.specs.Can as plain
+use Rattle.its_shared.proofs.CanLaws.{Beside, Needs, nothing, CanAll}
+use Rattle.its_shared.proofs.CanLaws as parts
 use Rattle.its_commit.specs.Built.{Removable, CanMake, CanMakeAll}
 
 -- the changes of a decision of slot j's call can be made

@@ -4,7 +4,7 @@ use Rattle.std.proofs.Common.{sym, ap, ◌∙◌, subst, arith, drop, drop-cons}
 use Rattle.its_word.specs.Console.{most_waiting}
 use Rattle.its_word.specs.Core.{Core, no_core, zero_page, page_of, with_page, marked, can_store, store, pages_mapped}
 use Rattle.its_word.specs.Limits.{most_pages}
-use Rattle.its_records.specs.Links.{most_linked}
+use Rattle.its_records.specs.Links.{most_link_words}
 use Rattle.its_word.specs.Stores.{stored}
 use Rattle.its_records.specs.Tree.{least_free, fresh_job}
 use Rattle.its_records.specs.declared.jobs.Channel.TheVariants as channels
@@ -17,20 +17,20 @@ use Rattle.its_frame.specs.declared.change.Change.{Change}
 use Rattle.its_frame.specs.declared.change.Change.TheVariants as changes
 use Rattle.its_frame.specs.declared.variable.Variable.{Variable}
 use Rattle.its_pipes.specs.Pipes.{piped}
-use Rattle.its_plain.specs.CallLink.{words_in}
-use Rattle.its_plain.specs.Change.{with_alarm, with_inf, after_take, after_put, on_console, on_link, with_sent, with_received, poke, console_in, with_page_at, with_protection, effect}
-use Rattle.its_plain.specs.Job.{INF, with_pending}
-use Rattle.its_plain.specs.Own.{with_registers, with_stores, with_variable}
+use Rattle.its_plain.specs.Call.Link.{words_in}
+use Rattle.its_plain.specs.Machine.Change.{with_alarm, with_inf, after_take, after_put, on_console, on_link, with_sent, with_received, poke, console_in, with_page_at, with_protection, effect}
+use Rattle.its_plain.specs.Machine.Registers.{INF, with_pending}
+use Rattle.its_plain.specs.Machine.Own.{with_registers, with_stores, with_variable}
 use Rattle.its_plain.specs.Machine.{Shut, Whole, whole, with_new, core_of, mapped, limit}
 use Rattle.its_stepped.specs.Lines.{with_raw}
 use Rattle.its_stepped.specs.State.{State}
 use Rattle.its_stepped.specs.Commit.{effect_on, effects_on}
-use Rattle.its_machine.proofs.BareLaws.{variable_bare, variable_channels}
+use Rattle.its_shared.proofs.BareLaws.{variable_bare, variable_channels}
 use Rattle.its_commit.proofs.TidyLaws.{tidy_core, tidy_put}
 use Rattle.its_commit.proofs.OwedLaws.{one_stored}
 use Rattle.its_core.specs.Frames.{Frames}
 use Rattle.its_commit.specs.Pages.{all_pages_changed, pages_changed}
-use Rattle.its_machine.specs.Can.{HasPage}
+use Rattle.its_shared.specs.Can.{HasPage}
 use Rattle.its_commit.specs.Built.{Maps, CanMake, CanMakeAll}
 use Rattle.its_world.specs.Made.{JobMade}
 use Rattle.its_world.specs.Mapped.{PageMapped}
@@ -54,20 +54,32 @@ inf_missing w s o e i = absent_state w s with_inf (sym e ∙ i)
 
 -- a variable
 raw_variable : (files : Store) (c : Core) (sup : Option ℕ) (a : Option (ℕ × ℕ)) (j i k : Job) → k ≡ bare i → j.channels ≡ i.channels
-    → record { core = c; job = k; superior = sup; channels = λ n. chan_of files (slice_index_or j.channels n channels.Closed); alarm = a } ≡ raw_job files c i sup a
-raw_variable files c sup a j i k e f = λ t. record { core = c; job = e t; superior = sup; channels = λ n. chan_of files (slice_index_or (f t) n channels.Closed); alarm = a }
+    → record { core = c; job = k; superior = sup; channels = λ n. chan_of files (slice_index_or j.channels n channels.Closed); alarm = a } ≡
+    raw_job files c i sup a
+raw_variable files c sup a j i k e f = λ t. record {
+  core = c;
+  job = e t;
+  superior = sup;
+  channels = λ n. chan_of files (slice_index_or (f t) n channels.Closed);
+  alarm = a;
+}
 
-pub variable_set : (old new : World) (s v : ℕ) (x : Variable) (j : Job) (o : Option Job) → o ≡ job_at old.jobs s → o ≡ Some j → JobBecomes old new s (with_variable x v j)
+pub variable_set : (old new : World) (s v : ℕ) (x : Variable) (j : Job) (o : Option Job) → o ≡ job_at old.jobs s → o ≡ Some j
+    → JobBecomes old new s (with_variable x v j)
     → state_of new ≡ in_raw (state_of old) s (with_registers (with_variable x v))
 variable_set old new s v x j o e i b =
     changed_state old new s _ (with_variable x v j) j (with_registers (with_variable x v)) b (sym e ∙ i)
-    (raw_variable old.files (core_at old.core s) (superior_at old.jobs s) (alarm_at old.alarms.items s) j (with_variable x v j) _ (variable_bare x v j) (sym (variable_channels x v j)))
+    (raw_variable old.files (core_at old.core s) (superior_at old.jobs s) (alarm_at old.alarms.items s) j (with_variable x v j) _
+    (variable_bare x v j) (sym (variable_channels x v j)))
 
-pub variable_tidy : (old new : World) (s v : ℕ) (x : Variable) (i j : Job) (o : Option Job) → o ≡ job_at old.jobs s → o ≡ Some j → i ≡ with_variable x v j → JobBecomes old new s i
+pub variable_tidy : (old new : World) (s v : ℕ) (x : Variable) (i j : Job) (o : Option Job) → o ≡ job_at old.jobs s → o ≡ Some j
+    → i ≡ with_variable x v j → JobBecomes old new s i
     → Tidy old → Tidy new
-variable_tidy old new s v x i j o e is same b tidy = tidy_put old new s _ j i _ _ (sym e ∙ is) (ap (λ (k : Job). k.channels) same ∙ variable_channels x v j) b tidy
+variable_tidy old new s v x i j o e is same b tidy = tidy_put old new s _ j i _ _ (sym e ∙ is)
+    (ap (λ (k : Job). k.channels) same ∙ variable_channels x v j) b tidy
 
-pub variable_missing : (w : World) (s v : ℕ) (x : Variable) (o : Option Job) → o ≡ job_at w.jobs s → o ≡ None → state_of w ≡ in_raw (state_of w) s (with_registers (with_variable x v))
+pub variable_missing : (w : World) (s v : ℕ) (x : Variable) (o : Option Job) → o ≡ job_at w.jobs s → o ≡ None
+    → state_of w ≡ in_raw (state_of w) s (with_registers (with_variable x v))
 variable_missing w s v x o e i = absent_state w s (with_registers (with_variable x v)) (sym e ∙ i)
 
 -- a list of changes
@@ -97,7 +109,8 @@ pages_next cs i s c w f l h =
     step : suc i ≡ i + 1
     step = omega arith
 
-can_at : (ds : List Change) (c : Change) (rest : List Change) (j : ℕ) (w : State) → ds ≡ c ∷ rest → CanMakeAll ds j w → CanMake c j w × CanMakeAll rest j (effect_on c j w)
+can_at : (ds : List Change) (c : Change) (rest : List Change) (j : ℕ) (w : State) → ds ≡ c ∷ rest → CanMakeAll ds j w → CanMake c j w
+    × CanMakeAll rest j (effect_on c j w)
 can_at ds c rest j w e h = subst (λ xs. CanMakeAll xs j w) e h
 
 can_split : (cs : List Change) (i j : ℕ) (c : Change) (w : State) → i < length cs → c ≡ slice_index_or cs i c → CanMakeAll (drop i cs) j w
@@ -112,7 +125,8 @@ can_split cs i j c w l h b =
 pub can_first : (cs : List Change) (i j : ℕ) (c : Change) (w : State) → i < length cs → c ≡ slice_index_or cs i c → CanMakeAll (drop i cs) j w → CanMake c j w
 can_first cs i j c w l h b = (can_split cs i j c w l h b).0
 
-pub can_next : (cs : List Change) (i j : ℕ) (c : Change) (w v : State) → i < length cs → c ≡ slice_index_or cs i c → v ≡ effect_on c j w → CanMakeAll (drop i cs) j w
+pub can_next : (cs : List Change) (i j : ℕ) (c : Change) (w v : State) → i < length cs → c ≡ slice_index_or cs i c → v ≡ effect_on c j w
+    → CanMakeAll (drop i cs) j w
     → CanMakeAll (drop (i + 1) cs) j v
 can_next cs i j c w v l h e b = subst (CanMakeAll (drop (i + 1) cs) j) (sym e) (can_split cs i j c w l h b).1
 
@@ -129,7 +143,8 @@ pub byte_put : (old new : World) (c x : ℕ) → ConsoleBecomes old new c (after
     → state_of new ≡ with_raw (state_of old) (on_console (state_of old).raw c (after_put x))
 byte_put old new c x b = console_state old new c (after_put x) b
 
-pub console_room : (w : World) (c : ℕ) → length ((state_of w).raw.consoles c).output < most_waiting → length (console_at w.consoles.items c).output < most_waiting
+pub console_room : (w : World) (c : ℕ) → length ((state_of w).raw.consoles c).output < most_waiting
+    → length (console_at w.consoles.items c).output < most_waiting
 unfolding state_of
 console_room w c h = h
 
@@ -146,16 +161,18 @@ pub link_there : (w : World) (l : ℕ) → is_some ((state_of w).raw.links l) �
 unfolding state_of
 link_there w l h = h
 
-pub link_room : (w : World) (l : ℕ) → length (words_in ((state_of w).raw.links l)) < most_linked → length (words_in (piped w.pipes l)) < most_linked
+pub link_room : (w : World) (l : ℕ) → length (words_in ((state_of w).raw.links l)) < most_link_words → length (words_in (piped w.pipes l)) < most_link_words
 unfolding state_of
 link_room w l h = h
 
 -- a word of a job, and a page
 core_written : (old new : World) (s : ℕ) (c : Core) (h : Whole → Whole) → HasJob (state_of old) s → CoreBecomes old new s c
-    → ((j : Job) → h (raw_job old.files (core_at old.core s) j (superior_at old.jobs s) (alarm_at old.alarms.items s)) ≡ raw_job old.files c j (superior_at old.jobs s) (alarm_at old.alarms.items s)) → state_of new ≡ in_raw (state_of old) s h
+    → ((j : Job) → h (raw_job old.files (core_at old.core s) j (superior_at old.jobs s) (alarm_at old.alarms.items s)) ≡ raw_job old.files c
+    j (superior_at old.jobs s) (alarm_at old.alarms.items s)) → state_of new ≡ in_raw (state_of old) s h
 core_written old new s c h job b e =
     let j = job_of (job_at old.jobs s) (has_job old s job) in
-    changed_state old new s c j.0 j.0 h (subst (λ (o : Option Job). Becomes old new s c o (frame_at old.frames.items s) (clear_at old.core s)) j.1 b) j.1 (e j.0)
+    changed_state old new s c j.0 j.0 h (subst (λ (o : Option Job). Becomes old new s c o (frame_at old.frames.items s)
+    (clear_at old.core s)) j.1 b) j.1 (e j.0)
 
 pub can_poke : (w : World) (s a : ℕ) → Tidy w → can_store (core_of ((state_of w).raw.jobs s)) a ≡ true → can_store (core_at w.core s) a ≡ true
 can_poke w s a tidy can = subst (λ (c : Core). can_store c a ≡ true) (core_raw w s tidy) can
@@ -165,15 +182,19 @@ pub word_poked : (old new : World) (s a x : ℕ) → a < 2 ^ 18 → HasJob (stat
 word_poked old new s a x l job b =
     let c : Core = stored (core_at old.core s) (poke a x ∷ []) in
     let at : a % 2 ^ 18 ≡ a = omega arith in
-    let d : CoreBecomes old new s c = one_stored old new s (core_at old.core s) (poke a x) (subst (λ (k : ℕ). CoreBecomes old new s (store (core_at old.core s) k x)) (sym at) b) in
+    let d : CoreBecomes old new s c = one_stored old new s (core_at old.core s) (poke a x)
+    (subst (λ (k : ℕ). CoreBecomes old new s (store (core_at old.core s) k x)) (sym at) b) in
     core_written old new s c (with_stores (poke a x ∷ [])) job d (λ j. refl)
 
-pub page_dropped : (old new : World) (s k : ℕ) → HasPage (state_of old).raw s k → CoreBecomes old (with_frames new old.core.frames) s (with_page (core_at old.core s) k None)
+pub page_dropped : (old new : World) (s k : ℕ) → HasPage (state_of old).raw s k
+    → CoreBecomes old (with_frames new old.core.frames) s (with_page (core_at old.core s) k None)
     → state_of new ≡ in_raw (state_of old) s (with_page_at k None)
-page_dropped old new s k can b = sym (frames_state new old.core.frames) ∙ core_written old (with_frames new old.core.frames) s _ (with_page_at k None) can.job b (λ j. refl)
+page_dropped old new s k can b = sym (frames_state new old.core.frames)
+    ∙ core_written old (with_frames new old.core.frames) s _ (with_page_at k None) can.job b (λ j. refl)
 
 pub page_protected : (old new : World) (s k : ℕ) (on : Bool) → HasPage (state_of old).raw s k
-    → CoreBecomes old new s (with_page (core_at old.core s) k (marked (page_of (core_at old.core s) k) on)) → state_of new ≡ in_raw (state_of old) s (with_protection k on)
+    → CoreBecomes old new s (with_page (core_at old.core s) k (marked (page_of (core_at old.core s) k) on))
+    → state_of new ≡ in_raw (state_of old) s (with_protection k on)
 page_protected old new s k on can b = core_written old new s _ (with_protection k on) can.job b (λ j. refl)
 
 pub tidy_written : (old new : World) (s : ℕ) (c : Core) → HasJob (state_of old) s → CoreBecomes old new s c → Tidy old → Tidy new
@@ -183,7 +204,8 @@ tidy_written old new s c job b tidy = tidy_core old new s c (frame_at old.frames
 pub page_written : (old new : World) (s k : ℕ) (c : Core) → HasPage (state_of old).raw s k → CoreBecomes old new s c → Tidy old → Tidy new
 page_written old new s k c can b tidy = tidy_written old new s c can.job b tidy
 
-pub page_left : (old new : World) (s k : ℕ) (c : Core) → HasPage (state_of old).raw s k → CoreBecomes old (with_frames new old.core.frames) s c → Tidy old → Tidy new
+pub page_left : (old new : World) (s k : ℕ) (c : Core) → HasPage (state_of old).raw s k
+    → CoreBecomes old (with_frames new old.core.frames) s c → Tidy old → Tidy new
 page_left old new s k c can b tidy = frames_tidy new old.core.frames (page_written old (with_frames new old.core.frames) s k c can b tidy)
 
 pub page_there : (w : World) (s k : ℕ) → Tidy w → HasPage (state_of w).raw s k → IsSome (page_of (core_at w.core s) k)
@@ -202,11 +224,13 @@ never_full w j s k tidy can full =
     let same = mapped_raw w tidy in
     omega arith
 
-pub page_mapped : (old new : World) (j s k : ℕ) → PageMapped old new j s k (with_page (core_at old.core s) k (Some zero_page)) → state_of new ≡ effect_on (changes.Map s k) j (state_of old)
+pub page_mapped : (old new : World) (j s k : ℕ) → PageMapped old new j s k (with_page (core_at old.core s) k (Some zero_page))
+    → state_of new ≡ effect_on (changes.Map s k) j (state_of old)
 unfolding effect_on effect
 page_mapped old new j s k page = mapped_state old new j s k _ page (with_page_at k (Some zero_page)) (λ i. refl)
 
-pub page_tidy : (old new : World) (j s k : ℕ) → Maps (state_of old) j s k → PageMapped old new j s k (with_page (core_at old.core s) k (Some zero_page)) → Tidy old → Tidy new
+pub page_tidy : (old new : World) (j s k : ℕ) → Maps (state_of old) j s k
+    → PageMapped old new j s k (with_page (core_at old.core s) k (Some zero_page)) → Tidy old → Tidy new
 page_tidy old new j s k can page tidy = mapped_tidy old new j s k _ page (has_job old s can.job) tidy
 
 -- the console of a job
@@ -219,14 +243,17 @@ unfolding state_of
 console_none w s e = ap (λ (o : Option Job). console_in (raw_of w.files (core_at w.core s) (superior_at w.jobs s) (alarm_at w.alarms.items s) o)) e
 
 -- the slot that is free in the raw machine is the one in which a job is made
-same_free : (w : World) (s k : ℕ) → least_free (limit (state_of w).raw) (state_of w).raw.jobs ≡ Some s → least_free w.jobs.limit (job_at w.jobs) ≡ Some k → k ≡ s
+same_free : (w : World) (s k : ℕ) → least_free (limit (state_of w).raw) (state_of w).raw.jobs ≡ Some s
+    → least_free w.jobs.limit (job_at w.jobs) ≡ Some k → k ≡ s
 same_free w s k e f = let same : Some k ≡ Some s = sym f ∙ sym (least_raw w) ∙ e in cc
 
 pub none_full : (w : World) (s : ℕ) → least_free (limit (state_of w).raw) (state_of w).raw.jobs ≡ Some s → least_free w.jobs.limit (job_at w.jobs) ≡ None → ⊥
 none_full w s e f = let same : None ≡ Some s = sym f ∙ sym (least_raw w) ∙ e in cc
 
-module _ (old new : World) (j k u n : ℕ) (console : Option ℕ) (made : JobMade old new k u n (Some j) console) (free : least_free old.jobs.limit (job_at old.jobs) ≡ Some k) (tidy : Tidy old) where
-  pub inferior_made : (s : ℕ) → least_free (limit (state_of old).raw) (state_of old).raw.jobs ≡ Some s → console ≡ console_in ((state_of old).raw.jobs j) → state_of new ≡ effect_on (changes.Make s u n) j (state_of old)
+module _ (old new : World) (j k u n : ℕ) (console : Option ℕ) (made : JobMade old new k u n (Some j) console)
+    (free : least_free old.jobs.limit (job_at old.jobs) ≡ Some k) (tidy : Tidy old) where
+  pub inferior_made : (s : ℕ) → least_free (limit (state_of old).raw) (state_of old).raw.jobs ≡ Some s
+      → console ≡ console_in ((state_of old).raw.jobs j) → state_of new ≡ effect_on (changes.Make s u n) j (state_of old)
   unfolding effect_on effect
   inferior_made s e c =
       made_state old new k u n (Some j) console made (least_blank old k tidy free) (least_quiet old k tidy free) (least_nameless old k tidy free)
@@ -236,7 +263,8 @@ module _ (old new : World) (j k u n : ℕ) (console : Option ℕ) (made : JobMad
   inferior_tidy = made_tidy old new k u n (Some j) console made (least_empty old.jobs.limit (job_at old.jobs) k free) tidy
 
 -- an alarm, which a slot without a job does not get
-pub armed_missing : (w : World) (s : ℕ) (a : Option (ℕ × ℕ)) (o : Option Job) → o ≡ job_at w.jobs s → is_some o ≡ false → state_of w ≡ in_raw (state_of w) s (with_alarm a)
+pub armed_missing : (w : World) (s : ℕ) (a : Option (ℕ × ℕ)) (o : Option Job) → o ≡ job_at w.jobs s → is_some o ≡ false
+    → state_of w ≡ in_raw (state_of w) s (with_alarm a)
 armed_missing w s a o e i = absent_state w s (with_alarm a) (none_is (job_at w.jobs s) (ap is_some (sym e) ∙ i))
 
 pub armed_tidy : (old new : World) (s : ℕ) (a : Option (ℕ × ℕ)) → is_some (job_at old.jobs s) ≡ true → AlarmBecomes old new s a → Tidy old → Tidy new

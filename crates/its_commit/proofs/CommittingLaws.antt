@@ -22,8 +22,8 @@ use Rattle.its_frame.specs.declared.decision.Held.{Held}
 use Rattle.its_frame.specs.declared.decision.Wait.{Wait}
 use Rattle.its_frame.specs.declared.frame.Frame.{Frame}
 use Rattle.its_frame.specs.declared.frame.Holding.{Holding}
-use Rattle.its_plain.specs.Arguments.{debts, with_new_values}
-use Rattle.its_plain.specs.Change.{superiors, is_gone, after_removal, inferior, effect}
+use Rattle.its_plain.specs.Call.Arguments.{debts, with_new_values}
+use Rattle.its_plain.specs.Machine.Change.{superiors, is_gone, after_removal, inferior, effect}
 use Rattle.its_plain.specs.Machine.{changed}
 use Rattle.its_stepped.specs.Commit.{effect_on, effects_on, after_commit, after_going_on, owed_by, given_up, owed_part, owed_parts, owed_store}
 use Rattle.its_stepped.specs.State.{State, mine, with_slot, same, ending, waiting}
@@ -33,7 +33,7 @@ use Rattle.its_world.specs.World.{state_of, marking, mark_of, parts_left, frame_
 use Rattle.its_world.specs.declared.world.World.{World}
 use Rattle.its_world.proofs.StateLaws.{kept_slot}
 use Rattle.its_world.proofs.StorageLaws.{raw_has}
-use Rattle.its_stepped.proofs.ForestLaws.{left_some}
+use Rattle.its_stepped.proofs.Keeping.ForestLaws.{left_some}
 
 -- changes that can be made leave the caller there, with its frame; it reserves no page beside the
 -- one that it has
@@ -71,7 +71,11 @@ one_mild (changes.Poke s at x) j w b = record { job = λ h. slot_some _ (j == s)
 one_mild (changes.Map s k) j w b = record { job = λ h. slot_some _ (j == s) (w.raw.jobs j) h; frame = refl; page = taken_page w.reserved j }
 one_mild (changes.Unmap s k) j w b = record { job = λ h. slot_some _ (j == s) (w.raw.jobs j) h; frame = refl; page = at_most refl }
 one_mild (changes.Protect s k x) j w b = record { job = λ h. slot_some _ (j == s) (w.raw.jobs j) h; frame = refl; page = at_most refl }
-one_mild (changes.Make s u n) j w b = record { job = λ h. made_some (inferior j (w.raw.jobs j) u n) (j == s) (w.raw.jobs j) h; frame = refl; page = at_most refl }
+one_mild (changes.Make s u n) j w b = record {
+  job = λ h. made_some (inferior j (w.raw.jobs j) u n) (j == s) (w.raw.jobs j) h;
+  frame = refl;
+  page = at_most refl;
+}
 one_mild (changes.Remove s) j w b =
     let gone : ℕ → Bool = is_gone (superiors w.raw) s in
     record {
@@ -95,7 +99,8 @@ all_mild (c ∷ cs) j w b =
     }
 
 -- two worlds of which one follows from the other by changes: the job of the slot is still there
-pub job_kept : (old mid : World) (s : ℕ) (cs : List Change) → state_of mid ≡ effects_on cs s (state_of old) → CanMakeAll cs s (state_of old) → is_some (job_at old.jobs s) ≡ true
+pub job_kept : (old mid : World) (s : ℕ) (cs : List Change) → state_of mid ≡ effects_on cs s (state_of old) → CanMakeAll cs s (state_of old)
+    → is_some (job_at old.jobs s) ≡ true
     → is_some (job_at mid.jobs s) ≡ true
 job_kept old mid s cs e b some =
     sym (raw_has mid s) ∙ ap (λ (v : State). is_some (v.raw.jobs s)) e ∙ (all_mild cs s (state_of old) b).job (raw_has old s ∙ some)
@@ -113,7 +118,8 @@ stands_kept old mid s cs e b h = ap (λ f. is_some (standing_of f)) (frame_kept 
 pub ready_for : (o : Option Holding) (w : State) (s : ℕ) (d e : Decision) → d ≡ e → IfSome o (λ f. CanCommit w s f d) → IfSome o (λ f. CanCommit w s f e)
 ready_for o w s d e h r = subst (λ (x : Decision). IfSome o (λ f. CanCommit w s f x)) h r
 
-pub ends_built : (o : Option Holding) (w : State) (s n : ℕ) (cs : List Change) → is_some o ≡ true → IfSome o (λ f. CanMakeAll cs s w × Endable (effects_on cs s w) s f n)
+pub ends_built : (o : Option Holding) (w : State) (s n : ℕ) (cs : List Change) → is_some o ≡ true
+    → IfSome o (λ f. CanMakeAll cs s w × Endable (effects_on cs s w) s f n)
     → CanMakeAll cs s w
 ends_built (Some f) w s n cs i h = h.0
 ends_built None w s n cs i h = cc
@@ -140,23 +146,28 @@ wait_committed old new s r job h = go (standing_of (frame_at old.frames.items s)
     go None b = tt
 
 -- a frame that is put after changes
-put_after : (old mid new : World) (s : ℕ) (cs : List Change) (g : Frame) → state_of mid ≡ effects_on cs s (state_of old) → CanMakeAll cs s (state_of old) → is_some (job_at old.jobs s) ≡ true
+put_after : (old mid new : World) (s : ℕ) (cs : List Change) (g : Frame) → state_of mid ≡ effects_on cs s (state_of old)
+    → CanMakeAll cs s (state_of old) → is_some (job_at old.jobs s) ≡ true
     → FrameBecomes mid new s (Some g) → state_of new ≡ with_slot (effects_on cs s (state_of old)) s same (Some g)
 put_after old mid new s cs g e b job f =
     kept_slot mid new s _ (job_kept old mid s cs e b job) f ∙ ap (λ v. with_slot v s same (Some g)) e
 
 -- a call of which a part is done
-pub goes_committed : (old mid new : World) (s : ℕ) (cs : List Change) (h : Option Held) (vs : List ℕ) → state_of mid ≡ effects_on cs s (state_of old) → CanMakeAll cs s (state_of old)
+pub goes_committed : (old mid new : World) (s : ℕ) (cs : List Change) (h : Option Held) (vs : List ℕ)
+    → state_of mid ≡ effects_on cs s (state_of old) → CanMakeAll cs s (state_of old)
     → is_some (job_at old.jobs s) ≡ true
     → IfSome (standing_of (frame_at mid.frames.items s)) (λ f. FrameBecomes mid new s (Some (after_going_on f.site (with_new_values f.ask vs) (length vs) h)))
-    → IfSome (standing_of (frame_at old.frames.items s)) (λ f. state_of new ≡ after_commit (state_of old) s f.site f.ask f.owes (Goes (record { items = cs }) h (record { items = vs })))
+    → IfSome (standing_of (frame_at old.frames.items s)) (λ f. state_of new ≡ after_commit (state_of old) s f.site f.ask f.owes
+    (Goes (record { items = cs }) h (record { items = vs })))
 unfolding after_commit
 goes_committed old mid new s cs h vs e b job p =
     go (standing_of (frame_at old.frames.items s))
-    (subst (λ o. IfSome (standing_of o) (λ f. FrameBecomes mid new s (Some (after_going_on f.site (with_new_values f.ask vs) (length vs) h)))) (frame_kept old mid s cs e b) p)
+    (subst (λ o. IfSome (standing_of o) (λ f. FrameBecomes mid new s
+    (Some (after_going_on f.site (with_new_values f.ask vs) (length vs) h)))) (frame_kept old mid s cs e b) p)
   where
     go : (o : Option Holding) → IfSome o (λ f. FrameBecomes mid new s (Some (after_going_on f.site (with_new_values f.ask vs) (length vs) h)))
-        → IfSome o (λ f. state_of new ≡ with_slot (effects_on cs s (state_of old)) s same (Some (after_going_on f.site (with_new_values f.ask vs) (length vs) h)))
+        → IfSome o (λ f. state_of new ≡ with_slot (effects_on cs s (state_of old)) s same
+        (Some (after_going_on f.site (with_new_values f.ask vs) (length vs) h)))
     go (Some f) p = put_after old mid new s cs _ e b job p
     go None p = tt
 
@@ -172,22 +183,26 @@ backed_is : (r : Option ℕ) → given_up r ≡ backed (is_some r)
 backed_is (Some n) = refl
 backed_is None = refl
 
-owed_is : (v : State) (s : ℕ) (ss : List Store) (e : Exit) → owed_by v s ss e ≡ owed_parts v.mark s ++ (backed (is_some (v.reserved s)) ++ (map owed_store ss ++ Leave e ∷ []))
+owed_is : (v : State) (s : ℕ) (ss : List Store) (e : Exit) → owed_by v s ss e ≡ owed_parts v.mark s
+    ++ (backed (is_some (v.reserved s)) ++ (map owed_store ss ++ Leave e ∷ []))
 owed_is v s ss e = ap (λ os. owed_parts v.mark s ++ (os ++ (map owed_store ss ++ Leave e ∷ []))) (backed_is (v.reserved s))
 
 -- what is pending of a call that has ended
 abbrev pub owed_at : State → ℕ → List Store → Exit → Holding → List Owed
 owed_at v s ss e f = owed_parts v.mark s ++ (backed (is_some (v.reserved s)) ++ (map owed_store (debts f.ask f.owes ++ ss) ++ Leave e ∷ []))
 
-pub ends_committed : (old mid new : World) (s : ℕ) (cs : List Change) (ss : List Store) (x : Exit) → state_of mid ≡ effects_on cs s (state_of old) → CanMakeAll cs s (state_of old)
+pub ends_committed : (old mid new : World) (s : ℕ) (cs : List Change) (ss : List Store) (x : Exit)
+    → state_of mid ≡ effects_on cs s (state_of old) → CanMakeAll cs s (state_of old)
     → is_some (job_at old.jobs s) ≡ true
     → IfSome (standing_of (frame_at mid.frames.items s)) (λ f. FrameBecomes mid new s (Some (ending f.site f.ask (owed_at (state_of mid) s ss x f))))
-    → IfSome (standing_of (frame_at old.frames.items s)) (λ f. state_of new ≡ after_commit (state_of old) s f.site f.ask f.owes (Ends (record { items = cs }) (record { items = ss }) x))
+    → IfSome (standing_of (frame_at old.frames.items s)) (λ f. state_of new ≡ after_commit (state_of old) s f.site f.ask f.owes
+    (Ends (record { items = cs }) (record { items = ss }) x))
 unfolding after_commit
 ends_committed old mid new s cs ss x e b job p =
     go (standing_of (frame_at old.frames.items s))
     (subst (λ o. IfSome (standing_of o) (λ f. FrameBecomes mid new s (Some (ending f.site f.ask (owed_at v s ss x f))))) (frame_kept old mid s cs e b)
-    (subst (λ (w : State). IfSome (standing_of (frame_at mid.frames.items s)) (λ f. FrameBecomes mid new s (Some (ending f.site f.ask (owed_at w s ss x f))))) e p))
+    (subst (λ (w : State). IfSome (standing_of (frame_at mid.frames.items s))
+    (λ f. FrameBecomes mid new s (Some (ending f.site f.ask (owed_at w s ss x f))))) e p))
   where
     v : State
     v = effects_on cs s (state_of old)
@@ -200,8 +215,10 @@ ends_committed old mid new s cs ss x e b job p =
     go None p = tt
 
 -- a call whose caller is removed
-pub gone_committed : (old mid new : World) (s : ℕ) (cs : List Change) → state_of mid ≡ effect_on (changes.Remove s) s (state_of old) → state_of new ≡ effects_on cs s (state_of mid)
-    → IfSome (standing_of (frame_at old.frames.items s)) (λ f. state_of new ≡ after_commit (state_of old) s f.site f.ask f.owes (Gone (record { items = cs })))
+pub gone_committed : (old mid new : World) (s : ℕ) (cs : List Change) → state_of mid ≡ effect_on (changes.Remove s) s (state_of old)
+    → state_of new ≡ effects_on cs s (state_of mid)
+    → IfSome (standing_of (frame_at old.frames.items s)) (λ f. state_of new ≡ after_commit (state_of old) s f.site f.ask f.owes
+    (Gone (record { items = cs })))
 unfolding after_commit
 gone_committed old mid new s cs r e = go (standing_of (frame_at old.frames.items s))
   where
@@ -209,7 +226,8 @@ gone_committed old mid new s cs r e = go (standing_of (frame_at old.frames.items
     go (Some f) = e ∙ ap (effects_on cs s) r
     go None = tt
 
-pub gone_can : (old mid : World) (s : ℕ) (cs : List Change) → state_of mid ≡ effect_on (changes.Remove s) s (state_of old) → CanMakeAll cs s (effect_on (changes.Remove s) s (state_of old))
+pub gone_can : (old mid : World) (s : ℕ) (cs : List Change) → state_of mid ≡ effect_on (changes.Remove s) s (state_of old)
+    → CanMakeAll cs s (effect_on (changes.Remove s) s (state_of old))
     → CanMakeAll cs s (state_of mid)
 gone_can old mid s cs e h = subst (CanMakeAll cs s) (sym e) h
 
@@ -218,11 +236,13 @@ one_page : (b : Bool) (o : Option ℕ) → b ≡ is_some o → (if b then 1 else
 one_page b (Some k) e = rw e refl
 one_page b None e = rw e refl
 
-pub end_read : (o : Option Holding) (w : State) (s n k : ℕ) (a : Ask) → is_some o ≡ true → IfSome o (λ f. (a ≡ f.ask) × (k ≡ f.owes)) → IfSome o (λ f. Endable w s f n) → length (debts a k) ≡ k
+pub end_read : (o : Option Holding) (w : State) (s n k : ℕ) (a : Ask) → is_some o ≡ true → IfSome o (λ f. (a ≡ f.ask) × (k ≡ f.owes))
+    → IfSome o (λ f. Endable w s f n) → length (debts a k) ≡ k
 end_read (Some f) w s n k a i is h = (λ t. length (debts (is.0 t) (is.1 t))) ∙ h.read ∙ sym is.1
 end_read None w s n k a i is h = cc
 
-pub end_few : (o : Option Holding) (w : State) (s n k : ℕ) (a : Ask) (ps os : List Owed) (b : Bool) → is_some o ≡ true → IfSome o (λ f. (a ≡ f.ask) × (k ≡ f.owes)) → IfSome o (λ f. Endable w s f n) → ps ≡ os → os ≡ owed_parts w.mark s
+pub end_few : (o : Option Holding) (w : State) (s n k : ℕ) (a : Ask) (ps os : List Owed) (b : Bool) → is_some o ≡ true
+    → IfSome o (λ f. (a ≡ f.ask) × (k ≡ f.owes)) → IfSome o (λ f. Endable w s f n) → ps ≡ os → os ≡ owed_parts w.mark s
     → b ≡ is_some (w.reserved s) → length ps + (if b then 1 else 0) + k + n ≤ 3
 end_few (Some f) w s n k a ps os b j is h p q i =
     let few = h.few in
@@ -252,7 +272,8 @@ none_by : (files : Files) (j : ℕ) (m : Option FilesMark) → mine (marking fil
 none_by files j None e = refl
 none_by files j (Some m) e = ap (λ (b : Bool). if b then map owed_part (parts_left m.parts) else []) e
 
-pub parts_mine : (w : World) (j : ℕ) (b : Bool) (os : List Owed) → b ≡ mine (state_of w).mark j → b ≡ true → os ≡ owed w.files.mark → os ≡ owed_parts (state_of w).mark j
+pub parts_mine : (w : World) (j : ℕ) (b : Bool) (os : List Owed) → b ≡ mine (state_of w).mark j → b ≡ true → os ≡ owed w.files.mark
+    → os ≡ owed_parts (state_of w).mark j
 unfolding state_of mark_of
 parts_mine w j b os e t o = o ∙ sym (parts_by w.files j w.files.mark (sym e ∙ t))
 

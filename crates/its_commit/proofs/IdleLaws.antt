@@ -17,23 +17,23 @@ use Rattle.its_files.specs.Files.{Store, no_files, readers_by, entry_at, is_mark
 use Rattle.its_frame.specs.declared.change.Change.TheVariants as changes
 use Rattle.its_frame.specs.declared.frame.Frame.{Frame}
 use Rattle.its_jobs.specs.Table.{Table, job_at, superior_at, IsTree, NoJobs}
-use Rattle.its_plain.specs.Change.{superiors, is_gone}
+use Rattle.its_plain.specs.Machine.Change.{superiors, is_gone}
 use Rattle.its_plain.specs.Machine.{Whole}
 use Rattle.its_stepped.specs.Sound.{Sound, SoundBy, MarkBy}
 use Rattle.its_stepped.specs.State.{Mark}
-use Rattle.its_world.specs.Filed.{Ringed}
+use Rattle.its_world.specs.Filed.{OnLists}
 use Rattle.its_world.specs.Storage.{HasJob, IsElsewhere}
-use Rattle.its_plain.specs.OperatorClock.{clock_end}
-use Rattle.its_machine.specs.Across.{channel_by, channel_at, tally, reads_file, writes_draft, writers, Across}
+use Rattle.its_plain.specs.Operator.Clock.{clock_end}
+use Rattle.its_shared.specs.Across.{channel_by, channel_at, tally, reads_file, writes_draft, writers, Across}
 use Rattle.its_world.specs.Tidy.{Tidy}
 use Rattle.its_world.specs.World.{alarm_at, mark_of, raw_at, frame_at, symbols_at, state_of}
 use Rattle.its_world.specs.declared.world.World.{World}
 use Rattle.its_world.proofs.MappedLaws.{core_raw}
-use Rattle.its_machine.proofs.PartLaws.{fresh_closed}
+use Rattle.its_shared.proofs.PartLaws.{fresh_closed}
 use Rattle.its_world.proofs.MadeLaws.{least_raw}
 use Rattle.its_world.proofs.MarkLaws.{none_marked}
 use Rattle.its_world.proofs.StorageLaws.{raw_has}
-use Rattle.its_machine.proofs.TallyLaws.{tally_none}
+use Rattle.its_shared.proofs.TallyLaws.{tally_none}
 use Rattle.its_commit.specs.Built.{CanMakeAll}
 use Rattle.its_commit.specs.Removal.{Elsewhere}
 use Rattle.its_commit.proofs.RemovalLaws.{superiors_are}
@@ -43,7 +43,10 @@ use Rattle.its_word.proofs.TableLaws.{get_or-filled}
 pub idle_sound : (w : World) → IsEmpty w.core → ((k : ℕ) → frame_at w.frames.items k ≡ None) → w.files ≡ no_files → Sound (state_of w)
 unfolding state_of
 idle_sound w core frames files = record {
-  each = λ k. record { by = idle_slot (raw_at w.files w.core w.jobs w.alarms.items k) (frame_at w.frames.items k) (clear_at w.core k) (frames k) (ap (option_map (λ (r : Reserved). r.clear)) (core.reserved k)) };
+  each = λ k. record {
+    by = idle_slot (raw_at w.files w.core w.jobs w.alarms.items k) (frame_at w.frames.items k) (clear_at w.core k)
+        (frames k) (ap (option_map (λ (r : Reserved). r.clear)) (core.reserved k));
+  };
   mark = idle_mark (mark_of w.files) (none_marked w.files (ap (λ (t : Store). t.mark) files));
 }
   where
@@ -87,17 +90,19 @@ idle_across t h = record {
   past_slots = h.past_slots;
   past_numbers = h.past_numbers;
   read = λ f. none_weighs (reads_file f) (channel_at t) (λ k n. elsewhere_reads f (channel_at t k n) (h.each k n)) ∙ sym (ap readers_by (no_entry f));
-  written = λ d. none_weighs (writes_draft d) (channel_at t) (λ k n. elsewhere_writes d (channel_at t k n) (h.each k n)) ∙ sym (ap (λ e. writers e (is_marked no_files d)) (no_entry d));
+  written = λ d. none_weighs (writes_draft d) (channel_at t) (λ k n. elsewhere_writes d (channel_at t k n) (h.each k n))
+      ∙ sym (ap (λ e. writers e (is_marked no_files d)) (no_entry d));
 }
 
-pub idle_tidy : (w : World) → IsEmpty w.core → w.files ≡ no_files → ((k : ℕ) → alarm_at w.alarms.items k ≡ None) → w.clock ≡ 0 → ((k : ℕ) → symbols_at w.symbols.items k ≡ []) → Elsewhere w.jobs → Ringed w → Tidy w
-idle_tidy w core files alarms clock symbols h ringed = record {
+pub idle_tidy : (w : World) → IsEmpty w.core → w.files ≡ no_files → ((k : ℕ) → alarm_at w.alarms.items k ≡ None) → w.clock ≡ 0
+    → ((k : ℕ) → symbols_at w.symbols.items k ≡ []) → Elsewhere w.jobs → OnLists w → Tidy w
+idle_tidy w core files alarms clock symbols h on_lists = record {
   blank = λ k none. core.cores k;
   quiet = λ k none. alarms k;
   timed = subst (λ t. t < clock_end) (sym clock) (lit< tt);
   across = subst (λ (s : Store). Across s w.jobs) (sym files) (idle_across w.jobs h);
   nameless = λ k none. symbols k;
-  ringed = ringed;
+  on_lists = on_lists;
 }
 
 -- jobs one after another
@@ -127,7 +132,8 @@ elsewhere_made t v s u j c o h = record {
     here : (k n : ℕ) → k ≡ s → channel_at v k n ≡ Closed
     here k n e = ap (λ i. channel_at v i n) e ∙ ap (λ i. channel_by i n) o.here ∙ fresh_closed u j c n
 
-set_first : (cs : List Channel) (x : Channel) → IsElsewhere x → IsElsewhere (slice_index_or cs 0 Closed) → IsElsewhere (slice_index_or (slice_set cs 0 x) 0 Closed)
+set_first : (cs : List Channel) (x : Channel) → IsElsewhere x → IsElsewhere (slice_index_or cs 0 Closed)
+    → IsElsewhere (slice_index_or (slice_set cs 0 x) 0 Closed)
 set_first [] x h e = e
 set_first (c ∷ cs) x h e = h
 
@@ -137,9 +143,11 @@ there os k j e = elim (cases_lt k (length os)) [
   | inr ge ↦ let none : slice_index_or os k None ≡ None = get_or_past os k None (omega arith) in absurd (let wrong : None ≡ Some j = sym none ∙ e in cc)
 ]
 
-module _ (t : Table) (k : ℕ) (j i : Job) (x : Channel) (low : k < slots) (was : job_at t k ≡ Some j) (is : i ≡ record j { channels = slice_set j.channels 0 x }) where
+module _ (t : Table) (k : ℕ) (j i : Job) (x : Channel) (low : k < slots) (was : job_at t k ≡ Some j)
+    (is : i ≡ record j { channels = slice_set j.channels 0 x }) where
   opened_here : (n : ℕ) → channel_by (slice_index_or (slice_set t.jobs k (Some i)) k None) n ≡ slice_index_or (slice_set j.channels 0 x) n Closed
-  opened_here n = ap (λ o. channel_by o n) (get_or-set_same t.jobs k (Some i) None (there t.jobs k j was)) ∙ ap (λ (r : Job). slice_index_or r.channels n Closed) is
+  opened_here n = ap (λ o. channel_by o n) (get_or-set_same t.jobs k (Some i) None (there t.jobs k j was))
+      ∙ ap (λ (r : Job). slice_index_or r.channels n Closed) is
 
   opened_other : (m n : ℕ) → m ≢ k → channel_by (slice_index_or (slice_set t.jobs k (Some i)) m None) n ≡ channel_at t m n
   opened_other m n ne = ap (λ o. channel_by o n) (get_or-set_other t.jobs k m (Some i) None ne)
@@ -149,7 +157,8 @@ module _ (t : Table) (k : ℕ) (j i : Job) (x : Channel) (low : k < slots) (was 
 
   first_opened : (n : ℕ) → IsElsewhere x → Elsewhere t → IsElsewhere (slice_index_or (slice_set j.channels 0 x) n Closed)
   first_opened n h e = elim (cases_eq n 0) [
-    | inl z ↦ subst (λ q. IsElsewhere (slice_index_or (slice_set j.channels 0 x) q Closed)) (sym z) (set_first j.channels x h (subst IsElsewhere (was_there 0) (e.each k 0)))
+    | inl z ↦ subst (λ q. IsElsewhere (slice_index_or (slice_set j.channels 0 x) q Closed)) (sym z)
+        (set_first j.channels x h (subst IsElsewhere (was_there 0) (e.each k 0)))
     | inr z ↦ subst IsElsewhere (sym (get_or-set_other j.channels 0 n x Closed z)) (subst IsElsewhere (was_there n) (e.each k n))
   ]
 
@@ -158,27 +167,33 @@ module _ (t : Table) (k : ℕ) (j i : Job) (x : Channel) (low : k < slots) (was 
     past_slots = λ m n l. opened_other m n (λ s. omega arith) ∙ e.past_slots m n l;
     past_numbers = λ m n l. elim (cases_eq m k) [
       | inl s ↦
-          ap (λ p. channel_by (slice_index_or (slice_set t.jobs k (Some i)) p None) n) s ∙ opened_here n ∙ get_or-set_other j.channels 0 n x Closed (λ z. omega arith) ∙ sym (was_there n)
+          ap (λ p. channel_by (slice_index_or (slice_set t.jobs k (Some i)) p None) n) s ∙ opened_here n
+          ∙ get_or-set_other j.channels 0 n x Closed (λ z. omega arith) ∙ sym (was_there n)
           ∙ e.past_numbers k n l
       | inr ne ↦ opened_other m n ne ∙ e.past_numbers m n l
     ];
     each = λ m n. elim (cases_eq m k) [
-      | inl s ↦ subst (λ p. IsElsewhere (channel_by (slice_index_or (slice_set t.jobs k (Some i)) p None) n)) (sym s) (subst IsElsewhere (sym (opened_here n)) (first_opened n h e))
+      | inl s ↦ subst (λ p. IsElsewhere (channel_by (slice_index_or (slice_set t.jobs k (Some i)) p None) n)) (sym s)
+          (subst IsElsewhere (sym (opened_here n)) (first_opened n h e))
       | inr ne ↦ subst IsElsewhere (sym (opened_other m n ne)) (e.each m n)
     ];
   }
 
 -- the changes of a call that tests make
-pub can_made : (w : World) (j s u n : ℕ) → is_some (job_at w.jobs j) ≡ true → least_free w.jobs.limit (job_at w.jobs) ≡ Some s → CanMakeAll (changes.Make s u n ∷ []) j (state_of w)
+pub can_made : (w : World) (j s u n : ℕ) → is_some (job_at w.jobs j) ≡ true → least_free w.jobs.limit (job_at w.jobs) ≡ Some s
+    → CanMakeAll (changes.Make s u n ∷ []) j (state_of w)
 can_made w j s u n some free = ((raw_has w j ∙ some, least_raw w ∙ free), tt)
 
-pub can_poked : (w : World) (j s a x : ℕ) → s < slots → a < 16 → is_some (job_at w.jobs s) ≡ true → Tidy w → can_store (core_at w.core s) a ≡ true → CanMakeAll (changes.Poke s a x ∷ []) j (state_of w)
+pub can_poked : (w : World) (j s a x : ℕ) → s < slots → a < 16 → is_some (job_at w.jobs s) ≡ true → Tidy w
+    → can_store (core_at w.core s) a ≡ true → CanMakeAll (changes.Poke s a x ∷ []) j (state_of w)
 can_poked w j s a x l few some tidy can =
     let there : HasJob (state_of w) s = raw_has w s ∙ some in
     (record { slot = l; address = omega arith; job = there; can = ap (λ (c : Core). can_store c a) (core_raw w s tidy) ∙ can }, tt)
 
-pub can_removed : (w : World) (j s : ℕ) → s < slots → is_some (job_at w.jobs s) ≡ true → j ≢ s → IsTree w.jobs.jobs w.jobs.superiors → is_below (superior_at w.jobs) s j ≡ false
-    → Sound (state_of w) → ((k : ℕ) → (state_of w).frames k ≡ None) → ((k : ℕ) → (state_of w).reserved k ≡ None) → CanMakeAll (changes.Remove s ∷ []) j (state_of w)
+pub can_removed : (w : World) (j s : ℕ) → s < slots → is_some (job_at w.jobs s) ≡ true → j ≢ s → IsTree w.jobs.jobs w.jobs.superiors
+    → is_below (superior_at w.jobs) s j ≡ false
+    → Sound (state_of w) → ((k : ℕ) → (state_of w).frames k ≡ None) → ((k : ℕ) → (state_of w).reserved k ≡ None)
+    → CanMakeAll (changes.Remove s ∷ []) j (state_of w)
 can_removed w j s l some ne tree below sound frames pages =
     let stays : is_gone (superiors (state_of w).raw) s j ≡ false =
     ap (λ (sup : ℕ → Option ℕ). is_gone sup s j) (superiors_are w tree) ∙ ap (λ (b : Bool). b || is_below (superior_at w.jobs) s j) (ne_eqb j s ne) ∙ below in

@@ -9,3 +9,4 @@ pub mod CanLaws
 pub mod ReadyLaws
 pub mod IdleLaws
 pub mod TriesLaws
+pub mod Groups

@@ -5,7 +5,7 @@ use Rattle.its_word.specs.Core.{Core, store}
 use Rattle.its_records.specs.declared.calls.Ask.{Ask}
 use Rattle.its_records.specs.declared.calls.Operand.{Operand}
 use Rattle.its_word.specs.declared.plan.Store as stores
-use Rattle.its_plain.specs.Arguments.{stores_of, debts}
+use Rattle.its_plain.specs.Call.Arguments.{stores_of, debts}
 use Rattle.its_word.specs.Stores.{place, stored}
 use Rattle.its_stepped.specs.Unwind.{first_debt}
 use Rattle.its_files.specs.Files.{Store}
@@ -32,7 +32,8 @@ unfolding state_of mark_of
 owner_none w s h = none_mine w.files w.files.mark s h
 
 -- one store
-pub one_stored : (old new : World) (k : ℕ) (c : Core) (s : stores.Store) → CoreBecomes old new k (store c (s.at % 2 ^ 18) s.word) → CoreBecomes old new k (stored c (s ∷ []))
+pub one_stored : (old new : World) (k : ℕ) (c : Core) (s : stores.Store) → CoreBecomes old new k (store c (s.at % 2 ^ 18) s.word)
+    → CoreBecomes old new k (stored c (s ∷ []))
 unfolding stored
 one_stored old new k c s h = h
 
@@ -74,14 +75,16 @@ owed_split xs n o some few h =
     let lt : length xs - n < length xs = omega arith in
     drop-cons xs (length xs - n) o lt ∙ ap (λ x. x ∷ drop (suc (length xs - n)) xs) (sym h)
 
-pub first_is : (a : Ask) (n k p : ℕ) (o : Operand) → 0 < n → length (debts a n) ≡ n → k ≡ length a.inputs.items - n → o ≡ slice_index_or a.inputs.items k o → o.place ≡ Some p
+pub first_is : (a : Ask) (n k p : ℕ) (o : Operand) → 0 < n → length (debts a n) ≡ n → k ≡ length a.inputs.items - n
+    → o ≡ slice_index_or a.inputs.items k o → o.place ≡ Some p
     → first_debt (debts a n) ≡ record { at = p; word = o.value } ∷ []
 unfolding debts
 first_is a n k p o some read at here place =
     let e = owed_split a.inputs.items n o some (enough a n read) (here ∙ ap (λ i. slice_index_or a.inputs.items i o) at) in
     ap (λ os. first_debt (stores_of os)) e ∙ head_is o (drop (suc (length a.inputs.items - n)) a.inputs.items) p place
 
-pub never_none : (a : Ask) (n k : ℕ) (o : Operand) → 0 < n → length (debts a n) ≡ n → k ≡ length a.inputs.items - n → o ≡ slice_index_or a.inputs.items k o → o.place ≡ None → ⊥
+pub never_none : (a : Ask) (n k : ℕ) (o : Operand) → 0 < n → length (debts a n) ≡ n → k ≡ length a.inputs.items - n
+    → o ≡ slice_index_or a.inputs.items k o → o.place ≡ None → ⊥
 unfolding debts
 never_none a n k o some read at here place =
     let few = enough a n read in

@@ -13,11 +13,11 @@ use Rattle.its_frame.specs.declared.frame.Frame.TheVariants as frames
 use Rattle.its_frame.specs.declared.frame.Holding.{Holding}
 use Rattle.its_frame.specs.declared.name.CallName.{CallName}
 use Rattle.its_frame.specs.declared.name.CallName.TheVariants.{Logout, Uclose}
-use Rattle.its_plain.specs.Arguments.{debts, input}
-use Rattle.its_plain.specs.CallBasic.{channel_at}
-use Rattle.its_plain.specs.CallStep.{among, decision}
-use Rattle.its_plain.specs.Change.{superiors, is_gone}
-use Rattle.its_plain.specs.Decide.{call_named, target_by, argument_of, target, listed, reach_by, reach, with_below}
+use Rattle.its_plain.specs.Call.Arguments.{debts, input}
+use Rattle.its_plain.specs.Call.Basic.{channel_at}
+use Rattle.its_plain.specs.Call.Step.{among, decision}
+use Rattle.its_plain.specs.Machine.Change.{superiors, is_gone}
+use Rattle.its_plain.specs.Call.Decide.{call_named, target_by, argument_of, target, listed, reach_by, reach, with_below}
 use Rattle.its_plain.specs.Machine.{On, Whole, Machine}
 use Rattle.its_stepped.specs.Tick.{helps, reserves, quarters}
 use Rattle.its_stepped.specs.Commit.{effects_on, owed_parts}
@@ -26,20 +26,20 @@ use Rattle.its_stepped.specs.Quiet.{IsStill, AllQuiet}
 use Rattle.its_stepped.specs.Sound.{parts_in_frame, IsWaitable, Sound}
 use Rattle.its_stepped.specs.State.{State}
 use Rattle.its_stepped.specs.Forest.{Forest}
-use Rattle.its_stepped.proofs.MarkLaws.{marking_begins, marking_all}
-use Rattle.its_stepped.proofs.UnwindLaws.{among_first}
-use Rattle.its_stepped.proofs.ViewLaws.{StillAt}
-use Rattle.its_stepped.proofs.ForestLaws.{forest_few}
-use Rattle.its_stepped.proofs.LogoutDuty.{among_left, among_right, among_below}
+use Rattle.its_stepped.proofs.Frame.MarkLaws.{marking_begins, marking_all}
+use Rattle.its_stepped.proofs.Unwinding.UnwindLaws.{among_first}
+use Rattle.its_stepped.proofs.Committing.ViewLaws.{StillAt}
+use Rattle.its_stepped.proofs.Keeping.ForestLaws.{forest_few}
+use Rattle.its_stepped.proofs.Duties.LogoutDuty.{among_left, among_right, among_below}
 use Rattle.its_plain.proofs.TargetLaws.{target_on, reach_named}
 use Rattle.its_commit.specs.Built.{Removable}
 use Rattle.its_commit.specs.Carried.{standing_of, CanCommit}
 use Rattle.its_commit.proofs.CommittingLaws.{all_mild}
 use Rattle.its_commit.proofs.RemovalLaws.{no_page}
 use Rattle.its_commit.proofs.CanLaws.{DecisionCan, decision_on}
-use Rattle.its_machine.proofs.CanLaws.{Beside}
-use Rattle.its_machine.proofs.CallCanLaws.{decision_can as plain_can}
-use Rattle.its_stepped.proofs.GivenLaws.{below_itself}
+use Rattle.its_shared.proofs.CanLaws.{Beside}
+use Rattle.its_shared.proofs.CallCanLaws.{decision_can as plain_can}
+use Rattle.its_stepped.proofs.Duties.GivenLaws.{below_itself}
 
 -- the state in which the call of slot j's job is carried out: it is sound, the jobs that the call
 -- reaches are in user mode, and all quarters of the page that it reserves are clear
@@ -59,7 +59,8 @@ module _ (v : State) (j s at : ℕ) (q : Whole) (a : Ask) (write : Bool) (c : Pr
   removal_reach = reach_named v.raw j q a Uclose z e ∙ ap (with_below v.raw) (target_on q a Uclose 0 s at write z e refl is)
 
   below_free : (k : ℕ) → is_below (superiors v.raw) s k ≡ true → v.frames k ≡ None
-  below_free k h = c.free k (ap (among k) removal_reach ∙ among_left k (slots_below (superiors v.raw) s) (s ∷ []) (among_below v.raw s k (forest_few v.raw c.forest) h))
+  below_free k h = c.free k (ap (among k) removal_reach ∙ among_left k (slots_below (superiors v.raw) s) (s ∷ [])
+      (among_below v.raw s k (forest_few v.raw c.forest) h))
 
   root_free : v.frames s ≡ None
   root_free = c.free s (ap (among s) removal_reach ∙ among_right s (slots_below (superiors v.raw) s) (s ∷ []) (among_first s []))
@@ -72,7 +73,11 @@ pub decision_can : (v : State) (j : ℕ) (q : Whole) (a : Ask) → Prepared v j 
 decision_can v j q a c h =
     let b : Beside = record { files = v.mark ≡ None; page = v.reserved j ≡ Some quarters; tree = Removable v } in
     decision_on b (decision v.raw j q a) j v (record { files = λ x. x; page = λ x. x; tree = λ s x. x })
-    (plain_can b v.raw j q a c.forest c.job (record { files = c.unmarked; page = c.full; tree = λ z e s at write is. removable v j s at q a write c z e is }) h)
+    (plain_can b v.raw j q a c.forest c.job (record {
+      files = c.unmarked;
+      page = c.full;
+      tree = λ z e s at write is. removable v j s at q a write c z e is;
+    }) h)
 
 -- a call that has no argument for a channel on a job reaches into none
 target_none : (q : Whole) (a : Ask) → argument_of (call_named a.name) ≡ None → target q a ≡ None
@@ -102,9 +107,11 @@ listed_in : (o : Option ℕ) (s : ℕ) → o ≡ Some s → among s (listed o) �
 listed_in (Some k) s e = let is : k ≡ s = cc in subst (λ (i : ℕ). among i (k ∷ []) ≡ true) is (among_first k [])
 listed_in None s e = cc
 
-target_by_name : (m : Machine) (j : ℕ) (q : Whole) (a : Ask) (o : Option CallName) (s : ℕ) → call_named a.name ≡ o → target q a ≡ Some s → among s (reach_by m j q a o) ≡ true
+target_by_name : (m : Machine) (j : ℕ) (q : Whole) (a : Ask) (o : Option CallName) (s : ℕ) → call_named a.name ≡ o → target q a ≡ Some s
+    → among s (reach_by m j q a o) ≡ true
 target_by_name m j q a (Some Logout) s e t = let none : target q a ≡ None = target_none q a (ap argument_of e) in cc
-target_by_name m j q a (Some Uclose) s e t = ap (λ (o : Option ℕ). among s (with_below m o)) t ∙ among_right s (slots_below (superiors m) s) (s ∷ []) (among_first s [])
+target_by_name m j q a (Some Uclose) s e t = ap (λ (o : Option ℕ). among s (with_below m o)) t
+    ∙ among_right s (slots_below (superiors m) s) (s ∷ []) (among_first s [])
 target_by_name m j q a _ s e t = listed_in (target q a) s t
 
 target_fails : (q : Whole) (a : Ask) → a.fail ≢ 0 → target q a ≡ None
@@ -144,7 +151,8 @@ parts_after cs j v h sound stands quiet =
     let m = marking_all cs j v 0 quiet (marking_begins j v.mark v.frames sound.mark (no_parts (v.frames j) h stands)) in
     let k = m.few in omega arith
 
-pub ready_by : (v : State) (j : ℕ) (own : Whole) (h : Holding) (d : Decision) → Sound v → standing_of (v.frames j) ≡ Some h → length (debts h.ask h.owes) ≡ h.owes
+pub ready_by : (v : State) (j : ℕ) (own : Whole) (h : Holding) (d : Decision) → Sound v → standing_of (v.frames j) ≡ Some h
+    → length (debts h.ask h.owes) ≡ h.owes
     → DecisionCan d j v → Duty v j own h.site h.ask h.owes d → CanCommit v j h d
 ready_by v j own h (Waits r) sound stands read can duty = tt
 ready_by v j own h (Goes cs b vs) sound stands read can duty = can

@@ -22,23 +22,23 @@ use Rattle.its_jobs.specs.Table.{Table, job_at, superior_at, in_tree, IsTree, Wi
 use Rattle.its_jobs.proofs.TreeLaws.{past_none}
 use Rattle.its_pipes.specs.Pipes.{piped}
 use Rattle.its_plain.specs.Machine.{Shut, Symbol, Pipe, Whole}
-use Rattle.its_plain.specs.Own.{on_channel}
-use Rattle.its_plain.specs.Change.{with_alarm, on_slot, channel_in, after_shut, job_after_removal, superior_in, superiors, is_gone, holder_after_removal, symbols_after_removal, ends_after_removal, after_removal, effect}
-use Rattle.its_plain.specs.OperatorClock.{alarm_in, clock_end}
+use Rattle.its_plain.specs.Machine.Own.{on_channel}
+use Rattle.its_plain.specs.Machine.Change.{with_alarm, on_slot, channel_in, after_shut, job_after_removal, superior_in, superiors, is_gone, holder_after_removal, symbols_after_removal, ends_after_removal, after_removal, effect}
+use Rattle.its_plain.specs.Operator.Clock.{alarm_in, clock_end}
 use Rattle.its_plain.proofs.MachineLaws.{machine_is}
 use Rattle.its_stepped.specs.Commit.{effect_on}
 use Rattle.its_stepped.specs.SlotSame.{SlotSame}
 use Rattle.its_stepped.specs.Sound.{Sound}
 use Rattle.its_stepped.specs.State.{State}
-use Rattle.its_stepped.proofs.FrameLaws.{on_slot_here, on_slot_other}
-use Rattle.its_stepped.proofs.UnwindLaws.{slot_same, slot_then}
+use Rattle.its_stepped.proofs.Frame.FrameLaws.{on_slot_here, on_slot_other}
+use Rattle.its_stepped.proofs.Unwinding.UnwindLaws.{slot_same, slot_then}
 use Rattle.its_commit.specs.Removal.{channel_left, Shared, Alone, Closes, Bare, Empties, SlotSwept, Sweeps, Swept}
 use Rattle.its_commit.proofs.TidyLaws.{tidy_becomes}
-use Rattle.its_world.specs.Rings.{lists_to, link_lists_to}
-use Rattle.its_world.specs.Filed.{Ringed, Resettled}
-use Rattle.its_world.proofs.PlaceLaws.{removed_ringed}
+use Rattle.its_world.specs.WaitLists.{lists_to, link_lists_to}
+use Rattle.its_world.specs.Filed.{OnLists, Resettled}
+use Rattle.its_world.proofs.PlaceLaws.{removed_on_lists}
 use Rattle.its_world.specs.Storage.{chan_in}
-use Rattle.its_machine.specs.Across.{channel_by, channel_at, Across}
+use Rattle.its_shared.specs.Across.{channel_by, channel_at, Across}
 use Rattle.its_world.specs.Tidy.{Tidy}
 use Rattle.its_world.specs.World.{chan_of, mark_of, bare, alarm_at, AlarmBecomes, raw_of, raw_at, frame_at, console_at, holder_at, symbols_at, state_of, in_raw, with_frames, Becomes, CoreBecomes, FrameBecomes, JobBecomes}
 use Rattle.its_world.specs.declared.world.World.{World}
@@ -46,10 +46,10 @@ use Rattle.its_world.proofs.StateLaws.{state_is, raw_others, changed_state, abse
 use Rattle.its_world.proofs.AlarmLaws.{alarm_state}
 use Rattle.its_world.proofs.MappedLaws.{frames_tidy}
 use Rattle.its_world.proofs.StorageLaws.{chan_is, chan_shut, frame_is}
-use Rattle.its_machine.proofs.AcrossLaws.{across_alike, across_table, same_alike}
-use Rattle.its_machine.proofs.LeftLaws.{left_alike, left_chan, raw_superior, shut_here, shut_there}
+use Rattle.its_shared.proofs.AcrossLaws.{across_alike, across_table, same_alike}
+use Rattle.its_shared.proofs.LeftLaws.{left_alike, left_chan, raw_superior, shut_here, shut_there}
 use Rattle.its_records.proofs.ClimbLaws.{or_second}
-use Rattle.its_stepped.proofs.KeptLaws.{user_page}
+use Rattle.its_stepped.proofs.Lining.KeptLaws.{user_page}
 use Rattle.its_world.proofs.ContentsLaws.{core_as, jobs_as, frames_as, consoles_as, holders_as, files_as, clock_as, version_as, symbols_as, alarms_as, pipes_as}
 
 -- lists of symbols of which those of slots without a job are emptied
@@ -66,7 +66,17 @@ tree_gone w r t = ap (λ sup. in_tree sup r) (sym (superiors_are w t))
 
 -- what slots share, and what one slot alone does
 shared_same : (w : State) → Shared w w
-shared_same w = record { superiors = λ k. refl; consoles = refl; holders = refl; files = refl; clock = refl; version = refl; symbols = refl; links = refl; mark = refl }
+shared_same w = record {
+  superiors = λ k. refl;
+  consoles = refl;
+  holders = refl;
+  files = refl;
+  clock = refl;
+  version = refl;
+  symbols = refl;
+  links = refl;
+  mark = refl;
+}
 
 shared_then : (w v u : State) → Shared w v → Shared v u → Shared w u
 shared_then w v u a b = record {
@@ -102,7 +112,8 @@ in_raw_alone w s h same = record {
   page = refl;
   shared = record {
     superiors = λ k. elim (cases_eq k s) [
-      | inl e ↦ ap (λ i. superior_in (on_slot w.raw.jobs s h i)) e ∙ ap superior_in (on_slot_here w.raw.jobs s h) ∙ superior_kept h (w.raw.jobs s) same ∙ ap (λ i. superior_in (w.raw.jobs i)) (sym e)
+      | inl e ↦ ap (λ i. superior_in (on_slot w.raw.jobs s h i)) e ∙ ap superior_in (on_slot_here w.raw.jobs s h)
+          ∙ superior_kept h (w.raw.jobs s) same ∙ ap (λ i. superior_in (w.raw.jobs i)) (sym e)
       | inr ne ↦ ap superior_in (on_slot_other w.raw.jobs s k h ne)
     ];
     consoles = refl;
@@ -117,13 +128,15 @@ in_raw_alone w s h same = record {
 }
 
 -- the core, the registers or the frame of a slot are written
-superior_same : (t u : Store) (c d : Core) (s : Option ℕ) (x y : Option (ℕ × ℕ)) (o p : Option Job) → is_some p ≡ is_some o → superior_in (raw_of u d s y p) ≡ superior_in (raw_of t c s x o)
+superior_same : (t u : Store) (c d : Core) (s : Option ℕ) (x y : Option (ℕ × ℕ)) (o p : Option Job) → is_some p ≡ is_some o
+    → superior_in (raw_of u d s y p) ≡ superior_in (raw_of t c s x o)
 superior_same t u c d s x y (Some j) (Some i) e = refl
 superior_same t u c d s x y None None e = refl
 superior_same t u c d s x y (Some j) None e = cc
 superior_same t u c d s x y None (Some i) e = cc
 
-becomes_alone : (old new : World) (s : ℕ) (c : Core) (j : Option Job) (f : Option Frame) → Becomes old new s c j f (clear_at old.core s) → is_some j ≡ is_some (job_at old.jobs s)
+becomes_alone : (old new : World) (s : ℕ) (c : Core) (j : Option Job) (f : Option Frame) → Becomes old new s c j f (clear_at old.core s)
+    → is_some j ≡ is_some (job_at old.jobs s)
     → Alone (state_of old) (state_of new) s
 unfolding state_of
 becomes_alone old new s c j f b some = record {
@@ -133,8 +146,10 @@ becomes_alone old new s c j f b some = record {
     superiors = λ k. elim (cases_eq k s) [
       | inl e ↦
           ap (λ i. superior_in (raw_at new.files new.core new.jobs new.alarms.items i)) e
-          ∙ ap (λ xs. superior_in (raw_of new.files (core_at new.core s) (slice_index_or xs s None) (alarm_at new.alarms.items s) (job_at new.jobs s))) b.superiors
-          ∙ superior_same old.files new.files (core_at old.core s) (core_at new.core s) (superior_at old.jobs s) (alarm_at old.alarms.items s) (alarm_at new.alarms.items s) (job_at old.jobs s) (job_at new.jobs s) (ap is_some b.job.here ∙ some)
+          ∙ ap (λ xs. superior_in (raw_of new.files (core_at new.core s) (slice_index_or xs s None) (alarm_at new.alarms.items s)
+          (job_at new.jobs s))) b.superiors
+          ∙ superior_same old.files new.files (core_at old.core s) (core_at new.core s) (superior_at old.jobs s)
+          (alarm_at old.alarms.items s) (alarm_at new.alarms.items s) (job_at old.jobs s) (job_at new.jobs s) (ap is_some b.job.here ∙ some)
           ∙ ap (λ i. superior_in (raw_at old.files old.core old.jobs old.alarms.items i)) (sym e)
       | inr ne ↦ ap superior_in (raw_others old new s c j f (clear_at old.core s) b k ne)
     ];
@@ -181,7 +196,8 @@ closed_all w s tidy h n = elim (cases_lt n 16) [
 alarm_alone : (old new : World) (s : ℕ) (a : Option (ℕ × ℕ)) → AlarmBecomes old new s a → Alone (state_of old) (state_of new) s
 alarm_alone old new s a b = subst (λ w. Alone (state_of old) w s) (sym (alarm_state old new s a b)) (in_raw_alone (state_of old) s (with_alarm a) (λ q. refl))
 
-pub slot_emptied : (old mid low off new : World) (s : ℕ) → Closes (state_of old) (state_of mid) s 16 → Tidy mid → CoreBecomes mid (with_frames low mid.core.frames) s no_core → FrameBecomes low off s None
+pub slot_emptied : (old mid low off new : World) (s : ℕ) → Closes (state_of old) (state_of mid) s 16 → Tidy mid
+    → CoreBecomes mid (with_frames low mid.core.frames) s no_core → FrameBecomes low off s None
     → AlarmBecomes off new s None → mid.core.frames ≡ old.core.frames → low.core.frames ≡ frames_drop_all s mid.core.frames → Empties old new s
 slot_emptied old mid low off new s a tidy b d e same dropped = record {
   alone =
@@ -189,7 +205,8 @@ slot_emptied old mid low off new s a tidy b d e same dropped = record {
       (alone_then (state_of mid) (state_of low) (state_of new) s
       (subst (λ v. Alone (state_of mid) v s) (frames_state low mid.core.frames)
       (becomes_alone mid (with_frames low mid.core.frames) s no_core (job_at mid.jobs s) (frame_at mid.frames.items s) b refl))
-      (alone_then (state_of low) (state_of off) (state_of new) s (becomes_alone low off s (core_at low.core s) (job_at low.jobs s) None d refl) (alarm_alone off new s None e)));
+      (alone_then (state_of low) (state_of off) (state_of new) s
+      (becomes_alone low off s (core_at low.core s) (job_at low.jobs s) None d refl) (alarm_alone off new s None e)));
   frame = frame_is new s ∙ ap (λ l. frame_at l.items s) (frames_as e.rest) ∙ d.frame.here;
   bare = record {
     core = ap (λ c. core_at c s) (core_as e.rest) ∙ d.core.here ∙ sym (frames_core low mid.core.frames s) ∙ b.core.here;
@@ -202,7 +219,8 @@ slot_emptied old mid low off new s a tidy b d e same dropped = record {
 pub tidy_bare : (old new : World) (s : ℕ) → CoreBecomes old (with_frames new old.core.frames) s no_core → Tidy old → Tidy new
 tidy_bare old new s b tidy =
     frames_tidy new old.core.frames
-    (tidy_becomes old (with_frames new old.core.frames) s no_core (job_at old.jobs s) (frame_at old.frames.items s) (clear_at old.core s) b (λ h. refl) (λ h. h) (λ n. refl) tidy)
+    (tidy_becomes old (with_frames new old.core.frames) s no_core (job_at old.jobs s) (frame_at old.frames.items s) (clear_at old.core s) b
+    (λ h. refl) (λ h. h) (λ n. refl) tidy)
 
 -- the channels of a job that stays
 pub shut_some : (gone : ℕ → Bool) (old new : World) (s : ℕ) (j i : Job) → job_at old.jobs s ≡ Some j → bare i ≡ bare j
@@ -244,7 +262,7 @@ shut_tidy gone old new s j i is h b tidy = record {
     | inl e ↦ let wrong : None ≡ Some i = sym none ∙ ap (job_at new.jobs) e ∙ b.job.here in absurd cc
     | inr ne ↦ sym (b.job.others k ne) ∙ none
   ]);
-  ringed = b.ringed tidy.ringed;
+  on_lists = b.on_lists tidy.on_lists;
 }
 
 -- one slot swept
@@ -260,7 +278,8 @@ swept_gone gone old new s g e = record {
   pages = e.pages ∙ sym (ap (λ (b : Bool). if b then frames_drop_all s old.core.frames else old.core.frames) g);
 }
 
-swept_left : (gone : ℕ → Bool) (old new : World) (s : ℕ) → gone s ≡ false → state_of new ≡ in_raw (state_of old) s (after_shut gone) → new.core.frames ≡ old.core.frames → Sweeps gone old new s
+swept_left : (gone : ℕ → Bool) (old new : World) (s : ℕ) → gone s ≡ false → state_of new ≡ in_raw (state_of old) s (after_shut gone)
+    → new.core.frames ≡ old.core.frames → Sweeps gone old new s
 swept_left gone old new s g e same = record {
   here = record {
     job = λ f. ap (λ (w : State). w.raw.jobs s) e ∙ on_slot_here (state_of old).raw.jobs s (after_shut gone);
@@ -272,7 +291,8 @@ swept_left gone old new s g e same = record {
   pages = same ∙ sym (ap (λ (b : Bool). if b then frames_drop_all s old.core.frames else old.core.frames) g);
 }
 
-pub sweeps_gone : (old new : World) (r s : ℕ) (b : Bool) → IsTree old.jobs.jobs old.jobs.superiors → b ≡ in_tree (superior_at old.jobs) r s → b ≡ true → Empties old new s
+pub sweeps_gone : (old new : World) (r s : ℕ) (b : Bool) → IsTree old.jobs.jobs old.jobs.superiors → b ≡ in_tree (superior_at old.jobs) r s
+    → b ≡ true → Empties old new s
     → Sweeps (is_gone (superiors (state_of old).raw) r) old new s
 sweeps_gone old new r s b t e g h = swept_gone _ old new s (ap (λ (f : ℕ → Bool). f s) (sym (tree_gone old r t)) ∙ sym e ∙ g) h
 
@@ -280,7 +300,8 @@ pub sweeps_left : (old new : World) (r s : ℕ) (b : Bool) → IsTree old.jobs.j
     → state_of new ≡ in_raw (state_of old) s (after_shut (in_tree (superior_at old.jobs) r)) → new.core.frames ≡ old.core.frames
     → Sweeps (is_gone (superiors (state_of old).raw) r) old new s
 sweeps_left old new r s b t e g h same =
-    swept_left _ old new s (ap (λ (f : ℕ → Bool). f s) (sym (tree_gone old r t)) ∙ sym e ∙ g) (h ∙ ap (λ f. in_raw (state_of old) s (after_shut f)) (tree_gone old r t)) same
+    swept_left _ old new s (ap (λ (f : ℕ → Bool). f s) (sym (tree_gone old r t)) ∙ sym e ∙ g)
+    (h ∙ ap (λ f. in_raw (state_of old) s (after_shut f)) (tree_gone old r t)) same
 
 -- slot after slot
 kept_then : (gone : ℕ → Bool) (w v u : State) (k : ℕ) → SlotSame w v k → SlotSwept gone v u k → SlotSwept gone w u k
@@ -341,11 +362,13 @@ none_swept : (gone : ℕ → Bool) (f : Frames) → pages_swept gone 0 f ≡ f
 unfolding pages_swept
 none_swept gone f = refl
 
-one_swept : (gone : ℕ → Bool) (n : ℕ) (f : Frames) → pages_swept gone (suc n) f ≡ (if gone n then frames_drop_all n (pages_swept gone n f) else pages_swept gone n f)
+one_swept : (gone : ℕ → Bool) (n : ℕ) (f : Frames) → pages_swept gone (suc n)
+    f ≡ (if gone n then frames_drop_all n (pages_swept gone n f) else pages_swept gone n f)
 unfolding pages_swept
 one_swept gone n f = refl
 
-more_swept : (gone : ℕ → Bool) (n : ℕ) (f : Frames) → pages_swept gone (n + 1) f ≡ (if gone n then frames_drop_all n (pages_swept gone n f) else pages_swept gone n f)
+more_swept : (gone : ℕ → Bool) (n : ℕ) (f : Frames) → pages_swept gone (n + 1)
+    f ≡ (if gone n then frames_drop_all n (pages_swept gone n f) else pages_swept gone n f)
 more_swept gone n f = let e : n + 1 ≡ suc n = omega arith in ap (λ k. pages_swept gone k f) e ∙ one_swept gone n f
 
 pub swept_start : (gone : ℕ → Bool) (w : World) → Swept gone w w 0
@@ -372,7 +395,8 @@ swept_next gone old mid new n a b tidy = record {
   pages = b.pages ∙ ap (λ (f : Frames). if gone n then frames_drop_all n f else f) a.pages ∙ sym (more_swept gone n old.core.frames);
 }
 
-pub swept_more : (old mid new : World) (r n : ℕ) → Swept (is_gone (superiors (state_of old).raw) r) old mid n → Sweeps (is_gone (superiors (state_of mid).raw) r) mid new n → Tidy new
+pub swept_more : (old mid new : World) (r n : ℕ) → Swept (is_gone (superiors (state_of old).raw) r) old mid n
+    → Sweeps (is_gone (superiors (state_of mid).raw) r) mid new n → Tidy new
     → Swept (is_gone (superiors (state_of old).raw) r) old new (n + 1)
 swept_more old mid new r n a b tidy =
     let same : superiors (state_of mid).raw ≡ superiors (state_of old).raw = λ i k. a.shared.superiors k i in
@@ -393,8 +417,10 @@ pub forgotten_along : (t u : Table) (xs ys zs : List (ArrayVec Symbol)) → t �
 forgotten_along t u xs ys zs jobs lists f = subst (λ l. Forgotten t xs l) (sym lists) (subst (λ x. Forgotten x xs zs) (sym jobs) f)
 
 -- then all slots are swept, and the jobs are removed
-module _ (old mid : World) (r : ℕ) (low : r < slots) (tree : IsTree old.jobs.jobs old.jobs.superiors) (swept : Swept (is_gone (superiors (state_of old).raw) r) old mid slots) where
-  past_swept : (k : ℕ) → slots ≤ k → SlotSame (state_of old) (state_of mid) k → SlotSwept (is_gone (superiors (state_of old).raw) r) (state_of old) (state_of mid) k
+module _ (old mid : World) (r : ℕ) (low : r < slots) (tree : IsTree old.jobs.jobs old.jobs.superiors)
+    (swept : Swept (is_gone (superiors (state_of old).raw) r) old mid slots) where
+  past_swept : (k : ℕ) → slots ≤ k → SlotSame (state_of old) (state_of mid) k
+      → SlotSwept (is_gone (superiors (state_of old).raw) r) (state_of old) (state_of mid) k
   past_swept k past s =
       let stays : is_gone (superiors (state_of old).raw) r k ≡ false = past_left old r k low tree past in
       let none : (state_of old).raw.jobs k ≡ None = none_there old k tree past in
@@ -413,13 +439,15 @@ module _ (old mid : World) (r : ℕ) (low : r < slots) (tree : IsTree old.jobs.j
   all_bare : (k : ℕ) → is_gone (superiors (state_of old).raw) r k ≡ true → Bare mid k
   all_bare k g = elim (cases_lt k slots) [
     | inl l ↦ swept.bare k l g
-    | inr ge ↦ let no : is_gone (superiors (state_of old).raw) r k ≡ false = past_left old r k low tree (omega arith) in absurd (let wrong : true ≡ false = sym g ∙ no in cc)
+    | inr ge ↦ let no : is_gone (superiors (state_of old).raw) r k ≡ false =
+        past_left old r k low tree (omega arith) in absurd (let wrong : true ≡ false = sym g ∙ no in cc)
   ]
 
   pub cores_left : (k : ℕ) → is_gone (superiors (state_of old).raw) r k ≡ true → core_at mid.core k ≡ no_core
   cores_left k g = (all_bare k g).core
 
-  module _ (new : World) (shrub : IsTree mid.jobs.jobs mid.jobs.superiors) (job : Without (in_tree (superior_at mid.jobs) r) (job_at mid.jobs) (job_at new.jobs)) where
+  module _ (new : World) (shrub : IsTree mid.jobs.jobs mid.jobs.superiors)
+      (job : Without (in_tree (superior_at mid.jobs) r) (job_at mid.jobs) (job_at new.jobs)) where
     superiors_same : superiors (state_of mid).raw ≡ superiors (state_of old).raw
     superiors_same = λ i k. swept.shared.superiors k i
 
@@ -440,13 +468,14 @@ module _ (old mid : World) (r : ℕ) (low : r < slots) (tree : IsTree old.jobs.j
     frame_gone : (k : ℕ) → is_gone (superiors (state_of old).raw) r k ≡ true → frame_at mid.frames.items k ≡ None
     frame_gone k g = sym (frame_is mid k) ∙ (all_swept k).frame ∙ ap (λ (b : Bool). if b then None else (state_of old).frames k) g
 
-    pub ringed_removed : (low : World) → new.jobs ≡ low.jobs → low.frames ≡ mid.frames → low.consoles ≡ mid.consoles → low.clock ≡ mid.clock → low.rings ≡ mid.rings → Resettled low new (lists_to 8 ++ link_lists_to most_links)
-        → Ringed mid → Ringed new
-    ringed_removed low jobs frames consoles clock rings settled =
-        removed_ringed mid low new (λ k. elim (cases_Bool (is_gone (superiors (state_of old).raw) r k)) [
+    pub on_lists_removed : (low : World) → new.jobs ≡ low.jobs → low.frames ≡ mid.frames → low.consoles ≡ mid.consoles
+        → low.clock ≡ mid.clock → low.wait_lists ≡ mid.wait_lists → Resettled low new (lists_to 8 ++ link_lists_to most_links)
+        → OnLists mid → OnLists new
+    on_lists_removed low jobs frames consoles clock wait_lists settled =
+        removed_on_lists mid low new (λ k. elim (cases_Bool (is_gone (superiors (state_of old).raw) r k)) [
           | inl g ↦ inr (frame_gone k g)
           | inr g ↦ inl (ap (λ t. job_at t k) (sym jobs) ∙ job_left k g)
-        ]) frames consoles clock rings settled
+        ]) frames consoles clock wait_lists settled
 
     -- and their symbols with them: what is left of those of a slot, by whether it is gone, and by
     -- what job it has
@@ -465,8 +494,9 @@ module _ (old mid : World) (r : ℕ) (low : r < slots) (tree : IsTree old.jobs.j
     none_left None ss e = refl
     none_left (Some j) ss e = cc
 
-    pub tidy_removed : new.core ≡ mid.core → new.files ≡ mid.files → new.alarms ≡ mid.alarms → new.clock ≡ mid.clock → Forgotten new.jobs mid.symbols.items new.symbols.items → (Ringed mid → Ringed new) → Tidy mid → Tidy new
-    tidy_removed core files alarms clock forgets ringed tidy = record {
+    pub tidy_removed : new.core ≡ mid.core → new.files ≡ mid.files → new.alarms ≡ mid.alarms → new.clock ≡ mid.clock
+        → Forgotten new.jobs mid.symbols.items new.symbols.items → (OnLists mid → OnLists new) → Tidy mid → Tidy new
+    tidy_removed core files alarms clock forgets on_lists tidy = record {
       blank = λ k none. ap (λ c. core_at c k) core ∙ elim (cases_Bool (is_gone (superiors (state_of old).raw) r k)) [
         | inl g ↦ cores_left k g
         | inr g ↦ tidy.blank k (sym (job_left k g) ∙ none)
@@ -476,15 +506,17 @@ module _ (old mid : World) (r : ℕ) (low : r < slots) (tree : IsTree old.jobs.j
         | inr g ↦ tidy.quiet k (sym (job_left k g) ∙ none)
       ];
       timed = subst (λ t. t < clock_end) (sym clock) tidy.timed;
-      across = subst (λ (t : Store). Across t new.jobs) (sym files) (across_table mid.files mid.jobs new.jobs tidy.across (λ k n. elim (cases_Bool (is_gone (superiors (state_of old).raw) r k)) [
-        | inl g ↦ ap (λ o. channel_by o n) (job_gone k g) ∙ sym ((all_bare k g).channels n)
-        | inr g ↦ ap (λ o. channel_by o n) (job_left k g)
-      ]));
+      across = subst (λ (t : Store). Across t new.jobs) (sym files)
+          (across_table mid.files mid.jobs new.jobs tidy.across (λ k n. elim (cases_Bool (is_gone (superiors (state_of old).raw) r k)) [
+            | inl g ↦ ap (λ o. channel_by o n) (job_gone k g) ∙ sym ((all_bare k g).channels n)
+            | inr g ↦ ap (λ o. channel_by o n) (job_left k g)
+          ]));
       nameless = λ k none. forgets k ∙ none_left (job_at new.jobs k) (symbols_at mid.symbols.items k) none;
-      ringed = ringed tidy.ringed;
+      on_lists = on_lists tidy.on_lists;
     }
 
-    module _ (superior : Without (in_tree (superior_at mid.jobs) r) (superior_at mid.jobs) (superior_at new.jobs)) (core : new.core ≡ mid.core) (files : new.files ≡ mid.files) (alarms : new.alarms ≡ mid.alarms) where
+    module _ (superior : Without (in_tree (superior_at mid.jobs) r) (superior_at mid.jobs) (superior_at new.jobs))
+        (core : new.core ≡ mid.core) (files : new.files ≡ mid.files) (alarms : new.alarms ≡ mid.alarms) where
       raw_left : (k : ℕ) (b : Bool) → is_gone (superiors (state_of old).raw) r k ≡ b
           → raw_at new.files new.core new.jobs new.alarms.items k ≡ job_after_removal (is_gone (superiors (state_of old).raw) r) b ((state_of old).raw.jobs k)
       unfolding state_of
@@ -500,7 +532,8 @@ module _ (old mid : World) (r : ℕ) (low : r < slots) (tree : IsTree old.jobs.j
           ∙ (all_swept k).job g
 
       pub tree_removed : new.frames ≡ mid.frames → new.consoles ≡ mid.consoles
-          → ((c : ℕ) → holder_at new.holders c ≡ holder_after_removal (in_tree (superior_at mid.jobs) r) (superior_at mid.jobs r) (holder_at mid.holders c)) → new.clock ≡ mid.clock → new.version ≡ mid.version → Forgotten new.jobs mid.symbols.items new.symbols.items
+          → ((c : ℕ) → holder_at new.holders c ≡ holder_after_removal (in_tree (superior_at mid.jobs) r) (superior_at mid.jobs r)
+          (holder_at mid.holders c)) → new.clock ≡ mid.clock → new.version ≡ mid.version → Forgotten new.jobs mid.symbols.items new.symbols.items
           → ((l : ℕ) → piped new.pipes l ≡ ends_after_removal (in_tree (superior_at mid.jobs) r) (piped mid.pipes l)) → Tidy mid
           → (j : ℕ) → state_of new ≡ effect_on (changes.Remove r) j (state_of old)
       unfolding state_of effect_on effect after_removal
@@ -510,9 +543,11 @@ module _ (old mid : World) (r : ℕ) (low : r < slots) (tree : IsTree old.jobs.j
           (λ c.
           holders c
           ∙ (λ i. holder_after_removal (gone_same i) (heir_same i) (holder_at mid.holders c))
-          ∙ ap (λ (f : ℕ → Option ℕ). holder_after_removal (is_gone (superiors (state_of old).raw) r) (superiors (state_of old).raw r) (f c)) swept.shared.holders)
+          ∙ ap (λ (f : ℕ → Option ℕ). holder_after_removal (is_gone (superiors (state_of old).raw) r) (superiors (state_of old).raw r)
+          (f c)) swept.shared.holders)
           (ap directory files ∙ swept.shared.files) (clock ∙ swept.shared.clock) (version ∙ swept.shared.version)
-          (λ k. symbols_gone forgets tidy k ∙ ap (λ (f : ℕ → List Symbol). symbols_after_removal (is_gone (superiors (state_of old).raw) r k) (f k)) swept.shared.symbols)
+          (λ k. symbols_gone forgets tidy k ∙ ap (λ (f : ℕ → List Symbol). symbols_after_removal
+          (is_gone (superiors (state_of old).raw) r k) (f k)) swept.shared.symbols)
           (λ l.
           links l
           ∙ ap (λ (g : ℕ → Bool). ends_after_removal g (piped mid.pipes l)) gone_same

@@ -16,11 +16,11 @@ use Rattle.its_frame.specs.declared.frame.Frame.TheVariants as frames
 use Rattle.its_frame.specs.declared.frame.Holding.{Holding}
 use Rattle.its_frame.specs.declared.frame.Waiting.{Waiting}
 use Rattle.its_frame.specs.declared.decision.Wait.{Wait}
-use Rattle.its_plain.specs.Arguments.{debts}
-use Rattle.its_plain.specs.CallStep.{among, decision}
-use Rattle.its_plain.specs.Decide.{call_named, target, reach}
+use Rattle.its_plain.specs.Call.Arguments.{debts}
+use Rattle.its_plain.specs.Call.Step.{among, decision}
+use Rattle.its_plain.specs.Call.Decide.{call_named, target, reach}
 use Rattle.its_plain.specs.Machine.{Whole, Machine}
-use Rattle.its_plain.specs.Own.{with_stores}
+use Rattle.its_plain.specs.Machine.Own.{with_stores}
 use Rattle.its_stepped.specs.Commit.{after_commit}
 use Rattle.its_stepped.specs.Duty.{Duty, Meets, GivenBy, IsTried}
 use Rattle.its_stepped.specs.SlotSame.{SlotSame}
@@ -29,15 +29,15 @@ use Rattle.its_stepped.specs.State.{State, plain, seen}
 use Rattle.its_stepped.specs.Tick.{Ticked, after_help_if, helps, with_preparation, waits, tried, tried_by, held_on, tick_in, tick_unless, tick_of, tick}
 use Rattle.its_stepped.specs.Unwind.{all_unwound}
 use Rattle.its_stepped.specs.Forest.{Forest}
-use Rattle.its_stepped.proofs.CallLaws.{decision_behind}
-use Rattle.its_stepped.proofs.DecodingLaws.{decoding}
-use Rattle.its_stepped.proofs.GivenLaws.{given}
-use Rattle.its_stepped.proofs.UnwindLaws.{all_unwound_end, all_unwound_plain, all_unwound_sound, all_unwound_none, all_unwound_others}
-use Rattle.its_stepped.proofs.HelpLaws.{helped_if_plain, helped_if_sound, helped_if_others, helped_if_unmarked}
-use Rattle.its_stepped.proofs.TriedLaws.{prepared_seen, decision_helped, waits_unhelped, waits_unreached}
-use Rattle.its_stepped.proofs.WaitLaws.{Goes_on}
-use Rattle.its_stepped.proofs.ViewLaws.{StillAt, target_seen, reach_plain, helps_seen}
-use Rattle.its_stepped.proofs.ForestLaws.{forest_raw}
+use Rattle.its_stepped.proofs.Committing.CallLaws.{decision_behind}
+use Rattle.its_stepped.proofs.Frame.DecodingLaws.{decoding}
+use Rattle.its_stepped.proofs.Duties.GivenLaws.{given}
+use Rattle.its_stepped.proofs.Unwinding.UnwindLaws.{all_unwound_end, all_unwound_plain, all_unwound_sound, all_unwound_none, all_unwound_others}
+use Rattle.its_stepped.proofs.Committing.HelpLaws.{helped_if_plain, helped_if_sound, helped_if_others, helped_if_unmarked}
+use Rattle.its_stepped.proofs.Committing.TriedLaws.{prepared_seen, decision_helped, waits_unhelped, waits_unreached}
+use Rattle.its_stepped.proofs.Ticking.WaitLaws.{Goes_on}
+use Rattle.its_stepped.proofs.Committing.ViewLaws.{StillAt, target_seen, reach_plain, helps_seen}
+use Rattle.its_stepped.proofs.Keeping.ForestLaws.{forest_raw}
 use Rattle.its_world.specs.World.{alarm_at, raw_of, raw_at, frame_at, state_of}
 use Rattle.its_world.specs.declared.world.World.{World}
 use Rattle.its_commit.specs.Carried.{standing_of, pace_of, CanCommit}
@@ -62,7 +62,8 @@ tried_carried w v j own h _ same duty = refl
 abbrev pub prepared : State → ℕ → Whole → Ask → State
 prepared w j q a = after_help_if (helps q a) (all_unwound (reach w.raw j q a) w)
 
-waits_still : (w : State) (j : ℕ) (q : Whole) (a : Ask) (r : Wait) (o : Option ℕ) → target q a ≡ o → ((s : ℕ) → target q a ≡ Some s → IsWaitable (call_named a.name) → Goes_on (Waits r))
+waits_still : (w : State) (j : ℕ) (q : Whole) (a : Ask) (r : Wait) (o : Option ℕ) → target q a ≡ o
+    → ((s : ℕ) → target q a ≡ Some s → IsWaitable (call_named a.name) → Goes_on (Waits r))
     → IsWaitable (call_named a.name) → all_unwound (reach w.raw j q a) w ≡ w
 waits_still w j q a r None e g wait = ap (λ (ks : List ℕ). all_unwound ks w) (waits_reach w.raw j q a wait e) ∙ all_unwound_end w
 waits_still w j q a r (Some s) e g wait = absurd (g s e wait)
@@ -114,7 +115,8 @@ found_cleared w j q h sound is s =
       stands = ap standing_of (later.frame ∙ first.frame) ∙ s.stands;
       sound = helped_if_sound b u (all_unwound_sound ks w sound);
       unmarked = λ e. helped_if_unmarked b u e;
-      free = λ k e. (helped_if_others b u k).frame ∙ all_unwound_none ks w k sound (ap (among k) (sym (same_reach w (after_help_if b u) j q h.ask shows)) ∙ e);
+      free = λ k e. (helped_if_others b u k).frame ∙ all_unwound_none ks w k sound
+          (ap (among k) (sym (same_reach w (after_help_if b u) j q h.ask shows)) ∙ e);
       shows = shows;
     }
 
@@ -133,7 +135,8 @@ running_tick : (w : State) (j : ℕ) (q : Whole) → w.raw.jobs j ≡ Some q →
 unfolding tick
 running_tick w j q is runs = ap (tick_of w j) is ∙ ap (tick_unless w j q) runs
 
-found_tries : (w : State) (j : ℕ) (q : Whole) (h : Holding) → Sound w → Forest (plain w) → w.raw.jobs j ≡ Some q → IfSome q.job.console (λ c. c < 8) → Stood w j q h
+found_tries : (w : State) (j : ℕ) (q : Whole) (h : Holding) → Sound w → Forest (plain w) → w.raw.jobs j ≡ Some q
+    → IfSome q.job.console (λ c. c < 8) → Stood w j q h
     → Tries w (prepared w j q h.ask) j q h (decision (prepared w j q h.ask).raw j q h.ask)
 found_tries w j q h sound forest is housed s =
     let own : Whole = seen (w.frames j) q in
@@ -154,9 +157,17 @@ found_tries w j q h sound forest is housed s =
     let row : tick_in w j q (w.frames j) ≡ carried v j h d =
     s.row
     ∙ (λ t. tried w (finds t) j h.site h.ask h.owes (decides t))
-    ∙ tried_carried w v j own h d (waiting_by w j q h.ask d (helps q h.ask) refl (λ e. waits_unhelped v.raw j q h.ask e) (λ k e. waits_unreached v.raw j q h.ask k e)) duty in
+    ∙ tried_carried w v j own h d (waiting_by w j q h.ask d (helps q h.ask) refl (λ e. waits_unhelped v.raw j q h.ask e)
+    (λ k e. waits_unreached v.raw j q h.ask k e)) duty in
     let can : DecisionCan d j v =
-    decision_can v j q h.ask (record { job = c.job; forest = forest_raw v (subst Forest (sym c.shows) forest); sound = c.sound; unmarked = c.unmarked; free = c.free; full = λ e. c.page ∙ s.meets.page e }) housed in
+    decision_can v j q h.ask (record {
+      job = c.job;
+      forest = forest_raw v (subst Forest (sym c.shows) forest);
+      sound = c.sound;
+      unmarked = c.unmarked;
+      free = c.free;
+      full = λ e. c.page ∙ s.meets.page e;
+    }) housed in
     record {
       cleared = c;
       decides = decides;
@@ -167,19 +178,22 @@ found_tries w j q h sound forest is housed s =
     }
 
 -- a call that is held is tried if it has no page, or all quarters of it are clear
-held_tried : (w : State) (j : ℕ) (own : Whole) (s : Site) (a : Ask) (page : Option ℕ) (n : ℕ) → IsTried page → held_on w j own s a page n ≡ tried_by w j own s a n
+held_tried : (w : State) (j : ℕ) (own : Whole) (s : Site) (a : Ask) (page : Option ℕ) (n : ℕ) → IsTried page
+    → held_on w j own s a page n ≡ tried_by w j own s a n
 held_tried w j own s a None n t = refl
 held_tried w j own s a (Some p) n t = rw t refl
 
 sound_at : (w : State) (j : ℕ) (q : Whole) (f : Frame) → Sound w → w.raw.jobs j ≡ Some q → w.frames j ≡ Some f → SoundFrame q f (w.reserved j)
 sound_at w j q f sound is fr =
-    subst (λ (o : Option Frame). SoundBy (Some q) o (w.reserved j)) fr (subst (λ (o : Option Whole). SoundBy o (w.frames j) (w.reserved j)) is (sound.each j).by)
+    subst (λ (o : Option Frame). SoundBy (Some q) o (w.reserved j)) fr
+    (subst (λ (o : Option Whole). SoundBy o (w.frames j) (w.reserved j)) is (sound.each j).by)
 
 given_at : (w : State) (j : ℕ) (q : Whole) (f : Frame) → Sound w → Forest (plain w) → w.raw.jobs j ≡ Some q → w.frames j ≡ Some f → GivenBy w j q (Some f)
 given_at w j q f sound forest is fr = subst (GivenBy w j q) fr ((given decoding w j forest sound).by q is)
 
 stood_by : (w : State) (j : ℕ) (q : Whole) (h : Holding) (f : Frame) → standing_of (Some f) ≡ Some h → w.frames j ≡ Some f
-    → Stands (seen (Some f) q).core (seen (Some f) q).job h.site h.ask → q.job.stopped ≡ false → seen (Some f) q ≡ with_stores (debts h.ask h.owes) q → Debts q.core h.ask h.owes → Meets w j (seen (Some f) q) h.site h.ask h.owes
+    → Stands (seen (Some f) q).core (seen (Some f) q).job h.site h.ask → q.job.stopped ≡ false
+    → seen (Some f) q ≡ with_stores (debts h.ask h.owes) q → Debts q.core h.ask h.owes → Meets w j (seen (Some f) q) h.site h.ask h.owes
     → tick_in w j q (Some f) ≡ tried_by w j (seen (Some f) q) h.site h.ask h.owes → Stood w j q h
 stood_by w j q h f stands fr standing runs shows debts meets row = record {
   stands = ap standing_of fr ∙ stands;
@@ -191,7 +205,8 @@ stood_by w j q h f stands fr standing runs shows debts meets row = record {
   row = subst (λ (o : Option Frame). tick_in w j q o ≡ tried_by w j (seen o q) h.site h.ask h.owes) (sym fr) row;
 }
 
-stood_holding : (w : State) (j : ℕ) (q : Whole) (f : Holding) → Sound w → Forest (plain w) → w.raw.jobs j ≡ Some q → IsTried f.page → w.frames j ≡ Some (frames.Holding f)
+stood_holding : (w : State) (j : ℕ) (q : Whole) (f : Holding) → Sound w → Forest (plain w) → w.raw.jobs j ≡ Some q → IsTried f.page
+    → w.frames j ≡ Some (frames.Holding f)
     → Stood w j q f
 unfolding seen
 stood_holding w j q f sound forest is tried fr =
@@ -203,26 +218,31 @@ stood_holding w j q f sound forest is tried fr =
 abbrev pub held : Waiting → Holding
 held f = record { site = f.site; ask = f.ask; page = None; owes = f.owes }
 
-stood_waiting : (w : State) (j : ℕ) (q : Whole) (f : Waiting) → Sound w → Forest (plain w) → w.raw.jobs j ≡ Some q → w.frames j ≡ Some (frames.Waiting f) → Stood w j q (held f)
+stood_waiting : (w : State) (j : ℕ) (q : Whole) (f : Waiting) → Sound w → Forest (plain w) → w.raw.jobs j ≡ Some q
+    → w.frames j ≡ Some (frames.Waiting f) → Stood w j q (held f)
 unfolding seen
 stood_waiting w j q f sound forest is fr =
     let s = sound_at w j q (frames.Waiting f) sound is fr in
     stood_by w j q (held f) (frames.Waiting f) refl fr s.standing s.runs refl s.pays.debts (given_at w j q (frames.Waiting f) sound forest is fr) refl
 
-stood_at : (w : State) (j : ℕ) (q : Whole) (h : Holding) (o : Option Frame) → Sound w → Forest (plain w) → w.raw.jobs j ≡ Some q → IsTried h.page → w.frames j ≡ o → standing_of o ≡ Some h
+stood_at : (w : State) (j : ℕ) (q : Whole) (h : Holding) (o : Option Frame) → Sound w → Forest (plain w) → w.raw.jobs j ≡ Some q
+    → IsTried h.page → w.frames j ≡ o → standing_of o ≡ Some h
     → Stood w j q h
 stood_at w j q h (Some (frames.Holding f)) sound forest is tried fr e =
     let same : f ≡ h = cc in
     subst (Stood w j q) same (stood_holding w j q f sound forest is (subst (λ (g : Holding). IsTried g.page) (sym same) tried) fr)
-stood_at w j q h (Some (frames.Waiting f)) sound forest is tried fr e = let same : held f ≡ h = cc in subst (Stood w j q) same (stood_waiting w j q f sound forest is fr)
+stood_at w j q h (Some (frames.Waiting f)) sound forest is tried fr e = let same : held f ≡ h =
+    cc in subst (Stood w j q) same (stood_waiting w j q f sound forest is fr)
 stood_at w j q h _ sound forest is tried fr e = cc
 
-pub cleared : (w v : State) (j : ℕ) (q : Whole) (h : Holding) → Sound w → Forest (plain w) → w.raw.jobs j ≡ Some q → standing_of (w.frames j) ≡ Some h → IsTried h.page
+pub cleared : (w v : State) (j : ℕ) (q : Whole) (h : Holding) → Sound w → Forest (plain w) → w.raw.jobs j ≡ Some q
+    → standing_of (w.frames j) ≡ Some h → IsTried h.page
     → v ≡ prepared w j q h.ask → Cleared w v j q h
 cleared w v j q h sound forest is stands tried e =
     subst (λ (x : State). Cleared w x j q h) (sym e) (found_cleared w j q h sound is (stood_at w j q h (w.frames j) sound forest is tried refl stands))
 
-pub tries : (w v : State) (j : ℕ) (q : Whole) (h : Holding) (d : Decision) → Sound w → Forest (plain w) → w.raw.jobs j ≡ Some q → IfSome q.job.console (λ c. c < 8)
+pub tries : (w v : State) (j : ℕ) (q : Whole) (h : Holding) (d : Decision) → Sound w → Forest (plain w) → w.raw.jobs j ≡ Some q
+    → IfSome q.job.console (λ c. c < 8)
     → standing_of (w.frames j) ≡ Some h → IsTried h.page → v ≡ prepared w j q h.ask → d ≡ decision v.raw j q h.ask → Tries w v j q h d
 tries w v j q h d sound forest is housed stands tried e f =
     let t = found_tries w j q h sound forest is housed (stood_at w j q h (w.frames j) sound forest is tried refl stands) in
@@ -238,7 +258,8 @@ pub job_there : (w : World) (s : ℕ) (q : Whole) → (state_of w).raw.jobs s �
 unfolding state_of
 job_there w s q e = some_job w.files (core_at w.core s) (superior_at w.jobs s) (alarm_at w.alarms.items s) (job_at w.jobs s) q e
 
-pub decided_there : (w : World) (s : ℕ) (q : Whole) (a : Ask) (d : Decision) → (state_of w).raw.jobs s ≡ Some q → IfSome (raw_at w.files w.core w.jobs w.alarms.items s) (λ q. d ≡ decision (state_of w).raw s q a)
+pub decided_there : (w : World) (s : ℕ) (q : Whole) (a : Ask) (d : Decision) → (state_of w).raw.jobs s ≡ Some q
+    → IfSome (raw_at w.files w.core w.jobs w.alarms.items s) (λ q. d ≡ decision (state_of w).raw s q a)
     → d ≡ decision (state_of w).raw s q a
 unfolding state_of
 decided_there w s q a d e h = subst (λ (o : Option Whole). IfSome o (λ q. d ≡ decision (state_of w).raw s q a)) e h

@@ -4,7 +4,7 @@ use Rattle.std.specs.Prelude.{◌≡◌, ◌<◌, ℕ, Bool, true, false, Some, 
 use Rattle.its_word.specs.Console.{most_waiting}
 use Rattle.its_word.specs.Core.{page_of}
 use Rattle.its_word.specs.Limits.{slots, most_pages}
-use Rattle.its_records.specs.Links.{most_links, most_linked}
+use Rattle.its_records.specs.Links.{most_links, most_link_words}
 use Rattle.its_records.specs.Tree.{least_free, is_below}
 use Rattle.its_records.specs.declared.calls.Owed.{Owed}
 use Rattle.its_records.specs.declared.calls.Owed.TheVariants.{GiveBack}
@@ -12,12 +12,12 @@ use Rattle.its_frame.specs.declared.change.Change.{Change}
 use Rattle.its_frame.specs.declared.change.Change.TheVariants as changes
 use Rattle.its_frame.specs.declared.change.Opened.{Opened}
 use Rattle.its_frame.specs.declared.change.Opened.TheVariants as opened
-use Rattle.its_plain.specs.CallFile.{has_file}
-use Rattle.its_plain.specs.CallLink.{words_in}
-use Rattle.its_plain.specs.Change.{superiors, is_gone}
+use Rattle.its_plain.specs.Call.File.{has_file}
+use Rattle.its_plain.specs.Call.Link.{words_in}
+use Rattle.its_plain.specs.Machine.Change.{superiors, is_gone}
 use Rattle.its_plain.specs.Machine.{Shut, Linked, core_of, mapped, limit}
-use Rattle.its_plain.specs.Own.{names_of}
-use Rattle.its_machine.specs.Can.{Pokes, HasPage}
+use Rattle.its_plain.specs.Machine.Own.{names_of}
+use Rattle.its_shared.specs.Can.{Pokes, HasPage}
 use Rattle.its_stepped.specs.Commit.{effect_on}
 use Rattle.its_stepped.specs.Sound.{Sound}
 use Rattle.its_stepped.specs.State.{State}
@@ -68,8 +68,8 @@ CanMake (changes.Hold c s) j w = c < 8
 CanMake (changes.Inform s) j w = Unit {0}
 CanMake (changes.Arm alarm) j w = Unit {0}
 CanMake (changes.Join n l write x y) j w = (n < 16) × (l < most_links) × HasJob w j × (chan_in w j n ≡ Shut)
-CanMake (changes.Part n l write) j w = (n < 16) × (l < most_links) × (chan_in w j n ≡ Linked l write)
-CanMake (changes.Send l x) j w = (l < most_links) × (is_some (w.raw.links l) ≡ true) × (length (words_in (w.raw.links l)) < most_linked)
+CanMake (changes.CloseEnd n l write) j w = (n < 16) × (l < most_links) × (chan_in w j n ≡ Linked l write)
+CanMake (changes.Send l x) j w = (l < most_links) × (is_some (w.raw.links l) ≡ true) × (length (words_in (w.raw.links l)) < most_link_words)
 CanMake (changes.Receive l) j w = l < most_links
 CanMake (changes.Set s v x) j w = Unit {0}
 CanMake (changes.Poke s a x) j w = Pokes w.raw s a

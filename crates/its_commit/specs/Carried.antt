@@ -9,15 +9,15 @@ use Rattle.its_frame.specs.declared.decision.Held.{Held}
 use Rattle.its_frame.specs.declared.frame.Frame.{Frame}
 use Rattle.its_frame.specs.declared.frame.Frame.TheVariants as frames
 use Rattle.its_frame.specs.declared.frame.Holding.{Holding}
-use Rattle.its_plain.specs.Arguments.{debts}
-use Rattle.its_plain.specs.Decide.{call_named}
+use Rattle.its_plain.specs.Call.Arguments.{debts}
+use Rattle.its_plain.specs.Call.Decide.{call_named}
 use Rattle.its_records.specs.declared.calls.Ask.{Ask}
 use Rattle.its_records.specs.declared.calls.Pace.{Pace}
 use Rattle.its_records.specs.declared.calls.Pace.TheVariants.{Step, Wait}
 use Rattle.its_stepped.specs.Commit.{effect_on, effects_on, owed_parts, sleeps}
 use Rattle.its_stepped.specs.State.{State}
-use Rattle.its_calls.specs.declared.call.Next.{Next}
-use Rattle.its_calls.specs.declared.call.Next.TheVariants as next
+use Rattle.its_in_call.specs.declared.call.Next.{Next}
+use Rattle.its_in_call.specs.declared.call.Next.TheVariants as next
 use Rattle.its_commit.specs.Built.{CanMakeAll, Removable}
 
 -- the call of a frame from which it can be committed; a call that waits holds no page

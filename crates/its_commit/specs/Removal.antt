@@ -7,13 +7,13 @@ use Rattle.its_core.specs.Cores.{core_at}
 use Rattle.its_core.specs.Frames.{frames_drop_all}
 use Rattle.its_word.specs.Limits.{slots}
 use Rattle.its_jobs.specs.Table.{Table}
-use Rattle.its_plain.specs.Change.{after_shut, superiors}
+use Rattle.its_plain.specs.Machine.Change.{after_shut, superiors}
 use Rattle.its_plain.specs.Machine.{Shut}
 use Rattle.its_stepped.specs.SlotSame.{SlotSame}
 use Rattle.its_stepped.specs.State.{State}
 use Rattle.its_world.specs.Storage.{chan_in, IsElsewhere}
 use Rattle.its_world.specs.Tidy.{channel_at}
-pub use Rattle.its_machine.specs.Across.{channel_left}
+pub use Rattle.its_shared.specs.Across.{channel_left}
 use Rattle.its_world.specs.World.{alarm_at, state_of}
 use Rattle.its_commit.specs.Pages.{pages_swept}
 use Rattle.its_world.specs.declared.world.World.{World}

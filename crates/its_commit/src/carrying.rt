@@ -2,7 +2,7 @@
 
 ghost use Rattle.std.specs.Prelude.{◌≡◌, ◌<◌, ◌≤◌, ◌+◌, ◌-◌, ◌∷◌, ◌++◌, [], ℕ, Bool, true, false, Some, None, is_some, length, map, if◌then◌else◌};
 ghost use Rattle.its_records.specs.declared.calls.Owed.TheVariants.{GiveBack, Leave};
-ghost use Rattle.its_plain.specs.Arguments.{debts};
+ghost use Rattle.its_plain.specs.Call.Arguments.{debts};
 ghost use Rattle.its_stepped.specs.Commit.{owed_store};
 ghost use Rattle.its_commit.specs.Built.{backed};
 

@@ -2,19 +2,19 @@
 
 ghost use Rattle.std.specs.Prelude.{◌≡◌, ◌<◌, ◌^◌, true, None, Some, [], ◌∷◌, is_some, length, option_map};
 ghost use Rattle.its_word.specs.Console.{most_waiting};
-ghost use Rattle.its_records.specs.Links.{most_links, most_linked};
+ghost use Rattle.its_records.specs.Links.{most_links, most_link_words};
 ghost use Rattle.its_word.specs.Core.{can_store};
 ghost use Rattle.its_records.specs.Tree.{least_free};
 ghost use Rattle.its_core.specs.Frames.{frames_map, frames_unmap};
-ghost use Rattle.its_plain.specs.CallLink.{words_in};
-ghost use Rattle.its_plain.specs.Change.{console_in, on_console, on_link, poke, with_protection, after_put, after_take, with_alarm, with_inf, with_page_at, with_received, with_sent};
+ghost use Rattle.its_plain.specs.Call.Link.{words_in};
+ghost use Rattle.its_plain.specs.Machine.Change.{console_in, on_console, on_link, poke, with_protection, after_put, after_take, with_alarm, with_inf, with_page_at, with_received, with_sent};
 ghost use Rattle.its_frame.specs.declared.change.Change.TheVariants.{Make, Map, Open};
 ghost use Rattle.its_plain.specs.Machine.{Shut, changed, core_of, limit};
-ghost use Rattle.its_plain.specs.Own.{with_registers, with_stores, with_variable};
+ghost use Rattle.its_plain.specs.Machine.Own.{with_registers, with_stores, with_variable};
 ghost use Rattle.its_stepped.specs.Commit.{effect_on, effects_on};
 ghost use Rattle.its_stepped.specs.Lines.{with_raw};
 ghost use Rattle.its_world.specs.Tidy.{Tidy};
-ghost use Rattle.its_machine.specs.Can.{HasPage};
+ghost use Rattle.its_shared.specs.Can.{HasPage};
 ghost use Rattle.its_commit.specs.Built.{CanMake, CanMakeAll, CanOpen, Maps};
 ghost use Rattle.its_commit.specs.Pages.{all_pages_changed, pages_changed};
 ghost use Rattle.its_world.specs.Storage.{HasJob, chan_in};
@@ -44,7 +44,7 @@ pub fn apply(w: &mut World, slot: Slot, changes: &[Change])
 
 /// Makes one change.
 #[inline(never)]
-#[tactic(auto, unfolding(its_stepped::specs::Commit::effect_on, its_plain::specs::Change::effect))]
+#[tactic(auto, unfolding(its_stepped::specs::Commit::effect_on, its_plain::specs::Machine::Change::effect))]
 fn apply_one(w: &mut World, slot: Slot, change: &Change)
     requires can { CanMake change.now slot (state_of w.old) }
     requires tidy { Tidy w.old }
@@ -78,11 +78,11 @@ fn apply_one(w: &mut World, slot: Slot, change: &Change)
             x,
             y,
         } => w.join(slot, *channel, *link, *write, *x, *y),
-        Change::Part {
+        Change::CloseEnd {
             channel,
             link,
             write,
-        } => w.part(slot, *channel, *link, *write),
+        } => w.close_link(slot, *channel, *link, *write),
         Change::Send { link, word } => send(w, *link, *word),
         Change::Receive { link } => receive(w, *link),
         Change::Set {
@@ -105,7 +105,7 @@ fn apply_one(w: &mut World, slot: Slot, change: &Change)
 
 /// Makes one change, of those that SIOT makes in place (`apply_one`).
 #[inline(always)]
-#[tactic(auto, unfolding(its_stepped::specs::Commit::effect_on, its_plain::specs::Change::effect))]
+#[tactic(auto, unfolding(its_stepped::specs::Commit::effect_on, its_plain::specs::Machine::Change::effect))]
 pub fn apply_part(w: &mut World, slot: Slot, change: Change)
     requires can { CanMake change slot (state_of w.old) }
     requires tidy { Tidy w.old }
@@ -125,7 +125,7 @@ pub fn apply_part(w: &mut World, slot: Slot, change: Change)
 }
 
 /// Opens a closed channel of a slot's job on a console, a file, a new draft or another job.
-#[tactic(auto, using(crate::proofs::ChangeLaws::closed_elsewhere), unfolding(its_stepped::specs::Commit::effect_on, its_plain::specs::Change::effect))]
+#[tactic(auto, using(crate::proofs::ChangeLaws::closed_elsewhere), unfolding(its_stepped::specs::Commit::effect_on, its_plain::specs::Machine::Change::effect))]
 fn open(w: &mut World, slot: Slot, n: u8, on: Opened)
     requires number { n < 16 }
     requires job { HasJob (state_of w.old) slot }
@@ -177,11 +177,11 @@ fn put(w: &mut World, console: ConsoleNumber, byte: u8)
 }
 
 /// Puts a word at the end of a link, which has room.
-#[tactic(auto, using(crate::proofs::TidyLaws::link_pages, crate::proofs::ChangeLaws::link_there, crate::proofs::ChangeLaws::link_room, crate::proofs::ChangeLaws::word_sent, its_world::proofs::LinkLaws::link_tidy))]
+#[tactic(auto, using(crate::proofs::Groups::send_laws))]
 fn send(w: &mut World, link: u8, word: Word)
     requires link { link < most_links }
     requires stands { is_some ((state_of w.old).raw.links link) ≡ true }
-    requires room { length (words_in ((state_of w.old).raw.links link)) < most_linked }
+    requires room { length (words_in ((state_of w.old).raw.links link)) < most_link_words }
     requires tidy { Tidy w.old }
     ensures row { state_of w.new ≡ with_raw (state_of w.old) (on_link (state_of w.old).raw link (option_map (with_sent word))) }
     ensures pages { w.new.core.frames ≡ w.old.core.frames }
@@ -282,7 +282,7 @@ fn console_of(w: &World, slot: Slot) -> Option<u8>
 }
 
 /// The page that a slot has reserved, which is clear, becomes a page of a target.
-#[tactic(auto, using(its_world::proofs::MappedLaws::mapped_becomes, crate::proofs::ChangeLaws::page_clear, crate::proofs::ChangeLaws::page_absent, crate::proofs::ChangeLaws::never_full, crate::proofs::ChangeLaws::page_mapped))]
+#[tactic(auto, using(crate::proofs::Groups::map_laws))]
 fn map(w: &mut World, slot: Slot, target: u8, page: u8)
     requires can { Maps (state_of w.old) slot target page }
     requires tidy { Tidy w.old }
@@ -335,7 +335,7 @@ fn set(w: &mut World, slot: u8, variable: Variable, value: Word)
 
 /// Registers with a variable set; of UPC the flags are taken too, and a value of USTP other than 0
 /// stops.
-#[tactic(auto, unfolding(its_plain::specs::Own::with_variable))]
+#[tactic(auto, unfolding(its_plain::specs::Machine::Own::with_variable))]
 fn with_variable(job: Job, variable: Variable, value: Word) -> Job
     ensures { result ≡ with_variable variable value job }
 {

@@ -1,6 +1,6 @@
 //! What is pending of a call: the words of its arguments, and the parts of its close.
 ghost use Rattle.std.specs.Prelude.{◌≡◌, ◌<◌, ◌∷◌, [], length};
-ghost use Rattle.its_plain.specs.Arguments.{debts};
+ghost use Rattle.its_plain.specs.Call.Arguments.{debts};
 ghost use Rattle.its_stepped.specs.Unwind.{first_debt};
 ghost use Rattle.its_stepped.specs.State.{mine};
 ghost use Rattle.its_world.specs.World.{state_of};

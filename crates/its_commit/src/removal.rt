@@ -7,7 +7,7 @@ ghost use Rattle.its_core.specs.Cores.{core_at, clear_at};
 ghost use Rattle.its_core.specs.Frames.{frames_drop_all};
 ghost use Rattle.its_frame.specs.declared.change.Change.TheVariants.{Remove};
 ghost use Rattle.its_jobs.specs.Table.{job_at, superior_at, in_tree};
-ghost use Rattle.its_plain.specs.Change.{superiors, after_shut, is_gone};
+ghost use Rattle.its_plain.specs.Machine.Change.{superiors, after_shut, is_gone};
 ghost use Rattle.its_stepped.specs.Commit.{effect_on};
 ghost use Rattle.its_stepped.specs.Sound.{Sound};
 ghost use Rattle.its_world.specs.Tidy.{Tidy};
@@ -15,12 +15,10 @@ ghost use Rattle.its_commit.specs.Pages.{pages_swept};
 ghost use Rattle.its_commit.specs.Removal.{Closes, Empties, Sweeps, Swept};
 ghost use Rattle.its_world.specs.World.{state_of, in_raw, with_frames, CoreBecomes};
 
-use its_machine::{is_removed, leave_each, pass_on};
+use its_records::CHANNELS;
+use its_shared::{is_removed, leave_each, pass_on};
 use its_word::{SLOTS, Slot, within};
 use its_world::{World, forget_removed};
-
-/// How many channels a job has.
-const CHANNELS: u8 = 16;
 
 /// Removes the job of a slot and all jobs below it: their drafts are dropped, their channels
 /// closed, and their pages and symbols given up; every channel on one of them is closed, and so is

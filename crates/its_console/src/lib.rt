@@ -11,12 +11,10 @@ ghost use Rattle.std.specs.Prelude.{◌≡◌, ◌<◌, ◌≤◌, ◌↔◌, �
 ghost use Rattle.its_word.specs.Console.{quiet_console, most_waiting};
 
 use circular_buffer::HeapCircularBuffer;
+use its_word::MOST_WAITING;
 pub use its_word::NoMemory;
 use std::alloc::Global;
 use std::marker::Model;
-
-/// How many bytes wait at most in each direction.
-const RING_BYTES: usize = 64;
 
 /// A console. Contracts see the bytes that wait, in the order in which they came: its input and its
 /// output.
@@ -38,12 +36,16 @@ impl Model for Console {
 }
 
 impl Console {
-    /// A console at which nothing waits. Takes the memory of both rings.
+    /// A console at which nothing waits. Takes the memory of both buffers.
     pub fn open(alloc: Global) -> Result<Console, NoMemory>
         ensures { IfOk result (λ c. c ≡ quiet_console) }
     {
-        let input = HeapCircularBuffer::with_capacity(alloc, RING_BYTES).map_err(|_| NoMemory)?;
-        let output = HeapCircularBuffer::with_capacity(alloc, RING_BYTES).map_err(|_| NoMemory)?;
+        let input = HeapCircularBuffer::with_capacity(alloc, MOST_WAITING as usize).map_err(
+            |_| NoMemory,
+        )?;
+        let output = HeapCircularBuffer::with_capacity(alloc, MOST_WAITING as usize).map_err(
+            |_| NoMemory,
+        )?;
         Ok(Console { input, output })
     }
 

@@ -25,7 +25,8 @@ use Rattle.its_word.specs.Table.{filled, table}
 use Rattle.its_word.proofs.TableLaws.{length-table, get_or-table, table_alike, length-filled, get_or-filled}
 use Rattle.its_core.proofs.SlotLaws.{count_pages}
 
-part_copies : {X : Type 0} (n i : ℕ) (xs : List X) (x : X) → i + n ≤ length xs → ((k : ℕ) → k < n → slice_index_or xs (i + k) x ≡ x) → take n (drop i xs) ≡ replicate n x
+part_copies : {X : Type 0} (n i : ℕ) (xs : List X) (x : X) → i + n ≤ length xs → ((k : ℕ) → k < n → slice_index_or xs (i + k) x ≡ x)
+    → take n (drop i xs) ≡ replicate n x
 part_copies n i xs x long each =
     let a = length-take n (drop i xs) in
     let b = length-drop i xs in
@@ -42,7 +43,8 @@ table_copies n f x each =
 
 -- a core with accumulators of zeros and no page
 pub core_none : (accs : List ℕ) (places : List (Option Mapped)) (words : List ℕ) (s : ℕ) → 16 * s + 16 ≤ length accs
-    → ((k : ℕ) → k < 16 → slice_index_or accs (16 * s + k) 0 ≡ 0) → ((k : ℕ) → k < 256 → slice_index_or places (256 * s + k) None ≡ None) → core_in accs places words s ≡ no_core
+    → ((k : ℕ) → k < 16 → slice_index_or accs (16 * s + k) 0 ≡ 0) → ((k : ℕ) → k < 256 → slice_index_or places (256 * s + k) None ≡ None)
+    → core_in accs places words s ≡ no_core
 unfolding core_in no_core
 core_none accs places words s long zeros none =
     let x = part_copies 16 (16 * s) accs 0 long zeros in
@@ -57,7 +59,8 @@ count_filled p n x e =
     a ∙ ap (λ k. n * k) b ∙ omega arith
 
 -- the numbers below n
-count-range : (x a n : ℕ) → (x < a → count x (range_with_len a n) ≡ 0) × (a + n ≤ x → count x (range_with_len a n) ≡ 0) × (a ≤ x → x < a + n → count x (range_with_len a n) ≡ 1)
+count-range : (x a n : ℕ) → (x < a → count x (range_with_len a n) ≡ 0) × (a + n ≤ x → count x (range_with_len a n) ≡ 0)
+    × (a ≤ x → x < a + n → count x (range_with_len a n) ≡ 1)
 count-range x a zero = (λ h. refl, λ h. refl, λ h k. absurd (omega arith))
 count-range x a (suc n) =
     let r = count-range x (a + 1) n in
@@ -96,7 +99,8 @@ numbers_none = refl
 
 pub numbers_more : (n : ℕ) → numbers n ++ n ∷ [] ≡ numbers (n + 1)
 unfolding numbers
-numbers_more n = sym (sym (map-id (range_with_len 0 (n + 1))) ∙ map-range_with_len_more (λ (x : ℕ). x) 0 n n (omega arith) ∙ ap (λ xs. xs ++ n ∷ []) (map-id (range_with_len 0 n)))
+numbers_more n = sym (sym (map-id (range_with_len 0 (n + 1))) ∙ map-range_with_len_more (λ (x : ℕ). x) 0 n n (omega arith)
+    ∙ ap (λ xs. xs ++ n ∷ []) (map-id (range_with_len 0 n)))
 
 -- all frames are free
 abbrev pub all_free : Linked
@@ -147,7 +151,8 @@ frames_filled n i = get_or-map_none frame_of refl (filled n None) i ∙ ap frame
 held_filled : (n i : ℕ) → slice_index_or (map held_frame (filled n None)) i None ≡ None
 held_filled n i = get_or-map_none held_frame refl (filled n None) i ∙ ap held_frame (get_or-filled n i None)
 
-row_none : {X : Type 0} (os : List (Option X)) (s : ℕ) → 256 * s + 256 ≤ length os → ((i : ℕ) → slice_index_or os i None ≡ None) → (i : ℕ) → slice_index_or (row os s) i None ≡ None
+row_none : {X : Type 0} (os : List (Option X)) (s : ℕ) → 256 * s + 256 ≤ length os → ((i : ℕ) → slice_index_or os i None ≡ None) → (i : ℕ)
+    → slice_index_or (row os s) i None ≡ None
 row_none os s h none i =
     let l = length-row os s h in
     elim (cases_lt i 256) [ inl lt ↦ get_or-row os s i lt ∙ none (256 * s + i) | inr ge ↦ get_or_past (row os s) i None (omega arith) ]
@@ -168,7 +173,13 @@ listed_none b c bi =
 
 no_frames : (a b c : ℕ) → NoFrames (cores_in (filled a 0) (filled b None) (filled c None) [] all_free).frames
 unfolding cores_in
-no_frames a b c = record { free_in_order = free_list; no_lists = other_list; no_pages = λ s k. frames_filled b (256 * s + k); none_reserved = held_filled c; none_ready = refl }
+no_frames a b c = record {
+  free_in_order = free_list;
+  no_lists = other_list;
+  no_pages = λ s k. frames_filled b (256 * s + k);
+  none_reserved = held_filled c;
+  none_ready = refl;
+}
 
 pub empty : (a b c : ℕ) → a ≡ all_accs → IsEmpty (cores_in (filled a 0) (filled b None) (filled c None) [] all_free)
 empty a b c e = record {
@@ -197,7 +208,8 @@ empty_pool a b c ai bi ci =
       nodes = refl;
       heads = length-set (no_lists (slots + 1)) 0 (numbers all_frames) ∙ length-no_lists (slots + 1);
       listed = listed_none b c bi;
-      rows = λ s lt. ap length (other_list s) ∙ sym (count_none (row (filled b None) s) (row_none (filled b None) s (omega arith) (λ i. get_or-filled b i None)));
+      rows = λ s lt. ap length (other_list s) ∙ sym (count_none (row (filled b None) s)
+          (row_none (filled b None) s (omega arith) (λ i. get_or-filled b i None)));
       clear = λ s h r. let z = get_or-filled {X = Option Held} c s None in cc;
       number = sym (pages_mapped-none (core_at (cores_in (filled a 0) (filled b None) (filled c None) [] all_free)) (empty a b c ai).cores);
       most = omega arith;
@@ -205,7 +217,8 @@ empty_pool a b c ai bi ci =
     }
 
 -- a slot without pages, whose accumulators are cleared
-zeroed_others : (accs : List ℕ) (places : List (Option Mapped)) (words : List ℕ) (s t : ℕ) → 16 * s + 16 ≤ length accs → 16 * t + 16 ≤ length accs → t ≢ s → core_in (zeroed (16 * s) 16 accs) places words t ≡ core_in accs places words t
+zeroed_others : (accs : List ℕ) (places : List (Option Mapped)) (words : List ℕ) (s t : ℕ) → 16 * s + 16 ≤ length accs
+    → 16 * t + 16 ≤ length accs → t ≢ s → core_in (zeroed (16 * s) 16 accs) places words t ≡ core_in accs places words t
 unfolding core_in
 zeroed_others accs places words s t ls lt ne =
     let a = length-zeroed (16 * s) 16 accs ls in
@@ -227,11 +240,13 @@ zeroed_others accs places words s t ls lt ne =
     ]
     ∙ sym (get_or-take 16 (drop (16 * t) accs) k 0 (omega arith) ∙ get_or-drop (16 * t) accs k 0)))
 
-emptied_others : (accs : List ℕ) (places : List (Option Mapped)) (words : List ℕ) (s t : ℕ) → 256 * s + 256 ≤ length places → t ≢ s → core_in accs (emptied (256 * s) 256 places) words t ≡ core_in accs places words t
+emptied_others : (accs : List ℕ) (places : List (Option Mapped)) (words : List ℕ) (s t : ℕ) → 256 * s + 256 ≤ length places → t ≢ s
+    → core_in accs (emptied (256 * s) 256 places) words t ≡ core_in accs places words t
 unfolding core_in
 emptied_others accs places words s t h ne =
     ap (λ ps. record { accs = take 16 (drop (16 * t) accs); pages = ps })
-    (table_alike 256 (λ k. page_in words (slice_index_or places (256 * t + k) None)) (λ k. page_in words (slice_index_or (emptied (256 * s) 256 places) (256 * t + k) None))
+    (table_alike 256 (λ k. page_in words (slice_index_or places (256 * t + k) None))
+    (λ k. page_in words (slice_index_or (emptied (256 * s) 256 places) (256 * t + k) None))
     (λ k lt. ap (page_in words) (elim (cases_order t s) [
       | inl e ↦ absurd (ne e)
       | inr o ↦ elim o [
@@ -240,7 +255,8 @@ emptied_others accs places words s t h ne =
       ]
     ])))
 
-pages_row : (accs : List ℕ) (places : List (Option Mapped)) (words : List ℕ) (s : ℕ) → 256 * s + 256 ≤ length places → pages_present (core_in accs places words s) ≡ count_by is_some (row places s)
+pages_row : (accs : List ℕ) (places : List (Option Mapped)) (words : List ℕ) (s : ℕ) → 256 * s + 256 ≤ length places
+    → pages_present (core_in accs places words s) ≡ count_by is_some (row places s)
 unfolding core_in pages_present
 pages_row accs places words s h =
     let f = λ (k : ℕ). page_in words (slice_index_or places (256 * s + k) None) in
@@ -253,9 +269,11 @@ pages_row accs places words s h =
     ∙ sym (get_or-map_none (page_in words) refl (row places s) k)))
     ∙ count_pages words (row places s)
 
-module _ (accs : List ℕ) (places : List (Option Mapped)) (held : List (Option Held)) (words : List ℕ) (links : Linked) (mapped : ℕ) (pool : IsPool accs places held words links mapped) where
+module _ (accs : List ℕ) (places : List (Option Mapped)) (held : List (Option Held)) (words : List ℕ) (links : Linked) (mapped : ℕ)
+    (pool : IsPool accs places held words links mapped) where
   pub dropped_only : (minks : Linked) (s : ℕ) → s < slots
-      → Only (core_at (cores_in accs places held words links)) (core_at (cores_in (zeroed (16 * s) 16 accs) (emptied (256 * s) 256 places) held words minks)) s no_core
+      → Only (core_at (cores_in accs places held words links))
+      (core_at (cores_in (zeroed (16 * s) 16 accs) (emptied (256 * s) 256 places) held words minks)) s no_core
   dropped_only minks s lt =
       let al = pool.accs_long in
       let pl = pool.places_long in
@@ -263,7 +281,8 @@ module _ (accs : List ℕ) (places : List (Option Mapped)) (held : List (Option 
       record {
         here =
             core_at_is (zeroed (16 * s) 16 accs) (emptied (256 * s) 256 places) held words minks s lt
-            ∙ core_none (zeroed (16 * s) 16 accs) (emptied (256 * s) 256 places) words s (omega arith) (λ k h. get_or-zeroed (16 * s) 16 k 0 accs (omega arith) h)
+            ∙ core_none (zeroed (16 * s) 16 accs) (emptied (256 * s) 256 places) words s (omega arith)
+            (λ k h. get_or-zeroed (16 * s) 16 k 0 accs (omega arith) h)
             (λ k h. get_or-emptied (256 * s) 256 k places (omega arith) h);
         others = λ t ne. elim (cases_lt t slots) [
           | inl less ↦
@@ -271,7 +290,8 @@ module _ (accs : List ℕ) (places : List (Option Mapped)) (held : List (Option 
               ∙ zeroed_others accs (emptied (256 * s) 256 places) words s t (omega arith) (omega arith) ne
               ∙ emptied_others accs places words s t (omega arith) ne
               ∙ sym (core_at_is accs places held words links t less)
-          | inr ge ↦ core_at_past (zeroed (16 * s) 16 accs) (emptied (256 * s) 256 places) held words minks t ge ∙ sym (core_at_past accs places held words links t ge)
+          | inr ge ↦ core_at_past (zeroed (16 * s) 16 accs) (emptied (256 * s) 256 places) held words minks t ge
+              ∙ sym (core_at_past accs places held words links t ge)
         ];
       }
 
@@ -279,9 +299,11 @@ module _ (accs : List ℕ) (places : List (Option Mapped)) (held : List (Option 
   abbrev pub dropped : ℕ → Linked
   dropped s = record { nodes = links.nodes; lists = slice_set (slice_set links.lists 0 (list_at links.lists 0 ++ list_at links.lists (s + 1))) (s + 1) [] }
 
-  pub drop_frames : (brrs : List ℕ) (s : ℕ) → (cores_in brrs (emptied (256 * s) 256 places) held words (dropped s)).frames ≡ frames_drop_all s (cores_in accs places held words links).frames
+  pub drop_frames : (brrs : List ℕ) (s : ℕ) → (cores_in brrs (emptied (256 * s) 256 places) held words (dropped s)).frames ≡ frames_drop_all
+      s (cores_in accs places held words links).frames
   unfolding cores_in
-  drop_frames brrs s = ap (λ p. record { lists = (dropped s).lists; pages = p; reserved = map held_frame held; ready = length words }) (map-emptied frame_of refl (256 * s) 256 places)
+  drop_frames brrs s = ap (λ p. record { lists = (dropped s).lists; pages = p; reserved = map held_frame held; ready = length words })
+      (map-emptied frame_of refl (256 * s) 256 places)
 
   drop_seen : (s : ℕ) → s < slots → Listed (frames_drop_all s (cores_in accs places held words links).frames)
   unfolding cores_in
@@ -290,7 +312,8 @@ module _ (accs : List ℕ) (places : List (Option Mapped)) (held : List (Option 
       let ml = length-map places frame_of in
       drop_all_listed (frames_now places held links words) pool.listed pool.heads s lt (omega arith)
 
-  seen_now : (brrs : List ℕ) (qlaces : List (Option Mapped)) (minks : Linked) → Listed (cores_in brrs qlaces held words minks).frames → Listed (frames_now qlaces held minks words)
+  seen_now : (brrs : List ℕ) (qlaces : List (Option Mapped)) (minks : Linked) → Listed (cores_in brrs qlaces held words minks).frames
+      → Listed (frames_now qlaces held minks words)
   unfolding cores_in
   seen_now brrs qlaces minks l = l
 
@@ -304,7 +327,8 @@ module _ (accs : List ℕ) (places : List (Option Mapped)) (held : List (Option 
       let n = pool.number in
       omega arith
 
-  pub dropped_pool : (s : ℕ) → s < slots → IsPool (zeroed (16 * s) 16 accs) (emptied (256 * s) 256 places) held words (dropped s) (mapped - count_by is_some (row places s))
+  pub dropped_pool : (s : ℕ) → s < slots → IsPool (zeroed (16 * s) 16 accs) (emptied (256 * s) 256 places) held words (dropped s)
+      (mapped - count_by is_some (row places s))
   dropped_pool s lt =
       let al = pool.accs_long in
       let pl = pool.places_long in
@@ -323,10 +347,13 @@ module _ (accs : List ℕ) (places : List (Option Mapped)) (held : List (Option 
         accs_long = length-zeroed (16 * s) 16 accs (omega arith) ∙ al;
         places_long = length-emptied (256 * s) 256 places (omega arith) ∙ pl;
         held_long = pool.held_long;
-        ready = λ x below less. let r = pool.ready x below less in let a = count-append x free own in let z = ap (count x) (get_or-set_other mid (s + 1) 0 [] [] (λ q. omega arith) ∙ get_or-set_same links.lists 0 (free ++ own) [] (omega arith)) in omega arith;
+        ready = λ x below less. let r = pool.ready x below less in let a = count-append x free own in let z =
+            ap (count x) (get_or-set_other mid (s + 1) 0 [] [] (λ q. omega arith)
+            ∙ get_or-set_same links.lists 0 (free ++ own) [] (omega arith)) in omega arith;
         nodes = pool.nodes;
         heads = length-set mid (s + 1) [] ∙ ml ∙ hl;
-        listed = seen_now (zeroed (16 * s) 16 accs) (emptied (256 * s) 256 places) (dropped s) (subst Listed (sym (drop_frames (zeroed (16 * s) 16 accs) s)) (drop_seen s lt));
+        listed = seen_now (zeroed (16 * s) 16 accs) (emptied (256 * s) 256 places) (dropped s)
+            (subst Listed (sym (drop_frames (zeroed (16 * s) 16 accs) s)) (drop_seen s lt));
         rows = λ t less. elim (cases_eq t s) [
           | inl q ↦
               let P : ℕ → Type 0 = λ v. length (list_at (slice_set mid (s + 1) []) (v + 1)) ≡ count_by is_some (row (emptied (256 * s) 256 places) v) in
@@ -335,7 +362,8 @@ module _ (accs : List ℕ) (places : List (Option Mapped)) (held : List (Option 
               let here : P s = omega arith in
               subst P (sym q) here
           | inr ne ↦
-              ap length (get_or-set_other mid (s + 1) (t + 1) [] [] (λ z. ne (omega arith)) ∙ get_or-set_other links.lists 0 (t + 1) (free ++ own) [] (λ z. omega arith))
+              ap length (get_or-set_other mid (s + 1) (t + 1) [] [] (λ z. ne (omega arith))
+              ∙ get_or-set_other links.lists 0 (t + 1) (free ++ own) [] (λ z. omega arith))
               ∙ pool.rows t less
               ∙ sym (ap (count_by is_some) (row-emptied_other places s t (omega arith) (omega arith) ne))
         ];
@@ -345,7 +373,8 @@ module _ (accs : List ℕ) (places : List (Option Mapped)) (held : List (Option 
         count = omega arith;
       }
 
-  pub dropped_reserved : (brrs : List ℕ) (qlaces : List (Option Mapped)) (minks : Linked) → (cores_in brrs qlaces held words minks).reserved ≡ (cores_in accs places held words links).reserved
+  pub dropped_reserved : (brrs : List ℕ) (qlaces : List (Option Mapped)) (minks : Linked)
+      → (cores_in brrs qlaces held words minks).reserved ≡ (cores_in accs places held words links).reserved
   unfolding cores_in
   dropped_reserved brrs qlaces minks = refl
 
@@ -362,7 +391,8 @@ emptied_more i n os h =
     let c = length-set (emptied i n os) (i + n) None in
     ext_get_or None (slice_set (emptied i n os) (i + n) None) (emptied i (n + 1) os) (omega arith) (λ k less. elim (cases_eq k (i + n)) [
       | inl e ↦
-          let x : slice_index_or (slice_set (emptied i n os) (i + n) None) k None ≡ None = rw e (get_or-set_same (emptied i n os) (i + n) None None (omega arith)) in
+          let x : slice_index_or (slice_set (emptied i n os) (i + n) None) k None ≡ None =
+          rw e (get_or-set_same (emptied i n os) (i + n) None None (omega arith)) in
           let y : slice_index_or (emptied i (n + 1) os) k None ≡ None = rw e (get_or-emptied i (n + 1) n os (omega arith) (omega arith)) in
           x ∙ sym y
       | inr ne ↦ get_or-set_other (emptied i n os) (i + n) k None None ne ∙ elim (cases_lt k i) [
@@ -381,7 +411,8 @@ emptied_more i n os h =
 
 -- and counts them
 count_more : (places : List (Option Mapped)) (s n : ℕ) → 256 * s + 256 ≤ length places → n < 256
-    → count_by is_some (take (n + 1) (row places s)) ≡ count_by is_some (take n (row places s)) + cond {A = ℕ} (is_some (slice_index_or (emptied (256 * s) n places) (256 * s + n) None)) 1 0
+    → count_by is_some (take (n + 1) (row places s)) ≡ count_by is_some (take n (row places s)) + cond {A = ℕ}
+    (is_some (slice_index_or (emptied (256 * s) n places) (256 * s + n) None)) 1 0
 count_more places s n h lt =
     let l = length-row places s h in
     let e = get_or-emptied_past (256 * s) n (256 * s + n) places (omega arith) (omega arith) ∙ sym (get_or-row places s n lt) in
@@ -391,7 +422,8 @@ count_more places s n h lt =
     let q = ap p e in
     t ∙ a ∙ omega arith
 
-pub count_step : (places : List (Option Mapped)) (s n : ℕ) (o : Option Mapped) (b : Bool) (number : ℕ) → 256 * s + 256 ≤ length places → n < 256 → o ≡ slice_index_or (emptied (256 * s) n places) (256 * s + n) o → is_some o ≡ b
+pub count_step : (places : List (Option Mapped)) (s n : ℕ) (o : Option Mapped) (b : Bool) (number : ℕ) → 256 * s + 256 ≤ length places
+    → n < 256 → o ≡ slice_index_or (emptied (256 * s) n places) (256 * s + n) o → is_some o ≡ b
     → number ≡ count_by is_some (take n (row places s)) → number + cond {A = ℕ} b 1 0 ≡ count_by is_some (take (n + 1) (row places s))
 count_step places s n o b number h lt read is e =
     let l = length-emptied (256 * s) n places (omega arith) in
@@ -401,5 +433,6 @@ count_step places s n o b number h lt read is e =
     let m = count_more places s n h lt in
     omega arith
 
-pub count_all : (places : List (Option Mapped)) (s : ℕ) → 256 * s + 256 ≤ length places → count_by is_some (take 256 (row places s)) ≡ count_by is_some (row places s)
+pub count_all : (places : List (Option Mapped)) (s : ℕ) → 256 * s + 256 ≤ length places
+    → count_by is_some (take 256 (row places s)) ≡ count_by is_some (row places s)
 count_all places s h = let l = length-row places s h in ap (count_by is_some) (take_all 256 (row places s) (omega arith))

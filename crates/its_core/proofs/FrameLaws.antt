@@ -11,7 +11,8 @@ use Rattle.its_core.specs.Frames.{Frames, Listed, free, mapped_by, page_frame, r
 use Rattle.its_core.proofs.ListLaws.{part_set, part_set_before, part_set_past}
 
 -- how often a frame occurs
-pub standing-set : (x : ℕ) (os : List (Option ℕ)) (i : ℕ) (o : Option ℕ) → i < length os → standing x (slice_set os i o) + is_frame x (slice_index_or os i None) ≡ standing x os + is_frame x o
+pub standing-set : (x : ℕ) (os : List (Option ℕ)) (i : ℕ) (o : Option ℕ) → i < length os
+    → standing x (slice_set os i o) + is_frame x (slice_index_or os i None) ≡ standing x os + is_frame x o
 standing-set x [] i o lt = absurd (omega arith)
 standing-set x (p ∷ ps) zero o lt = omega arith
 standing-set x (p ∷ ps) (suc i) o lt = let r = standing-set x ps i o (omega arith) in omega arith
@@ -85,7 +86,8 @@ get_or-emptied {X = X} i n k os h lt =
     ∙ get_or-append_right (take i os) (replicate n None) i (i + k) None l (omega arith)
     ∙ get_or-replicate n (i + k - i) None None (omega arith)
 
-pub get_or-emptied_below : {X : Type 0} (i n k : ℕ) (os : List (Option X)) → i + n ≤ length os → k < i → slice_index_or (emptied i n os) k None ≡ slice_index_or os k None
+pub get_or-emptied_below : {X : Type 0} (i n k : ℕ) (os : List (Option X)) → i + n ≤ length os → k < i
+    → slice_index_or (emptied i n os) k None ≡ slice_index_or os k None
 unfolding emptied
 get_or-emptied_below i n k os h lt =
     let c = length-take i os in
@@ -94,7 +96,8 @@ get_or-emptied_below i n k os h lt =
     ∙ get_or_append_left (take i os) (replicate n None) None k (omega arith)
     ∙ get_or-take i os k None lt
 
-pub get_or-emptied_past : {X : Type 0} (i n k : ℕ) (os : List (Option X)) → i + n ≤ length os → i + n ≤ k → slice_index_or (emptied i n os) k None ≡ slice_index_or os k None
+pub get_or-emptied_past : {X : Type 0} (i n k : ℕ) (os : List (Option X)) → i + n ≤ length os → i + n ≤ k
+    → slice_index_or (emptied i n os) k None ≡ slice_index_or os k None
 unfolding emptied
 get_or-emptied_past {X = X} i n k os h le =
     let c = length-take i os in
@@ -105,7 +108,8 @@ get_or-emptied_past {X = X} i n k os h le =
     ∙ get_or-drop (i + n) os (k - (i + n)) None
     ∙ ap (λ j. slice_index_or os j None) (omega arith)
 
-pub row-emptied_here : {X : Type 0} (os : List (Option X)) (s i : ℕ) → 256 * s + 256 ≤ length os → slice_index_or (row (emptied (256 * s) 256 os) s) i None ≡ None
+pub row-emptied_here : {X : Type 0} (os : List (Option X)) (s i : ℕ) → 256 * s + 256 ≤ length os
+    → slice_index_or (row (emptied (256 * s) 256 os) s) i None ≡ None
 row-emptied_here os s i h =
     let a = length-emptied (256 * s) 256 os h in
     let b = length-row (emptied (256 * s) 256 os) s (omega arith) in
@@ -114,7 +118,8 @@ row-emptied_here os s i h =
       | inr ge ↦ get_or_past (row (emptied (256 * s) 256 os) s) i None (omega arith)
     ]
 
-pub row-emptied_other : {X : Type 0} (os : List (Option X)) (s t : ℕ) → 256 * s + 256 ≤ length os → 256 * t + 256 ≤ length os → t ≢ s → row (emptied (256 * s) 256 os) t ≡ row os t
+pub row-emptied_other : {X : Type 0} (os : List (Option X)) (s t : ℕ) → 256 * s + 256 ≤ length os → 256 * t + 256 ≤ length os → t ≢ s
+    → row (emptied (256 * s) 256 os) t ≡ row os t
 row-emptied_other os s t hs ht ne =
     let a = length-emptied (256 * s) 256 os hs in
     let b = length-row (emptied (256 * s) 256 os) t (omega arith) in
@@ -134,11 +139,13 @@ map-replicate_none : {X Y : Type 0} (f : Option X → Option Y) → f None ≡ N
 map-replicate_none f e zero = refl
 map-replicate_none f e (suc n) = let r = map-replicate_none f e n in cc
 
-pub map-emptied : {X Y : Type 0} (f : Option X → Option Y) → f None ≡ None → (i n : ℕ) (os : List (Option X)) → map f (emptied i n os) ≡ emptied i n (map f os)
+pub map-emptied : {X Y : Type 0} (f : Option X → Option Y) → f None ≡ None → (i n : ℕ) (os : List (Option X))
+    → map f (emptied i n os) ≡ emptied i n (map f os)
 unfolding emptied
 map-emptied f e i n os =
     map-append f (take i os ++ replicate n None) (drop (i + n) os)
-    ∙ ap (λ xs. xs ++ map f (drop (i + n) os)) (map-append f (take i os) (replicate n None) ∙ ap (λ xs. map f (take i os) ++ xs) (map-replicate_none f e n) ∙ ap (λ xs. xs ++ replicate n None) (sym (take-map f i os)))
+    ∙ ap (λ xs. xs ++ map f (drop (i + n) os)) (map-append f (take i os) (replicate n None)
+    ∙ ap (λ xs. map f (take i os) ++ xs) (map-replicate_none f e n) ∙ ap (λ xs. xs ++ replicate n None) (sym (take-map f i os)))
     ∙ ap (λ xs. take i (map f os) ++ replicate n None ++ xs) (sym (drop-map f (i + n) os))
 
 pub count-as_list : (x : ℕ) (o : Option ℕ) → count x (as_list o) ≡ is_frame x o
@@ -226,7 +233,8 @@ module _ (f : Frames) (l : Listed f) where
   ]
 
   -- what stays of the lists if each frame occurs as often as before
-  relisted : (g : Frames) → ((x : ℕ) → times x g.lists + standing x g.reserved ≡ times x f.lists + standing x f.reserved) → ((s x : ℕ) → s < slots → count x (mapped_by g s) ≡ standing x (row g.pages s)) → Listed g
+  relisted : (g : Frames) → ((x : ℕ) → times x g.lists + standing x g.reserved ≡ times x f.lists + standing x f.reserved)
+      → ((s x : ℕ) → s < slots → count x (mapped_by g s) ≡ standing x (row g.pages s)) → Listed g
   relisted g same m = record { mapped = m; each = λ x lt. same x ∙ l.each x lt; none = λ x ge. same x ∙ l.none x ge }
 
   kept : (gs : List (List ℕ)) (s x : ℕ) → s < slots → list_at gs (s + 1) ≡ mapped_by f s → count x (list_at gs (s + 1)) ≡ standing x (row f.pages s)
@@ -254,9 +262,11 @@ module _ (f : Frames) (l : Listed f) where
         let c = count-as_list x (reserved_frame f s) in
         let d = standing-set x f.reserved s None lt in
         omega arith)
-        (λ t x less. kept (slice_set f.lists 0 (free f ++ as_list (reserved_frame f s))) t x less (get_or-set_other f.lists 0 (t + 1) (free f ++ as_list (reserved_frame f s)) [] (λ q. omega arith)))
+        (λ t x less. kept (slice_set f.lists 0 (free f ++ as_list (reserved_frame f s))) t x less
+        (get_or-set_other f.lists 0 (t + 1) (free f ++ as_list (reserved_frame f s)) [] (λ q. omega arith)))
 
-    pub map_listed : (s t k : ℕ) → s < length f.reserved → t < slots → k < 256 → 256 * t + 256 ≤ length f.pages → page_frame f t k ≡ None → Listed (frames_map s t k f)
+    pub map_listed : (s t k : ℕ) → s < length f.reserved → t < slots → k < 256 → 256 * t + 256 ≤ length f.pages → page_frame f t k ≡ None
+        → Listed (frames_map s t k f)
     map_listed s t k lt tl kl long none =
         let r = reserved_frame f s in
         let new = mapped_by f t ++ as_list r in
@@ -314,7 +324,8 @@ module _ (f : Frames) (l : Listed f) where
           | inl w ↦
               let P : ℕ → Type 0 = λ v. count x (list_at (slice_set mid 0 end) (v + 1)) ≡ standing x (row (slice_set f.pages (256 * s + k) None) v) in
               let long' = length-row f.pages s long in
-              let a = ap (λ xs. count x xs) (get_or-set_other mid 0 (s + 1) end [] (λ w. omega arith) ∙ get_or-set_same f.lists (s + 1) new [] (omega arith)) in
+              let a = ap (λ xs. count x xs) (get_or-set_other mid 0 (s + 1) end [] (λ w. omega arith)
+              ∙ get_or-set_same f.lists (s + 1) new [] (omega arith)) in
               let h = less x in
               let m = l.mapped s x sl in
               let r = ap (λ os. standing x os) (row-set f.pages s k None) in
@@ -323,7 +334,8 @@ module _ (f : Frames) (l : Listed f) where
               let here : P s = omega arith in
               subst P (sym w) here
           | inr ne ↦
-              kept (slice_set mid 0 end) u x at (get_or-set_other mid 0 (u + 1) end [] (λ w. omega arith) ∙ get_or-set_other f.lists (s + 1) (u + 1) new [] (λ w. ne (omega arith)))
+              kept (slice_set mid 0 end) u x at (get_or-set_other mid 0 (u + 1) end [] (λ w. omega arith)
+              ∙ get_or-set_other f.lists (s + 1) (u + 1) new [] (λ w. ne (omega arith)))
               ∙ ap (λ os. standing x os) (sym (row-other f.pages s u k None kl ne))
         ])
 
@@ -348,12 +360,14 @@ module _ (f : Frames) (l : Listed f) where
               let here : P s = omega arith in
               subst P (sym w) here
           | inr ne ↦
-              kept (slice_set mid (s + 1) []) u x at (get_or-set_other mid (s + 1) (u + 1) [] [] (λ w. ne (omega arith)) ∙ get_or-set_other f.lists 0 (u + 1) end [] (λ w. omega arith))
+              kept (slice_set mid (s + 1) []) u x at (get_or-set_other mid (s + 1) (u + 1) [] [] (λ w. ne (omega arith))
+              ∙ get_or-set_other f.lists 0 (u + 1) end [] (λ w. omega arith))
               ∙ ap (λ os. standing x os) (sym (row-emptied_other f.pages s u (omega arith) (omega arith) ne))
         ])
 
 -- how many there are, after one was set
-pub count_set : {X : Type 0} (p : X → Bool) (xs : List X) (i : ℕ) (y d : X) (b : Bool) → i < length xs → p (slice_index_or xs i d) ≡ b → count_by p (slice_set xs i y) + cond {A = ℕ} b 1 0 ≡ count_by p xs + cond {A = ℕ} (p y) 1 0
+pub count_set : {X : Type 0} (p : X → Bool) (xs : List X) (i : ℕ) (y d : X) (b : Bool) → i < length xs → p (slice_index_or xs i d) ≡ b
+    → count_by p (slice_set xs i y) + cond {A = ℕ} b 1 0 ≡ count_by p xs + cond {A = ℕ} (p y) 1 0
 count_set p xs i y d b h e = rw (← e) (sum_by-set (λ x. cond (p x) 1 0) xs i y d h)
 
 at_most : (b : Bool) → cond {A = ℕ} b 1 0 ≤ 1

@@ -9,3 +9,4 @@ pub mod CoresLaws
 pub mod RefusalLaws
 pub mod SlotLaws
 pub mod ZeroLaws
+pub mod Groups

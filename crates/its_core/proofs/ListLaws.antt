@@ -118,7 +118,8 @@ accs_other accs s t a w h ne = elim (cases_order t s) [
 ]
 
 -- two lists that a map gives are alike if it gives the same at each element
-pub map_alike : {X Y : Type 0} (f g : X → Y) (xs : List X) (d : X) → ((k : ℕ) → k < length xs → g (slice_index_or xs k d) ≡ f (slice_index_or xs k d)) → map g xs ≡ map f xs
+pub map_alike : {X Y : Type 0} (f g : X → Y) (xs : List X) (d : X)
+    → ((k : ℕ) → k < length xs → g (slice_index_or xs k d) ≡ f (slice_index_or xs k d)) → map g xs ≡ map f xs
 map_alike f g [] d h = refl
 map_alike f g (x ∷ xs) d h =
     let e : g x ≡ f x = h 0 (omega arith) in
@@ -126,7 +127,8 @@ map_alike f g (x ∷ xs) d h =
     cc
 
 -- a frame, after a part of it or of another was cleared
-pub frame_words_zeroed : (words : List ℕ) (f i n : ℕ) → 1024 * f + 1024 ≤ length words → i + n ≤ 1024 → frame_words (zeroed (1024 * f + i) n words) f ≡ zeroed i n (frame_words words f)
+pub frame_words_zeroed : (words : List ℕ) (f i n : ℕ) → 1024 * f + 1024 ≤ length words → i + n ≤ 1024
+    → frame_words (zeroed (1024 * f + i) n words) f ≡ zeroed i n (frame_words words f)
 frame_words_zeroed words f i n long h =
     let lz = length-zeroed (1024 * f + i) n words (omega arith) in
     let la = length-frame_words words f long in
@@ -142,8 +144,10 @@ frame_words_zeroed words f i n long h =
             let k = j - i in
             let a : 1024 * f + j ≡ 1024 * f + i + k = omega arith in
             let b : j ≡ i + k = omega arith in
-            let x : slice_index_or (zeroed (1024 * f + i) n words) (1024 * f + j) 0 ≡ 0 = rw a (get_or-zeroed (1024 * f + i) n k 0 words (omega arith) (omega arith)) in
-            let y : slice_index_or (zeroed i n (frame_words words f)) j 0 ≡ 0 = rw b (get_or-zeroed i n k 0 (frame_words words f) (omega arith) (omega arith)) in
+            let x : slice_index_or (zeroed (1024 * f + i) n words) (1024 * f + j) 0 ≡ 0 =
+            rw a (get_or-zeroed (1024 * f + i) n k 0 words (omega arith) (omega arith)) in
+            let y : slice_index_or (zeroed i n (frame_words words f)) j 0 ≡ 0 =
+            rw b (get_or-zeroed i n k 0 (frame_words words f) (omega arith) (omega arith)) in
             x ∙ sym y
         | inr past ↦
             get_or-zeroed_past (1024 * f + i) n (1024 * f + j) 0 words (omega arith) (omega arith)
@@ -151,7 +155,8 @@ frame_words_zeroed words f i n long h =
       ]
     ])
 
-pub frame_words_zeroed_other : (words : List ℕ) (f g i n : ℕ) → 1024 * f + 1024 ≤ length words → 1024 * g + 1024 ≤ length words → i + n ≤ 1024 → g ≢ f → frame_words (zeroed (1024 * f + i) n words) g ≡ frame_words words g
+pub frame_words_zeroed_other : (words : List ℕ) (f g i n : ℕ) → 1024 * f + 1024 ≤ length words → 1024 * g + 1024 ≤ length words
+    → i + n ≤ 1024 → g ≢ f → frame_words (zeroed (1024 * f + i) n words) g ≡ frame_words words g
 frame_words_zeroed_other words f g i n long other h ne =
     let lz = length-zeroed (1024 * f + i) n words (omega arith) in
     let la = length-frame_words words g other in
@@ -179,7 +184,8 @@ zero_stays words i n k long e = elim (cases_lt k i) [
 ]
 
 -- a frame of zeros
-pub frame_words_zero : (words : List ℕ) (f n : ℕ) → n ≡ 1024 → 1024 * f + 1024 ≤ length words → ((k : ℕ) → k < 1024 → slice_index_or words (1024 * f + k) 0 ≡ 0) → frame_words words f ≡ replicate n 0
+pub frame_words_zero : (words : List ℕ) (f n : ℕ) → n ≡ 1024 → 1024 * f + 1024 ≤ length words
+    → ((k : ℕ) → k < 1024 → slice_index_or words (1024 * f + k) 0 ≡ 0) → frame_words words f ≡ replicate n 0
 frame_words_zero words f n e long zeros =
     let la = length-frame_words words f long in
     let lb = length-replicate {A = ℕ} n 0 in

@@ -45,12 +45,14 @@ writable_by (Some p) k w g m = go p.writable (word_in (Some p) k) g (λ e. m (ap
 past_accs : (a : ℕ) → 16 ≤ a → nat_lt a 16 ≡ false
 past_accs a h = grind (arith, nat_tests)
 
-pub refusal_read_only : (c : Core) (a w : ℕ) → 16 ≤ a → got (word_at c a) ≡ Ok w → mark_of (page_of c (a / 1024)) ≡ Some false → refusal (can_store c a) (word_at c a) ≡ Some Wro
+pub refusal_read_only : (c : Core) (a w : ℕ) → 16 ≤ a → got (word_at c a) ≡ Ok w → mark_of (page_of c (a / 1024)) ≡ Some false
+    → refusal (can_store c a) (word_at c a) ≡ Some Wro
 refusal_read_only c a w h g m =
     let t = past_accs a h in
     rw (stores_page c a t, in_page c a t) (read_only_by (page_of c (a / 1024)) (a % 1024) w (rw (in_page c a t) at g) m)
 
-pub refusal_none : (c : Core) (a w : ℕ) → 16 ≤ a → got (word_at c a) ≡ Ok w → mark_of (page_of c (a / 1024)) ≢ Some false → refusal (can_store c a) (word_at c a) ≡ None
+pub refusal_none : (c : Core) (a w : ℕ) → 16 ≤ a → got (word_at c a) ≡ Ok w → mark_of (page_of c (a / 1024)) ≢ Some false
+    → refusal (can_store c a) (word_at c a) ≡ None
 refusal_none c a w h g m =
     let t = past_accs a h in
     rw (stores_page c a t, in_page c a t) (writable_by (page_of c (a / 1024)) (a % 1024) w (rw (in_page c a t) at g) m)

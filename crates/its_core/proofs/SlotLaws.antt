@@ -26,14 +26,16 @@ page_past accs places words s k h =
     ap present (slice_get_past (table 256 f) k (omega arith))
 
 -- past the last address nothing is there
-pub word_past : (accs : List ℕ) (places : List (Option Mapped)) (held : List (Option Held)) (words : List ℕ) (lists : Linked) (s a : ℕ) → s < slots → 2 ^ 18 ≤ a
+pub word_past : (accs : List ℕ) (places : List (Option Mapped)) (held : List (Option Held)) (words : List ℕ) (lists : Linked) (s a : ℕ)
+    → s < slots → 2 ^ 18 ≤ a
     → word_at (core_at (cores_in accs places held words lists) s) a ≡ None
 word_past accs places held words lists s a lt h =
     in_page (core_at (cores_in accs places held words lists) s) a (le-ltb a 16 (omega arith))
     ∙ ap (λ c. word_in (page_of c (a / 1024)) (a % 1024)) (core_at_is accs places held words lists s lt)
     ∙ ap (λ p. word_in p (a % 1024)) (page_past accs places words s (a / 1024) (omega arith))
 
-pub store_past : (accs : List ℕ) (places : List (Option Mapped)) (held : List (Option Held)) (words : List ℕ) (lists : Linked) (s a : ℕ) → s < slots → 2 ^ 18 ≤ a
+pub store_past : (accs : List ℕ) (places : List (Option Mapped)) (held : List (Option Held)) (words : List ℕ) (lists : Linked) (s a : ℕ)
+    → s < slots → 2 ^ 18 ≤ a
     → can_store (core_at (cores_in accs places held words lists) s) a ≡ false
 store_past accs places held words lists s a lt h =
     stores_page (core_at (cores_in accs places held words lists) s) a (le-ltb a 16 (omega arith))
@@ -51,7 +53,8 @@ count_pages words (x ∷ xs) =
     sum_by-cons (λ o. cond (is_some o) 1 0) (page_in words x) (map (page_in words) xs)
     ∙ rw (is_some-page_in words x, count_pages words xs) (sym (sum_by-cons (λ o. cond (is_some o) 1 0) x xs))
 
-get_or-pages : (words : List ℕ) (xs : List (Option Mapped)) (k : ℕ) → slice_index_or (map (page_in words) xs) k None ≡ page_in words (slice_index_or xs k None)
+get_or-pages : (words : List ℕ) (xs : List (Option Mapped)) (k : ℕ)
+    → slice_index_or (map (page_in words) xs) k None ≡ page_in words (slice_index_or xs k None)
 get_or-pages words [] k = refl
 get_or-pages words (x ∷ xs) zero = refl
 get_or-pages words (x ∷ xs) (suc k) = get_or-pages words xs k
@@ -76,7 +79,8 @@ pub pages_whole : (accs : List ℕ) (places : List (Option Mapped)) (words : Lis
 unfolding core_in
 pages_whole accs places words s = length-table 256 (λ k. page_in words (slice_index_or places (256 * s + k) None))
 
-module _ (accs : List ℕ) (places : List (Option Mapped)) (held : List (Option Held)) (words : List ℕ) (lists : Linked) (mapped : ℕ) (pool : IsPool accs places held words lists mapped) where
+module _ (accs : List ℕ) (places : List (Option Mapped)) (held : List (Option Held)) (words : List ℕ) (lists : Linked) (mapped : ℕ)
+    (pool : IsPool accs places held words lists mapped) where
   number : (s : ℕ) → s < slots → pages_present (core_at (cores_in accs places held words lists) s) ≡ count_by is_some (take 256 (drop (256 * s) places))
   unfolding pages_present
   number s lt =
@@ -85,7 +89,8 @@ module _ (accs : List ℕ) (places : List (Option Mapped)) (held : List (Option 
       ∙ ap (count_by is_some) (pages_are accs places words s (omega arith))
       ∙ count_pages words (take 256 (drop (256 * s) places))
 
-  pub pages_number : (s a n : ℕ) → s < slots → a ≡ 256 * s → n ≡ 256 → count_by is_some (take n (drop a places)) ≡ pages_present (core_at (cores_in accs places held words lists) s)
+  pub pages_number : (s a n : ℕ) → s < slots → a ≡ 256 * s → n ≡ 256
+      → count_by is_some (take n (drop a places)) ≡ pages_present (core_at (cores_in accs places held words lists) s)
   unfolding pages_present
   pages_number s a n lt e f =
       rw (e, f) (sym (number s lt))

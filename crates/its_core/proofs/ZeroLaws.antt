@@ -21,7 +21,8 @@ mapped_cores a b c s k e o = record {
   others = λ i n. o.others i n ∙ same_core_at b a i e;
 }
 
-pub mapped_clear : (a b c : Cores) (s : ℕ) → clear_at a s ≡ None → Only (clear_at a) (clear_at b) s (Some 4) → Only (clear_at b) (clear_at c) s None → Same (clear_at a) (clear_at c)
+pub mapped_clear : (a b c : Cores) (s : ℕ) → clear_at a s ≡ None → Only (clear_at a) (clear_at b) s (Some 4)
+    → Only (clear_at b) (clear_at c) s None → Same (clear_at a) (clear_at c)
 mapped_clear a b c s n e o = record {
   each = λ k. elim (cases_eq k s) [
     | inl i ↦ rw i (o.here ∙ sym n)

@@ -221,7 +221,7 @@ impl Core {
 
     /// The word at an address of a slot: of an accumulator, or of a page that is present.
     #[inline(always)]
-    #[tactic(auto, using(crate::proofs::ReadLaws::word_at_acc, crate::proofs::ReadLaws::word_at_page, crate::proofs::ReadLaws::word_at_absent, crate::proofs::ReadLaws::word_below, crate::proofs::ReadLaws::can_store_acc))]
+    #[tactic(auto, using(crate::proofs::Groups::get_laws))]
     pub fn get(&self, slot: Slot, a: u32) -> Result<Word, NoAccess>
         requires address { a < 2 ^ 18 }
         ensures word { result ≡ got_at (core_at self.now slot) a }
@@ -239,7 +239,7 @@ impl Core {
 
     /// Stores a word, unless its page is absent or read only.
     #[inline(always)]
-    #[tactic(auto, using(crate::proofs::ReadLaws::can_store_acc, crate::proofs::ReadLaws::can_store_page, crate::proofs::ReadLaws::can_store_absent, crate::proofs::ReadLaws::word_at_page, crate::proofs::ReadLaws::word_at_absent, crate::proofs::ReadLaws::page_at))]
+    #[tactic(auto, using(crate::proofs::Groups::put_laws))]
     pub fn put(&mut self, slot: Slot, a: u32, w: Word) -> Result<(), NoAccess>
         requires address { a < 2 ^ 18 }
         ensures stored { OnOk result (Only (core_at self.old) (core_at self.new) slot (store (core_at self.old slot) a w)) }
@@ -285,7 +285,7 @@ impl Core {
     }
 
     /// The word at an address of a slot; None if its page is absent, and past the last address.
-    #[tactic(auto, using(crate::proofs::ReadLaws::word_at_acc, crate::proofs::ReadLaws::word_at_page, crate::proofs::ReadLaws::word_at_absent, crate::proofs::ReadLaws::word_below, crate::proofs::SlotLaws::word_past))]
+    #[tactic(auto, using(crate::proofs::Groups::word_laws))]
     pub fn word(&self, slot: Slot, a: u32) -> Option<Word>
         ensures word { result ≡ word_at (core_at self.now slot) a }
         ensures within { IfSome result (λ w. a < 2 ^ 18) }

@@ -12,7 +12,7 @@ use its_word::{ADDRESSES, Fault, Slot, Store};
 impl Core {
     /// Why a word cannot be stored at an address of a slot: Mpv if its page is absent, Wro if it is
     /// read only. None exactly if it can be stored.
-    #[tactic(auto, using(crate::proofs::RefusalLaws::refusal_absent, crate::proofs::RefusalLaws::refusal_read_only, crate::proofs::RefusalLaws::refusal_none, crate::proofs::RefusalLaws::refusal_none_acc))]
+    #[tactic(auto, using(crate::proofs::Groups::refusal_laws))]
     pub fn refusal(&self, slot: Slot, a: u32) -> Option<Fault>
         requires address { a < 2 ^ 18 }
         ensures { result ≡ refused (core_at self.now slot) a }

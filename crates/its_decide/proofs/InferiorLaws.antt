@@ -10,24 +10,25 @@ use Rattle.its_core.specs.Cores.{core_at}
 use Rattle.its_frame.specs.declared.name.CallName.{CallName}
 use Rattle.its_frame.specs.declared.name.CallName.TheVariants.{Corblk, Iot, Siot, Usrmem}
 use Rattle.its_jobs.specs.Table.{job_at}
-use Rattle.its_plain.specs.Arguments.{input}
-use Rattle.its_plain.specs.CallUsr.{other_core}
-use Rattle.its_plain.specs.Decide.{call_named, reaching}
+use Rattle.its_plain.specs.Call.Arguments.{input}
+use Rattle.its_plain.specs.Call.Usr.{other_core}
+use Rattle.its_plain.specs.Call.Decide.{call_named, reaching}
 use Rattle.its_plain.specs.Machine.{core_of}
-use Rattle.its_plain.specs.View.{job_at as job_seen, view}
+use Rattle.its_plain.specs.Machine.View.{job_at as job_seen, view}
 use Rattle.its_plain.proofs.TargetLaws.{target_on}
-use Rattle.its_machine.specs.Called.{channel_under}
+use Rattle.its_shared.specs.Called.{channel_under}
 use Rattle.its_decide.specs.Called.{looks, raw}
 use Rattle.its_decide.specs.Fits.{SeenFits, OnJob}
 use Rattle.its_decide.specs.Seen.{machine_seen}
 use Rattle.its_decide.specs.Targets.{Targets}
 use Rattle.its_decide.specs.declared.caller.Caller.{Caller}
-use Rattle.its_machine.proofs.NumberLaws.{held, usr_number, usr_on}
-use Rattle.its_machine.proofs.SeenLaws.{core_here, free_seen}
+use Rattle.its_shared.proofs.NumberLaws.{held, usr_number, usr_on}
+use Rattle.its_shared.proofs.SeenLaws.{core_here, free_seen}
 
 module _ (c : Caller) where
   stands : (n k at : ℕ) (b : Bool) → SeenFits c.seen.now → channel_under c.job.now n ≡ Usr k b at → is_some (job_at c.seen.now.jobs.now k) ≡ true
-  stands n k at b fits e = subst (OnJob c.seen.now.jobs.now) (held c.seen.now.jobs.now c.slot n c.job.now (Usr k b at) c.stands e (λ z. cc)) (fits.aimed c.slot n)
+  stands n k at b fits e = subst (OnJob c.seen.now.jobs.now) (held c.seen.now.jobs.now c.slot n c.job.now (Usr k b at) c.stands e (λ z. cc))
+      (fits.aimed c.slot n)
 
   few : (k : ℕ) → SeenFits c.seen.now → is_some (job_at c.seen.now.jobs.now k) ≡ true → k < slots
   few k fits h = elim (cases_lt k slots) [
@@ -36,7 +37,8 @@ module _ (c : Caller) where
   ]
 
   -- the call reaches it
-  pub targets : (m : CallName) (i k at : ℕ) (b : Bool) → SeenFits c.seen.now → c.ask.now.fail ≡ 0 → call_named c.ask.now.name ≡ Some m → reaching m ≡ Some i → channel_under c.job.now (input c.ask.now i) ≡ Usr k b at
+  pub targets : (m : CallName) (i k at : ℕ) (b : Bool) → SeenFits c.seen.now → c.ask.now.fail ≡ 0 → call_named c.ask.now.name ≡ Some m
+      → reaching m ≡ Some i → channel_under c.job.now (input c.ask.now i) ≡ Usr k b at
       → Targets c (input c.ask.now i) k
   unfolding view
   targets m i k at b fits z e names on =
@@ -44,7 +46,8 @@ module _ (c : Caller) where
       record {
         number = usr_number c.job.now (input c.ask.now i) k at b on;
         few = few k fits there;
-        core = ap (λ o. core_of (job_seen (machine_seen c.seen.now) o)) (target_on (raw c) c.ask.now m i k at b z e names (usr_on c.seen.now.files.now c.job.now (input c.ask.now i) k at b on))
+        core = ap (λ o. core_of (job_seen (machine_seen c.seen.now) o))
+            (target_on (raw c) c.ask.now m i k at b z e names (usr_on c.seen.now.files.now c.job.now (input c.ask.now i) k at b on))
             ∙ core_here c.seen.now.files.now c.seen.now.core.now c.seen.now.jobs.now c.seen.now.alarms.now.items k there;
       }
 

@@ -4,3 +4,4 @@ pub mod InferiorLaws
 pub mod PageLaws
 pub mod ReachLaws
 pub mod LinkLaws
+pub mod Groups

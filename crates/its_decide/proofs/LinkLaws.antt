@@ -5,11 +5,11 @@ use Rattle.std.proofs.lemmas.Bool.{le-ltb}
 use Rattle.its_records.specs.declared.calls.Ask.{Ask}
 use Rattle.its_frame.specs.Errors as error
 use Rattle.its_frame.specs.declared.decision.Decision.{Decision}
-use Rattle.its_plain.specs.Arguments.{input}
-use Rattle.its_plain.specs.CallBasic.{channel_at, is_shut}
-use Rattle.its_plain.specs.CallLink.{link_named, opens_end, opens_link}
-use Rattle.its_plain.specs.Tests.{◌⇒◌, first, fails}
-use Rattle.its_plain.specs.View.{View}
+use Rattle.its_plain.specs.Call.Arguments.{input}
+use Rattle.its_plain.specs.Call.Basic.{channel_at, is_shut}
+use Rattle.its_plain.specs.Call.Link.{link_named, opens_end, opens_link}
+use Rattle.its_plain.specs.Call.Tests.{◌⇒◌, first, fails}
+use Rattle.its_plain.specs.Machine.View.{View}
 
 none_holds : (v : View) (a : Ask) (free large : Bool) (d : Decision) → free ≡ true → large ≡ false
     → d ≡ first (not free ⇒ fails v a error.BAD_CHANNEL ∷ large ⇒ fails v a error.OUT_OF_RANGE ∷ []) d

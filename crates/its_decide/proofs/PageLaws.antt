@@ -3,7 +3,7 @@ use Rattle.std.specs.Prelude.{◌≡◌}
 use Rattle.its_word.specs.Core.{pages_mapped}
 use Rattle.its_core.specs.Cores.{core_at}
 use Rattle.its_plain.specs.Machine.{mapped}
-use Rattle.its_machine.proofs.SeenLaws.{pages_seen}
+use Rattle.its_shared.proofs.SeenLaws.{pages_seen}
 use Rattle.its_decide.specs.Fits.{SeenFits}
 use Rattle.its_decide.specs.Seen.{machine_seen}
 use Rattle.its_decide.specs.declared.caller.Seen.{Seen}

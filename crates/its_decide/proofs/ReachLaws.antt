@@ -12,10 +12,10 @@ use Rattle.its_records.proofs.TreeLaws.{and_false}
 use Rattle.its_core.specs.Cores.{core_at}
 use Rattle.its_files.specs.Files.{Store}
 use Rattle.its_jobs.specs.Table.{IsTree, job_at, superior_at}
-use Rattle.its_plain.specs.Change.{superior_in, superiors}
-use Rattle.its_plain.specs.Decide.{listed}
-use Rattle.its_plain.specs.Footprint.{among}
-use Rattle.its_machine.specs.Parts.{alarm_at, raw_of}
+use Rattle.its_plain.specs.Machine.Change.{superior_in, superiors}
+use Rattle.its_plain.specs.Call.Decide.{listed}
+use Rattle.its_plain.specs.Call.Footprint.{among}
+use Rattle.its_shared.specs.Parts.{alarm_at, raw_of}
 use Rattle.its_decide.specs.Reach.{is_listed}
 use Rattle.its_decide.specs.Seen.{machine_seen}
 use Rattle.its_decide.specs.declared.caller.Seen.{Seen}
@@ -54,9 +54,11 @@ superior_by t c s a (Some j) h = refl
 superior_by t c s a None h = sym (h refl)
 
 superiors_are : (s : Seen) → IsTree s.jobs.now.jobs s.jobs.now.superiors → superiors (machine_seen s) ≡ superior_at s.jobs.now
-superiors_are s t = λ i k. superior_by s.files.now (core_at s.core.now k) (superior_at s.jobs.now k) (alarm_at s.alarms.now.items k) (job_at s.jobs.now k) (t.owned k) i
+superiors_are s t = λ i k. superior_by s.files.now (core_at s.core.now k) (superior_at s.jobs.now k) (alarm_at s.alarms.now.items k)
+    (job_at s.jobs.now k) (t.owned k) i
 
-pub below_seen : (s : Seen) (j k : ℕ) → IsTree s.jobs.now.jobs s.jobs.now.superiors → k < slots → is_below (superior_at s.jobs.now) j k ≡ among k (slots_below (superiors (machine_seen s)) j)
+pub below_seen : (s : Seen) (j k : ℕ) → IsTree s.jobs.now.jobs s.jobs.now.superiors → k < slots
+    → is_below (superior_at s.jobs.now) j k ≡ among k (slots_below (superiors (machine_seen s)) j)
 below_seen s j k t l = sym (among_below (superior_at s.jobs.now) j k l) ∙ ap (λ sup. among k (slots_below sup j)) (sym (superiors_are s t))
 
 -- the slots below one, and one more

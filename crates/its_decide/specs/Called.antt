@@ -1,8 +1,8 @@
 -- What the call of a caller looks at.
 -- No promise rests on this.
-use Rattle.its_plain.specs.Decide.{target}
+use Rattle.its_plain.specs.Call.Decide.{target}
 use Rattle.its_plain.specs.Machine.{Whole}
-use Rattle.its_plain.specs.View.{View, view}
+use Rattle.its_plain.specs.Machine.View.{View, view}
 use Rattle.its_decide.specs.Seen.{machine_seen, raw_with}
 use Rattle.its_decide.specs.declared.caller.Caller.{Caller}
 

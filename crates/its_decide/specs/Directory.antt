@@ -5,10 +5,10 @@ use Rattle.std.specs.Prelude.{if◌then◌else◌, ◌==◌, ℕ, Bool, false, n
 use Rattle.its_records.specs.declared.calls.Ask.{Ask}
 use Rattle.its_files.specs.Files.{Store, readers_at}
 use Rattle.its_frame.specs.Errors as error
-use Rattle.its_plain.specs.Arguments.{input}
-use Rattle.its_plain.specs.CallFile.{channels_in, disk_device, has_file, is_read}
+use Rattle.its_plain.specs.Call.Arguments.{input}
+use Rattle.its_plain.specs.Call.File.{channels_in, disk_device, has_file, is_read}
 use Rattle.its_plain.specs.Machine.{Names}
-use Rattle.its_plain.specs.View.{View}
+use Rattle.its_plain.specs.Machine.View.{View}
 
 abbrev pub has_readers : Store → Option ℕ → Bool
 has_readers s (Some f) = nat_lt 0 (readers_at s f)

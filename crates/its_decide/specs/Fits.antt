@@ -7,7 +7,7 @@ use Rattle.its_records.specs.declared.jobs.Channel.{Channel}
 use Rattle.its_records.specs.declared.jobs.Channel.TheVariants.{Usr}
 use Rattle.its_core.specs.Cores.{core_at}
 use Rattle.its_jobs.specs.Table.{Table, job_at}
-use Rattle.its_machine.specs.Across.{Across, channel_at}
+use Rattle.its_shared.specs.Across.{Across, channel_at}
 use Rattle.its_decide.specs.declared.caller.Seen.{Seen}
 
 -- a channel on a job is on one that exists

@@ -8,11 +8,11 @@ use Rattle.its_frame.specs.declared.decision.Decision.{Decision}
 use Rattle.its_frame.specs.declared.decision.Decision.TheVariants as decisions
 use Rattle.its_frame.specs.declared.decision.Held.{Held}
 use Rattle.its_frame.specs.Calls.{is_siot}
-use Rattle.its_plain.specs.CallStep.{decision}
-use Rattle.its_plain.specs.Decide.{call_named, reach}
+use Rattle.its_plain.specs.Call.Step.{decision}
+use Rattle.its_plain.specs.Call.Decide.{call_named, reach}
 use Rattle.its_plain.specs.Machine.{Machine, Whole}
-use Rattle.its_plain.specs.Tests.{fails, faults, finishes, goes}
-use Rattle.its_plain.specs.View.{View}
+use Rattle.its_plain.specs.Call.Tests.{fails, faults, finishes, goes}
+use Rattle.its_plain.specs.Machine.View.{View}
 use Rattle.its_decide.specs.declared.moving.Halt.{Halt}
 use Rattle.its_decide.specs.declared.moving.Halt.TheVariants as halts
 use Rattle.its_decide.specs.declared.moving.NextMove.{NextMove}

@@ -2,8 +2,8 @@
 -- No promise rests on this.
 use Rattle.std.specs.Prelude.{◌==◌, ℕ, Bool, false, Option, Some, None, List, [], ◌∷◌, ◌++◌}
 use Rattle.its_records.specs.Tree.{slots_below}
-use Rattle.its_plain.specs.Change.{superiors}
-use Rattle.its_plain.specs.Decide.{listed}
+use Rattle.its_plain.specs.Machine.Change.{superiors}
+use Rattle.its_plain.specs.Call.Decide.{listed}
 use Rattle.its_plain.specs.Machine.{Machine}
 use Rattle.its_decide.specs.declared.reach.Disturbed.{Disturbed}
 use Rattle.its_decide.specs.declared.reach.Disturbed.TheVariants.{Target, TargetTree, Kin}

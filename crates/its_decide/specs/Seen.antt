@@ -5,7 +5,7 @@ use Rattle.its_records.specs.declared.jobs.Job.{Job}
 use Rattle.its_core.specs.Cores.{core_at}
 use Rattle.its_jobs.specs.Table.{superior_at}
 use Rattle.its_plain.specs.Machine.{Machine, Whole}
-use Rattle.its_machine.specs.Parts.{alarm_at, bare, chans_of, raw_machine}
+use Rattle.its_shared.specs.Parts.{alarm_at, bare, chans_of, raw_machine}
 use Rattle.its_decide.specs.declared.caller.Seen.{Seen}
 
 abbrev pub machine_seen : Seen → Machine

@@ -3,7 +3,7 @@
 use Rattle.std.specs.Prelude.{◌≡◌, ◌<◌, ℕ}
 use Rattle.its_word.specs.Limits.{slots}
 use Rattle.its_core.specs.Cores.{core_at}
-use Rattle.its_plain.specs.CallUsr.{other_core}
+use Rattle.its_plain.specs.Call.Usr.{other_core}
 use Rattle.its_decide.specs.Called.{looks}
 use Rattle.its_decide.specs.declared.caller.Caller.{Caller}
 

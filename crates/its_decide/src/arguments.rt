@@ -1,10 +1,10 @@
 //! The arguments of a call: values, places, and what a channel is on.
 ghost use Rattle.std.specs.Prelude.{◌≡◌};
-ghost use Rattle.its_plain.specs.Arguments.{has_input, input, place_of_input};
-ghost use Rattle.its_plain.specs.CallBasic.{is_oneself, read_only, shared_place};
-ghost use Rattle.its_plain.specs.Footprint.{among, in_footprint, times};
+ghost use Rattle.its_plain.specs.Call.Arguments.{has_input, input, place_of_input};
+ghost use Rattle.its_plain.specs.Call.Basic.{is_oneself, read_only, shared_place};
+ghost use Rattle.its_plain.specs.Call.Footprint.{among, in_footprint, times};
 ghost use Rattle.its_core.specs.Cores.{core_at};
-ghost use Rattle.its_machine.specs.Called.{channel_under};
+ghost use Rattle.its_shared.specs.Called.{channel_under};
 
 use super::caller::Caller;
 use its_records::{Ask, Channel, Job};
@@ -54,7 +54,7 @@ impl Caller<'_> {
     /// Whether the word of an input is none of its own: it is immediate, or a decode word, or that
     /// of another argument.
     #[inline(always)]
-    #[tactic(auto, unfolding(its_plain::specs::Footprint::is_shared, its_plain::specs::Footprint::times))]
+    #[tactic(auto, unfolding(its_plain::specs::Call::Footprint::is_shared, its_plain::specs::Call::Footprint::times))]
     pub(crate) fn is_shared(&self, k: usize) -> bool
         ensures { result ≡ shared_place self.now.ask.now (place_of_input self.now.ask.now k) }
     {
@@ -81,7 +81,7 @@ impl Caller<'_> {
     /// Whether a place is that of a decode word, or of the word of an input or of the control
     /// argument.
     #[inline(always)]
-    #[tactic(auto, unfolding(its_plain::specs::Footprint::in_footprint))]
+    #[tactic(auto, unfolding(its_plain::specs::Call::Footprint::in_footprint))]
     pub(crate) fn is_used(&self, place: u32) -> bool
         ensures { result ≡ in_footprint place self.now.ask.now }
     {

@@ -1,7 +1,7 @@
 //! SLEEP, DISMIS, LOGOUT and REALT.
 ghost use Rattle.std.specs.Prelude.{◌≡◌, ◌<◌};
-ghost use Rattle.its_plain.specs.CallBasic.{dismiss, logout, realt, sleep};
-ghost use Rattle.its_plain.specs.OperatorClock.{clock_end};
+ghost use Rattle.its_plain.specs.Call.Basic.{dismiss, logout, realt, sleep};
+ghost use Rattle.its_plain.specs.Operator.Clock.{clock_end};
 ghost use Rattle.its_decide.specs.Called.{looks};
 
 use super::caller::Caller;
@@ -9,21 +9,13 @@ use super::ends::{ends, goes_on, store_at};
 use arrayvec::ArrayVec;
 use its_frame::{Change, Decision, Wait, error};
 use its_ints::{dismiss as dismissed, popped};
-use its_word::{Fault, Word};
-
-/// The longest sleep, and the longest period of an alarm, in thirtieths.
-const LONGEST: u64 = 0o200000000000;
-
-/// How many values a word has.
-const WORDS: u64 = 0o1000000000000;
-
-/// From this value on a word has bit 0 on.
-const BIT_0: u64 = 0o400000000000;
+use its_plain::{LONGEST_PERIOD, LONGEST_SLEEP};
+use its_word::{BIT_0, Fault, WORDS, Word};
 
 impl Caller<'_> {
     /// SLEEP n: for n above 0 its argument becomes minus the time of waking; for n below 0 it waits
     /// for that time. Errors 22 if n is too long, 17 if n is no word of its own, and WRO.
-    #[tactic(auto, unfolding(its_plain::specs::CallBasic::sleep, its_plain::specs::View::view))]
+    #[tactic(auto, unfolding(its_plain::specs::Call::Basic::sleep, its_plain::specs::Machine::View::view))]
     pub(crate) fn sleep(&self) -> Decision
         ensures { result ≡ sleep (looks self.now) self.now.ask.now }
     {
@@ -37,7 +29,7 @@ impl Caller<'_> {
         if n >= BIT_0 {
             return self.finishes(ArrayVec::new());
         }
-        if n > LONGEST {
+        if n > LONGEST_SLEEP {
             return self.fails(error::OUT_OF_RANGE);
         }
         if self.is_shared(0) {
@@ -52,13 +44,13 @@ impl Caller<'_> {
 
     /// REALT n: the job has an alarm from now on, of period n, whose next time is n thirtieths from
     /// now; with 0 it has none. Error 22 if n is below 0 or longer than 2^34.
-    #[tactic(auto, unfolding(its_plain::specs::CallBasic::realt, its_plain::specs::View::view))]
+    #[tactic(auto, unfolding(its_plain::specs::Call::Basic::realt, its_plain::specs::Machine::View::view))]
     pub(crate) fn realt(&self) -> Decision
         requires clock { self.now.seen.now.clock < clock_end }
         ensures { result ≡ realt (looks self.now) self.now.ask.now }
     {
         let n = self.input(0).value();
-        if n >= BIT_0 || n > LONGEST {
+        if n >= BIT_0 || n > LONGEST_PERIOD {
             return self.fails(error::OUT_OF_RANGE);
         }
         let alarm = if n == 0 {
@@ -72,7 +64,7 @@ impl Caller<'_> {
     /// DISMIS p: PC, flags and deferrals come from the words that a delivery pushed, and 5 is taken
     /// from each half of the stack pointer word at p. Error 17 if p is immediate; MPV if one of the
     /// words is absent, else WRO if p is read only.
-    #[tactic(auto, using(its_machine::proofs::BareLaws::dismissed_bare), unfolding(its_plain::specs::CallBasic::dismiss, its_plain::specs::View::view))]
+    #[tactic(auto, using(its_shared::proofs::BareLaws::dismissed_bare), unfolding(its_plain::specs::Call::Basic::dismiss, its_plain::specs::Machine::View::view))]
     pub(crate) fn dismiss(&self) -> Decision
         ensures { result ≡ dismiss (looks self.now) self.now.ask.now }
     {
@@ -86,7 +78,7 @@ impl Caller<'_> {
     }
 
     /// LOGOUT: the job and all jobs below it are removed, and INF is set in its superior.
-    #[tactic(auto, unfolding(its_plain::specs::View::view))]
+    #[tactic(auto, unfolding(its_plain::specs::Machine::View::view))]
     pub(crate) fn logout(&self) -> Decision
         ensures { result ≡ logout (looks self.now) }
     {

@@ -1,16 +1,16 @@
 //! Who calls, and what its call looks at.
 ghost use Rattle.std.specs.Prelude.{◌≡◌, Some};
 ghost use Rattle.its_jobs.specs.Table.{job_at};
-ghost use Rattle.its_plain.specs.Decide.{target as target_of};
+ghost use Rattle.its_plain.specs.Call.Decide.{target as target_of};
 ghost use Rattle.its_decide.specs.Seen.{raw_with};
 
 use its_console::Console;
 use its_core::Core;
 use its_files::Files;
 use its_jobs::Jobs;
-use its_machine::SymbolTable;
 use its_pipes::Pipes;
 use its_records::{Ask, Job};
+use its_shared::SymbolTable;
 use its_word::Slot;
 
 /// The parts of a machine, borrowed: cores, jobs, the consoles and for each of them the slot of the

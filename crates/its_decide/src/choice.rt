@@ -5,29 +5,25 @@ ghost use Rattle.its_frame.specs.declared.change.Change.TheVariants.{Shut};
 ghost use Rattle.its_frame.specs.declared.decision.Decision.TheVariants.{Ends};
 ghost use Rattle.its_frame.specs.declared.name.CallName.TheVariants.{Iot, Siot};
 ghost use Rattle.its_jobs.specs.Table.{job_at};
-ghost use Rattle.its_plain.specs.Arguments.{input};
-ghost use Rattle.its_plain.specs.CallDevice.{close_call, iot_call, open_call, siot_call};
-ghost use Rattle.its_plain.specs.CallStep.{decision};
-ghost use Rattle.its_plain.specs.Decide.{call_named, decided, reached_by, target};
-ghost use Rattle.its_plain.specs.OperatorClock.{clock_end};
-ghost use Rattle.its_plain.specs.Own.{with_advance, exit_of};
+ghost use Rattle.its_plain.specs.Call.Arguments.{input};
+ghost use Rattle.its_plain.specs.Call.Device.{close_call, iot_call, open_call, siot_call};
+ghost use Rattle.its_plain.specs.Call.Step.{decision};
+ghost use Rattle.its_plain.specs.Call.Decide.{call_named, decided, reached_by, target};
+ghost use Rattle.its_plain.specs.Operator.Clock.{clock_end};
+ghost use Rattle.its_plain.specs.Machine.Own.{with_advance, exit_of};
 ghost use Rattle.its_decide.specs.Called.{looks};
 ghost use Rattle.its_decide.specs.Fits.{SeenFits};
 ghost use Rattle.its_decide.specs.Seen.{machine_seen, raw_with};
 
 use super::arguments::{channel, input, is_oneself};
 use super::caller::{Caller, Seen};
-use super::directory::DSK;
-use super::links::LNK;
 use its_frame::{CallName, Change, Decision, Wait, error};
+use its_plain::{DSK, LNK, USR};
 use its_records::{Ask, Channel, Job};
 use its_word::{Slot, Word};
 
-/// The device of jobs, in SIXBIT.
-const USR: u64 = 0o656362000000;
-
 /// The decision of the call of a slot's job, which has these registers.
-#[tactic(auto, unfolding(its_plain::specs::CallStep::decision))]
+#[tactic(auto, unfolding(its_plain::specs::Call::Step::decision))]
 pub fn decide(seen: &Seen<'_>, slot: Slot, job: &Job, ask: &Ask) -> Decision
     requires job { job_at seen.now.jobs.now slot ≡ Some job.now }
     requires fits { SeenFits seen.now }
@@ -47,7 +43,7 @@ pub fn decide(seen: &Seen<'_>, slot: Slot, job: &Job, ask: &Ask) -> Decision
 
 /// The slot of the job into which the call of a slot's job reaches, through an open channel on it.
 #[inline(always)]
-#[tactic(auto, using(its_machine::proofs::NumberLaws::under), unfolding(its_plain::specs::Decide::target))]
+#[tactic(auto, using(its_shared::proofs::NumberLaws::under), unfolding(its_plain::specs::Call::Decide::target))]
 pub(crate) fn target(seen: &Seen<'_>, slot: Slot, job: &Job, ask: &Ask) -> Option<u8>
     ensures { result ≡ target (raw_with seen.now slot job.now) ask.now }
 {
@@ -72,7 +68,7 @@ pub(crate) fn target(seen: &Seen<'_>, slot: Slot, job: &Job, ask: &Ask) -> Optio
 
 /// The slot of the job that a channel is on, if its number does not name the caller itself.
 #[inline(always)]
-#[tactic(auto, using(its_machine::proofs::NumberLaws::under))]
+#[tactic(auto, using(its_shared::proofs::NumberLaws::under))]
 pub(crate) fn reached(seen: &Seen<'_>, slot: Slot, job: &Job, number: Word) -> Option<u8>
     ensures { result ≡ reached_by (raw_with seen.now slot job.now) number }
 {
@@ -87,7 +83,7 @@ pub(crate) fn reached(seen: &Seen<'_>, slot: Slot, job: &Job, number: Word) -> O
 
 impl Caller<'_> {
     /// The decision of the call of the caller, by its name. An error of its decoding comes first.
-    #[tactic(auto, unfolding(its_plain::specs::Decide::decided, its_plain::specs::View::view))]
+    #[tactic(auto, unfolding(its_plain::specs::Call::Decide::decided, its_plain::specs::Machine::View::view))]
     fn decided(&self) -> Decision
         requires fits { SeenFits self.now.seen.now }
         requires clock { self.now.seen.now.clock < clock_end }
@@ -122,7 +118,7 @@ impl Caller<'_> {
     }
 
     /// OPEN by its device: any but DSK, USR and LNK has to be TTY.
-    #[tactic(auto, unfolding(its_plain::specs::CallDevice::open_call))]
+    #[tactic(auto, unfolding(its_plain::specs::Call::Device::open_call))]
     fn open(&self) -> Decision
         requires { SeenFits self.now.seen.now }
         ensures { result ≡ open_call (looks self.now) self.now.ask.now }
@@ -137,7 +133,7 @@ impl Caller<'_> {
 
     /// CLOSE by what the channel is on: a draft becomes a file, an end of a link is closed, any
     /// other channel is closed alone. Error 4, and those of a draft.
-    #[tactic(auto, using(its_machine::proofs::NumberLaws::under, its_machine::proofs::NumberLaws::numbers), unfolding(its_plain::specs::CallDevice::close_call, its_plain::specs::View::view))]
+    #[tactic(auto, using(its_shared::proofs::NumberLaws::under, its_shared::proofs::NumberLaws::numbers), unfolding(its_plain::specs::Call::Device::close_call, its_plain::specs::Machine::View::view))]
     fn close(&self) -> Decision
         requires { SeenFits self.now.seen.now }
         ensures { result ≡ close_call (looks self.now) self.now.ask.now }
@@ -164,7 +160,7 @@ impl Caller<'_> {
     }
 
     /// `.IOT` by what the channel is on; IOC if it is closed.
-    #[tactic(auto, using(its_machine::proofs::NumberLaws::under), unfolding(its_plain::specs::CallDevice::iot_call, its_plain::specs::View::view))]
+    #[tactic(auto, using(its_shared::proofs::NumberLaws::under), unfolding(its_plain::specs::Call::Device::iot_call, its_plain::specs::Machine::View::view))]
     fn iot(&self) -> Decision
         requires fail { self.now.ask.now.fail ≡ 0 }
         requires name { call_named self.now.ask.now.name ≡ Some Iot }
@@ -185,7 +181,7 @@ impl Caller<'_> {
 
     /// SIOT by what the channel is on. Error 4.
     #[inline(never)]
-    #[tactic(auto, using(its_machine::proofs::NumberLaws::under), unfolding(its_plain::specs::CallDevice::siot_call, its_plain::specs::View::view))]
+    #[tactic(auto, using(its_shared::proofs::NumberLaws::under), unfolding(its_plain::specs::Call::Device::siot_call, its_plain::specs::Machine::View::view))]
     fn siot(&self) -> Decision
         requires fail { self.now.ask.now.fail ≡ 0 }
         requires name { call_named self.now.ask.now.name ≡ Some Siot }

@@ -1,10 +1,10 @@
 //! Calls on consoles: OPEN of TTY, `.IOT` and SIOT on them, FINISH, LISTEN and TTYLND.
 ghost use Rattle.std.specs.Prelude.{◌≡◌, ◌==◌, false, true, length, not, slice_get, slice_index_or, unwrap_or};
 ghost use Rattle.its_word.specs.Byte.{has_size};
-ghost use Rattle.its_plain.specs.Arguments.{input};
-ghost use Rattle.its_plain.specs.CallTty.{can_take, view_console, finish, first_typed, input_waits, iot_in, iot_out, is_holder, is_other, lands, listen, listens, opens, output_left, output_waits, shown_byte, siot_in, siot_out, ttylnd};
-ghost use Rattle.its_plain.specs.CallBasic.{is_superior};
-ghost use Rattle.its_plain.specs.Transfer.{next_pointer, siot_by};
+ghost use Rattle.its_plain.specs.Call.Arguments.{input};
+ghost use Rattle.its_plain.specs.Call.Tty.{can_take, view_console, finish, first_typed, input_waits, iot_in, iot_out, is_holder, is_other, lands, listen, listens, opens, output_left, output_waits, shown_byte, siot_in, siot_out, ttylnd};
+ghost use Rattle.its_plain.specs.Call.Basic.{is_superior};
+ghost use Rattle.its_plain.specs.Call.Transfer.{next_pointer, siot_by};
 ghost use Rattle.its_decide.specs.Called.{looks};
 ghost use Rattle.its_decide.specs.Moving.{outcome};
 
@@ -15,17 +15,9 @@ use super::moving::{Halt, NextMove, Shift, one_moved};
 use arrayvec::ArrayVec;
 use its_bytes::load;
 use its_frame::{Change, Decision, Held, Opened, Wait, error};
+use its_plain::{SHOWN, TTY};
 use its_records::Channel;
-use its_word::{Fault, Slot, Word};
-
-/// The device of consoles, in SIXBIT.
-const TTY: u64 = 0o646471000000;
-
-/// The bytes that can wait in one direction.
-const RING_BYTES: u32 = 64;
-
-/// The bits of a byte that a console shows.
-const SHOWN: u64 = 0o177;
+use its_word::{Fault, MOST_WAITING, Slot, Word};
 
 impl Caller<'_> {
     /// The number of the caller's console. A channel on a console is opened only if its job has
@@ -39,7 +31,7 @@ impl Caller<'_> {
 
     /// The numbers of bytes that wait at the caller's console, as input and as output.
     #[inline(always)]
-    #[tactic(auto, unfolding(its_plain::specs::View::view))]
+    #[tactic(auto, unfolding(its_plain::specs::Machine::View::view))]
     fn waiting(&self) -> (u32, u32)
         ensures input { result.0 ≡ length ((looks self.now).consoles (view_console (looks self.now))).input }
         ensures output { result.1 ≡ length ((looks self.now).consoles (view_console (looks self.now))).output }
@@ -52,7 +44,7 @@ impl Caller<'_> {
 
     /// The first byte of its input; 0 if there is none.
     #[inline(always)]
-    #[tactic(auto, unfolding(its_plain::specs::View::view))]
+    #[tactic(auto, unfolding(its_plain::specs::Machine::View::view))]
     fn first_typed(&self) -> Word
         ensures { result ≡ first_typed (looks self.now) (view_console (looks self.now)) }
     {
@@ -65,7 +57,7 @@ impl Caller<'_> {
 
     /// Who holds it.
     #[inline(always)]
-    #[tactic(auto, unfolding(its_plain::specs::View::view))]
+    #[tactic(auto, unfolding(its_plain::specs::Machine::View::view))]
     fn holder(&self) -> Option<u8>
         ensures { result ≡ (looks self.now).holders (view_console (looks self.now)) }
     {
@@ -78,7 +70,7 @@ impl Caller<'_> {
 
     /// Whether another job holds it.
     #[inline(always)]
-    #[tactic(auto, unfolding(its_plain::specs::View::view))]
+    #[tactic(auto, unfolding(its_plain::specs::Machine::View::view))]
     fn is_other(&self) -> bool
         ensures { result ≡ is_other self.now.slot ((looks self.now).holders (view_console (looks self.now))) }
     {
@@ -90,7 +82,7 @@ impl Caller<'_> {
 
     /// Whether it gives the caller no byte.
     #[inline(always)]
-    #[tactic(auto, unfolding(its_plain::specs::View::view))]
+    #[tactic(auto, unfolding(its_plain::specs::Machine::View::view))]
     fn input_waits(&self) -> bool
         ensures { result ≡ input_waits (looks self.now) (view_console (looks self.now)) }
     {
@@ -99,15 +91,15 @@ impl Caller<'_> {
 
     /// Whether it takes no byte of the caller.
     #[inline(always)]
-    #[tactic(auto, unfolding(its_plain::specs::View::view))]
+    #[tactic(auto, unfolding(its_plain::specs::Machine::View::view))]
     fn output_waits(&self) -> bool
         ensures { result ≡ output_waits (looks self.now) (view_console (looks self.now)) }
     {
-        self.waiting().1 >= RING_BYTES || self.is_other()
+        self.waiting().1 >= MOST_WAITING || self.is_other()
     }
 
     /// Whether output of it is not drained yet.
-    #[tactic(auto, unfolding(its_plain::specs::View::view))]
+    #[tactic(auto, unfolding(its_plain::specs::Machine::View::view))]
     fn output_left(&self) -> bool
         ensures { result ≡ output_left (looks self.now) (view_console (looks self.now)) }
     {
@@ -115,7 +107,7 @@ impl Caller<'_> {
     }
 
     /// FINISH channel: waits until all output of the console is drained. Errors 4, 5.
-    #[tactic(auto, using(its_machine::proofs::NumberLaws::under), unfolding(its_plain::specs::CallTty::finish, its_plain::specs::View::view))]
+    #[tactic(auto, using(its_shared::proofs::NumberLaws::under), unfolding(its_plain::specs::Call::Tty::finish, its_plain::specs::Machine::View::view))]
     pub(crate) fn finish(&self) -> Decision
         ensures { result ≡ finish (looks self.now) self.now.ask.now }
     {
@@ -128,7 +120,7 @@ impl Caller<'_> {
     }
 
     /// LISTEN channel: also waits, and gives the number of bytes of input. Errors 4, 5.
-    #[tactic(auto, using(its_machine::proofs::NumberLaws::under), unfolding(its_plain::specs::CallTty::listen, its_plain::specs::View::view))]
+    #[tactic(auto, using(its_shared::proofs::NumberLaws::under), unfolding(its_plain::specs::Call::Tty::listen, its_plain::specs::Machine::View::view))]
     pub(crate) fn listen(&self) -> Decision
         ensures { result ≡ listen (looks self.now) self.now.ask.now }
     {
@@ -140,7 +132,7 @@ impl Caller<'_> {
     }
 
     /// The number of bytes of input, once all output is drained.
-    #[tactic(auto, unfolding(its_plain::specs::View::view))]
+    #[tactic(auto, unfolding(its_plain::specs::Machine::View::view))]
     fn listened(&self) -> Decision
         ensures { result ≡ listens (looks self.now) self.now.ask.now (view_console (looks self.now)) }
     {
@@ -153,7 +145,7 @@ impl Caller<'_> {
     /// TTYLND job: the job becomes the holder of the caller's console. Errors 4, 5; 5 if the caller
     /// has no console; for oneself 13 if a stranger holds it; for an inferior 5 if the caller does
     /// not hold it.
-    #[tactic(auto, using(its_machine::proofs::NumberLaws::under), unfolding(its_plain::specs::CallTty::ttylnd, its_plain::specs::View::view))]
+    #[tactic(auto, using(its_shared::proofs::NumberLaws::under), unfolding(its_plain::specs::Call::Tty::ttylnd, its_plain::specs::Machine::View::view))]
     pub(crate) fn ttylnd(&self) -> Decision
         ensures { result ≡ ttylnd (looks self.now) self.now.ask.now }
     {
@@ -170,7 +162,7 @@ impl Caller<'_> {
 
     /// Whether the caller can take its console for itself: nobody holds it, or the caller, or one
     /// of its inferiors.
-    #[tactic(auto, unfolding(its_plain::specs::View::view))]
+    #[tactic(auto, unfolding(its_plain::specs::Machine::View::view))]
     fn can_take(&self) -> bool
         ensures { result ≡ can_take (looks self.now) ((looks self.now).holders (view_console (looks self.now))) }
     {
@@ -181,7 +173,7 @@ impl Caller<'_> {
     }
 
     /// Whether the caller is the superior of the job of a slot.
-    #[tactic(auto, unfolding(its_plain::specs::View::view))]
+    #[tactic(auto, unfolding(its_plain::specs::Machine::View::view))]
     fn is_superior_of(&self, slot: u8) -> bool
         ensures { result ≡ is_superior self.now.slot ((looks self.now).outlines slot) }
     {
@@ -192,7 +184,7 @@ impl Caller<'_> {
     }
 
     /// Whether the caller holds its console.
-    #[tactic(auto, unfolding(its_plain::specs::View::view))]
+    #[tactic(auto, unfolding(its_plain::specs::Machine::View::view))]
     fn is_holder(&self) -> bool
         ensures { result ≡ is_holder (looks self.now) ((looks self.now).holders (view_console (looks self.now))) }
     {
@@ -203,7 +195,7 @@ impl Caller<'_> {
     }
 
     /// A job becomes the holder of the caller's console, if it may.
-    #[tactic(auto, unfolding(its_plain::specs::View::view))]
+    #[tactic(auto, unfolding(its_plain::specs::Machine::View::view))]
     fn lands(&self, may: bool, number: u8, holder: u8) -> Decision
         ensures { result ≡ lands (looks self.now) self.now.ask.now may number holder }
     {
@@ -221,7 +213,7 @@ impl Caller<'_> {
 
     /// OPEN channel, TTY: input, or output with control 1. Errors 4, 5 if the device is not TTY,
     /// 22, and 5 if the job has no console.
-    #[tactic(auto, unfolding(its_plain::specs::CallTty::opens, its_plain::specs::View::view))]
+    #[tactic(auto, unfolding(its_plain::specs::Call::Tty::opens, its_plain::specs::Machine::View::view))]
     pub(crate) fn open_tty(&self) -> Decision
         ensures { result ≡ opens (looks self.now) self.now.ask.now }
     {
@@ -248,7 +240,7 @@ impl Caller<'_> {
 
     /// `.IOT` from a console: its first byte becomes the word at E, right-justified. MPV or WRO by
     /// the word.
-    #[tactic(auto, unfolding(its_plain::specs::View::view))]
+    #[tactic(auto, unfolding(its_plain::specs::Machine::View::view))]
     pub(crate) fn iot_in(&self) -> Decision
         ensures { result ≡ iot_in (looks self.now) (slice_index_or self.now.ask.now.outputs.items 0 0) (view_console (looks self.now)) }
     {
@@ -268,7 +260,7 @@ impl Caller<'_> {
     }
 
     /// `.IOT` to a console: the byte in the word at E is put out. MPV by the word.
-    #[tactic(auto, unfolding(its_plain::specs::View::view))]
+    #[tactic(auto, unfolding(its_plain::specs::Machine::View::view))]
     pub(crate) fn iot_out(&self) -> Decision
         ensures { result ≡ iot_out (looks self.now) (slice_index_or self.now.ask.now.outputs.items 0 0) (view_console (looks self.now)) }
     {
@@ -301,7 +293,7 @@ impl Caller<'_> {
 
     /// The byte of the next pointer comes from a console.
     #[inline(always)]
-    #[tactic(auto, unfolding(its_plain::specs::View::view))]
+    #[tactic(auto, unfolding(its_plain::specs::Machine::View::view))]
     fn takes_byte(&self, next: Word) -> Result<NextMove, Halt>
         ensures { outcome (looks self.now) self.now.ask.now result ≡ siot_in (looks self.now) self.now.ask.now next (input self.now.ask.now 2) (view_console (looks self.now)) }
     {
@@ -333,7 +325,7 @@ impl Caller<'_> {
 
     /// The byte of the next pointer goes to a console.
     #[inline(always)]
-    #[tactic(auto, unfolding(its_plain::specs::View::view))]
+    #[tactic(auto, unfolding(its_plain::specs::Machine::View::view))]
     fn puts_byte(&self, next: Word) -> Result<NextMove, Halt>
         requires { has_size next ≡ true }
         ensures { outcome (looks self.now) self.now.ask.now result ≡ siot_out (looks self.now) self.now.ask.now next (input self.now.ask.now 2) (view_console (looks self.now)) }

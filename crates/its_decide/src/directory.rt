@@ -2,24 +2,20 @@
 //! CLOSE of a draft, DELETE and RENAME.
 ghost use Rattle.std.specs.Prelude.{◌≡◌, ◌<◌};
 ghost use Rattle.its_files.specs.Files.{directory, file_at, found};
-ghost use Rattle.its_plain.specs.Arguments.{input};
-ghost use Rattle.its_plain.specs.CallFile.{channels_in, closes_draft, delete, has_file, is_read, names_from, rename};
+ghost use Rattle.its_plain.specs.Call.Arguments.{input};
+ghost use Rattle.its_plain.specs.Call.File.{channels_in, closes_draft, delete, has_file, is_read, names_from, rename};
 ghost use Rattle.its_decide.specs.Called.{looks};
 ghost use Rattle.its_decide.specs.Directory.{error_of_file, has_readers};
 ghost use Rattle.its_decide.specs.Fits.{SeenFits};
 ghost use Rattle.its_records.specs.declared.jobs.Channel.TheVariants.{Writing};
-ghost use Rattle.its_machine.specs.Called.{channel_under};
+ghost use Rattle.its_shared.specs.Called.{channel_under};
 
 use super::caller::Caller;
+use its_files::MOST_FILES;
 use its_frame::{Change, Decision, error};
+use its_plain::DSK;
 use its_records::Channel;
 use its_word::Word;
-
-/// The device of files, in SIXBIT.
-pub(crate) const DSK: u64 = 0o446353000000;
-
-/// How many files there are at most.
-const FILES: u32 = 256;
 
 impl Caller<'_> {
     /// The directory, name 1 and name 2 of a file, of which the two names and the directory are the
@@ -32,7 +28,7 @@ impl Caller<'_> {
     }
 
     /// Whether there is a file with these names.
-    #[tactic(auto, using(its_machine::proofs::StoreLaws::has_named))]
+    #[tactic(auto, using(its_shared::proofs::StoreLaws::has_named))]
     pub(crate) fn has_file(&self, names: [Word; 3]) -> bool
         ensures { result ≡ has_file names (directory self.now.seen.now.files.now) }
     {
@@ -50,7 +46,7 @@ impl Caller<'_> {
     }
 
     /// The number of the file with these names.
-    #[tactic(auto, using(its_machine::proofs::SeenLaws::three))]
+    #[tactic(auto, using(its_shared::proofs::SeenLaws::three))]
     fn file(&self, names: [Word; 3]) -> Option<u32>
         ensures { result ≡ found self.now.seen.now.files.now names }
     {
@@ -69,7 +65,7 @@ impl Caller<'_> {
 
     /// CLOSE of a draft, which becomes the last file, in place of the one with its names. Errors 11
     /// if a channel reads that file, 7 if there is none and there are 256 files.
-    #[tactic(auto, using(its_files::proofs::EntryLaws::draft_stands, crate::proofs::FileLaws::writing, its_machine::proofs::SeenLaws::seen_count), unfolding(its_plain::specs::CallFile::closes_draft, its_plain::specs::View::view))]
+    #[tactic(auto, using(crate::proofs::Groups::close_draft_laws), unfolding(its_plain::specs::Call::File::closes_draft, its_plain::specs::Machine::View::view))]
     pub(crate) fn close_draft(&self, draft: u32) -> Decision
         requires on { channel_under self.now.job.now (input self.now.ask.now 0) ≡ Writing draft }
         requires fits { SeenFits self.now.seen.now }
@@ -79,7 +75,7 @@ impl Caller<'_> {
         if self.is_read(names) {
             return self.fails(error::FILE_LOCKED);
         }
-        if !self.has_file(names) && self.seen.files.count() >= FILES {
+        if !self.has_file(names) && self.seen.files.count() >= MOST_FILES {
             return self.fails(error::DIRECTORY_FULL);
         }
         self.finishes_with(Change::Close {
@@ -89,7 +85,7 @@ impl Caller<'_> {
 
     /// Why a file is neither deleted nor renamed: error 5 if the device is not DSK, 6 if there is
     /// no such file, 11 if a channel reads it.
-    #[tactic(auto, unfolding(its_plain::specs::View::view))]
+    #[tactic(auto, unfolding(its_plain::specs::Machine::View::view))]
     fn error_of_file(&self, names: [Word; 3]) -> Option<u8>
         requires { SeenFits self.now.seen.now }
         ensures { result ≡ error_of_file (looks self.now) self.now.ask.now names }
@@ -106,7 +102,7 @@ impl Caller<'_> {
     }
 
     /// DELETE device, name 1, name 2, directory. Errors 5, 6, 11.
-    #[tactic(auto, unfolding(its_plain::specs::CallFile::delete, its_plain::specs::View::view))]
+    #[tactic(auto, unfolding(its_plain::specs::Call::File::delete, its_plain::specs::Machine::View::view))]
     pub(crate) fn delete(&self) -> Decision
         requires { SeenFits self.now.seen.now }
         ensures { result ≡ delete (looks self.now) self.now.ask.now }
@@ -120,7 +116,7 @@ impl Caller<'_> {
 
     /// RENAME device, name 1, name 2, directory, new name 1, new name 2. Errors 5, 6, 11, and 23 if
     /// a file of the directory has the new names, itself included.
-    #[tactic(auto, unfolding(its_plain::specs::CallFile::rename, its_plain::specs::View::view))]
+    #[tactic(auto, unfolding(its_plain::specs::Call::File::rename, its_plain::specs::Machine::View::view))]
     pub(crate) fn rename(&self) -> Decision
         requires { SeenFits self.now.seen.now }
         ensures { result ≡ rename (looks self.now) self.now.ask.now }

@@ -2,9 +2,9 @@
 ghost use Rattle.std.specs.Prelude.{◌≡◌, ◌<◌, ◌^◌, ◌∷◌, [], None};
 ghost use Rattle.std.specs.Option.{option_to_list};
 ghost use Rattle.its_frame.specs.declared.decision.Decision.TheVariants.{Ends, Goes};
-ghost use Rattle.its_plain.specs.Job.{IOC as IOC_BIT, bit_of, with_pending};
-ghost use Rattle.its_plain.specs.Own.{with_advance, exit_of};
-ghost use Rattle.its_plain.specs.Tests.{goes, number_at, out};
+ghost use Rattle.its_plain.specs.Machine.Registers.{IOC as IOC_BIT, bit_of, with_pending};
+ghost use Rattle.its_plain.specs.Machine.Own.{with_advance, exit_of};
+ghost use Rattle.its_plain.specs.Call.Tests.{goes, number_at, out};
 
 use super::caller::Caller;
 use arrayvec::ArrayVec;

@@ -4,13 +4,13 @@ ghost use Rattle.std.specs.Prelude.{◌≡◌, ◌==◌, ◌<◌, ◌^◌, [], I
 ghost use Rattle.its_frame.specs.declared.change.Change.TheVariants.{Append};
 ghost use Rattle.its_frame.specs.declared.decision.Decision.TheVariants.{Ends};
 ghost use Rattle.its_files.specs.Files.{directory, entry_at, file_at, is_file, names_at};
-ghost use Rattle.its_plain.specs.Arguments.{input};
-ghost use Rattle.its_plain.specs.CallFile.{access, access_to, file_named, fillen, iot_reads, iot_writes, opens_as, opens_disk, siot_reads, siot_write, siot_writes, words_by, words_of};
-ghost use Rattle.its_plain.specs.Own.{with_advance, exit_of};
-ghost use Rattle.its_plain.specs.Tests.{out};
+ghost use Rattle.its_plain.specs.Call.Arguments.{input};
+ghost use Rattle.its_plain.specs.Call.File.{access, access_to, file_named, fillen, iot_reads, iot_writes, opens_as, opens_disk, siot_reads, siot_write, siot_writes, words_by, words_of};
+ghost use Rattle.its_plain.specs.Machine.Own.{with_advance, exit_of};
+ghost use Rattle.its_plain.specs.Call.Tests.{out};
 ghost use Rattle.its_word.specs.Byte.{has_size};
 ghost use Rattle.its_records.specs.declared.jobs.Channel.TheVariants.{Reading, Writing};
-ghost use Rattle.its_machine.specs.Called.{channel_under};
+ghost use Rattle.its_shared.specs.Called.{channel_under};
 ghost use Rattle.its_decide.specs.Called.{looks};
 ghost use Rattle.its_decide.specs.Moving.{outcome};
 ghost use Rattle.its_decide.specs.declared.moving.Shift.TheVariants.{Append as ShiftBy};
@@ -19,17 +19,17 @@ ghost use Rattle.its_decide.specs.Fits.{SeenFits};
 use super::caller::Caller;
 use super::ends::ends;
 use super::moving::{Halt, NextMove, Shift, one_moved};
-use super::words::END_OF_FILE;
 use arrayvec::ArrayVec;
 use its_bytes::load;
 use its_frame::{Change, Decision, Opened, error};
+use its_plain::END_OF_FILE;
 use its_records::Channel;
 use its_word::{ADDRESSES, Fault, Word};
 
 impl Caller<'_> {
     /// OPEN channel, DSK, name 1, name 2, directory: a file for input, or a new draft with control
     /// 1. Errors 4, 22, 6.
-    #[tactic(auto, unfolding(its_plain::specs::CallFile::opens_disk, its_plain::specs::View::view))]
+    #[tactic(auto, unfolding(its_plain::specs::Call::File::opens_disk, its_plain::specs::Machine::View::view))]
     pub(crate) fn open_disk(&self) -> Decision
         ensures { result ≡ opens_disk (looks self.now) self.now.ask.now }
     {
@@ -53,7 +53,7 @@ impl Caller<'_> {
 
     /// ACCESS channel, position: the next word that a file gives, or that a channel on an inferior
     /// is at. Errors 4, 5, 22 if the position is past the end.
-    #[tactic(auto, using(its_machine::proofs::NumberLaws::under, crate::proofs::FileLaws::reading, its_machine::proofs::NumberLaws::usr_number), unfolding(its_plain::specs::CallFile::access, its_plain::specs::View::view))]
+    #[tactic(auto, using(crate::proofs::Groups::access_laws), unfolding(its_plain::specs::Call::File::access, its_plain::specs::Machine::View::view))]
     pub(crate) fn access(&self) -> Decision
         requires { SeenFits self.now.seen.now }
         ensures { result ≡ access (looks self.now) self.now.ask.now }
@@ -67,7 +67,7 @@ impl Caller<'_> {
     }
 
     /// The position of a channel is set, which is at most this. Error 22 if it is above.
-    #[tactic(auto, unfolding(its_plain::specs::View::view))]
+    #[tactic(auto, unfolding(its_plain::specs::Machine::View::view))]
     fn access_to(&self, most: u32) -> Decision
         requires { input self.now.ask.now 0 < 16 }
         ensures { result ≡ access_to (looks self.now) self.now.ask.now most }
@@ -80,7 +80,7 @@ impl Caller<'_> {
     }
 
     /// FILLEN channel: how many words a file or a draft has. Errors 4, 5.
-    #[tactic(auto, using(its_machine::proofs::NumberLaws::under, crate::proofs::FileLaws::reading, crate::proofs::FileLaws::writing, its_files::proofs::EntryLaws::draft_stands), unfolding(its_plain::specs::CallFile::fillen, its_plain::specs::View::view))]
+    #[tactic(auto, using(crate::proofs::Groups::fillen_laws), unfolding(its_plain::specs::Call::File::fillen, its_plain::specs::Machine::View::view))]
     pub(crate) fn fillen(&self) -> Decision
         requires { SeenFits self.now.seen.now }
         ensures { result ≡ fillen (looks self.now) self.now.ask.now }
@@ -101,7 +101,7 @@ impl Caller<'_> {
     }
 
     /// How many words a file has.
-    #[tactic(auto, using(its_machine::proofs::SeenLaws::seen_words, its_files::proofs::EntryLaws::file_stands))]
+    #[tactic(auto, using(its_shared::proofs::SeenLaws::seen_words, its_files::proofs::EntryLaws::file_stands))]
     fn words_of_file(&self, file: u32) -> u32
         requires { is_file (entry_at self.now.seen.now.files.now file) ≡ true }
         ensures { result ≡ length (words_by (file_named (names_at self.now.seen.now.files.now file) (directory self.now.seen.now.files.now))) }
@@ -111,7 +111,7 @@ impl Caller<'_> {
     }
 
     /// The word of a file at a position; None at its end.
-    #[tactic(auto, using(its_machine::proofs::SeenLaws::seen_words, its_machine::proofs::SeenLaws::few_words))]
+    #[tactic(auto, using(its_shared::proofs::SeenLaws::seen_words, its_shared::proofs::SeenLaws::few_words))]
     fn word_of_file(&self, file: u32, at: u32) -> Option<Word>
         requires { is_file (entry_at self.now.seen.now.files.now file) ≡ true }
         ensures word { result ≡ slice_get (words_by (file_named (names_at self.now.seen.now.files.now file) (directory self.now.seen.now.files.now))) at }
@@ -123,7 +123,7 @@ impl Caller<'_> {
 
     /// `.IOT` from a file: the word at its position, which is then one more; 777777000003 at its
     /// end. MPV or WRO by the word at E.
-    #[tactic(auto, using(crate::proofs::FileLaws::reading), unfolding(its_plain::specs::View::view))]
+    #[tactic(auto, using(crate::proofs::FileLaws::reading), unfolding(its_plain::specs::Machine::View::view))]
     pub(crate) fn iot_reads(&self, file: u32, at: u32) -> Decision
         requires on { channel_under self.now.job.now (input self.now.ask.now 0) ≡ Reading file at }
         requires fits { SeenFits self.now.seen.now }
@@ -139,7 +139,7 @@ impl Caller<'_> {
     }
 
     /// `.IOT` to a draft: the word at E is appended. MPV by that word; IOC if there is no room.
-    #[tactic(auto, using(crate::proofs::FileLaws::writing, crate::proofs::FileLaws::seen_full, its_files::proofs::EntryLaws::draft_stands), unfolding(its_plain::specs::View::view))]
+    #[tactic(auto, using(crate::proofs::FileLaws::writing, crate::proofs::FileLaws::seen_full, its_files::proofs::EntryLaws::draft_stands), unfolding(its_plain::specs::Machine::View::view))]
     pub(crate) fn iot_writes(&self, draft: u32) -> Decision
         requires on { channel_under self.now.job.now (input self.now.ask.now 0) ≡ Writing draft }
         requires fits { SeenFits self.now.seen.now }
@@ -157,7 +157,7 @@ impl Caller<'_> {
 
     /// SIOT from a file: the word at its position is held, and stored by the next step.
     #[inline(always)]
-    #[tactic(auto, using(crate::proofs::FileLaws::reading), unfolding(its_plain::specs::View::view))]
+    #[tactic(auto, using(crate::proofs::FileLaws::reading), unfolding(its_plain::specs::Machine::View::view))]
     pub(crate) fn siot_reads(&self, file: u32, at: u32) -> Result<NextMove, Halt>
         requires on { channel_under self.now.job.now (input self.now.ask.now 0) ≡ Reading file at }
         requires fits { SeenFits self.now.seen.now }
@@ -172,7 +172,7 @@ impl Caller<'_> {
 
     /// SIOT to a draft. Error 10 if there is no room.
     #[inline(always)]
-    #[tactic(auto, unfolding(its_plain::specs::View::view))]
+    #[tactic(auto, unfolding(its_plain::specs::Machine::View::view))]
     pub(crate) fn siot_writes(&self, draft: u32) -> Result<NextMove, Halt>
         requires on { channel_under self.now.job.now (input self.now.ask.now 0) ≡ Writing draft }
         requires fits { SeenFits self.now.seen.now }
@@ -187,7 +187,7 @@ impl Caller<'_> {
     /// SIOT to a draft once no test of its arguments stops it: the byte becomes a word at its end.
     /// Error 10 if there is no room.
     #[inline(always)]
-    #[tactic(auto, using(its_machine::proofs::StopLaws::loaded_fits, crate::proofs::FileLaws::writing, crate::proofs::FileLaws::seen_full, its_files::proofs::EntryLaws::draft_stands), unfolding(its_plain::specs::View::view))]
+    #[tactic(auto, using(crate::proofs::Groups::siot_write_laws), unfolding(its_plain::specs::Machine::View::view))]
     fn siot_write(&self, next: Word, draft: u32) -> Result<NextMove, Halt>
         requires on { channel_under self.now.job.now (input self.now.ask.now 0) ≡ Writing draft }
         requires size { has_size next ≡ true }

@@ -6,22 +6,22 @@ ghost use Rattle.its_records.specs.Tree.{least_free};
 ghost use Rattle.its_records.specs.declared.jobs.Channel.TheVariants.{Usr};
 ghost use Rattle.its_frame.specs.declared.change.Change.TheVariants.{Move, Poke};
 ghost use Rattle.its_frame.specs.declared.name.CallName.TheVariants.{Iot, Siot, Usrmem};
-ghost use Rattle.its_plain.specs.Arguments.{input};
-ghost use Rattle.its_plain.specs.CallBasic.{is_superior};
-ghost use Rattle.its_plain.specs.CallUsr.{any_named, has_names, inferior_named, iot_from, iot_into, iot_through, opens_usr, siot_from, siot_into, siot_peeks, siot_pokes, siot_through, uclose, usrmem, usrmem_on};
-ghost use Rattle.its_plain.specs.Decide.{call_named};
+ghost use Rattle.its_plain.specs.Call.Arguments.{input};
+ghost use Rattle.its_plain.specs.Call.Basic.{is_superior};
+ghost use Rattle.its_plain.specs.Call.Usr.{any_named, has_names, inferior_named, iot_from, iot_into, iot_through, opens_usr, siot_from, siot_into, siot_peeks, siot_pokes, siot_through, uclose, usrmem, usrmem_on};
+ghost use Rattle.its_plain.specs.Call.Decide.{call_named};
 ghost use Rattle.its_plain.specs.Machine.{On};
-ghost use Rattle.its_machine.specs.Called.{channel_under};
+ghost use Rattle.its_shared.specs.Called.{channel_under};
 ghost use Rattle.its_decide.specs.Called.{looks};
 ghost use Rattle.its_decide.specs.Fits.{SeenFits};
 ghost use Rattle.its_decide.specs.Targets.{Targets};
 
 use super::caller::Caller;
 use super::ends::ends;
-use super::words::END_OF_FILE;
 use arrayvec::ArrayVec;
 use its_bytes::load;
 use its_frame::{Change, Decision, Opened, error};
+use its_plain::END_OF_FILE;
 use its_records::Channel;
 use its_word::{ADDRESSES, Fault, SLOTS, Slot, Word};
 
@@ -29,7 +29,7 @@ impl Caller<'_> {
     /// OPEN channel, USR, user name, job name: the caller's inferior with these names, which is
     /// made with control 1 if there is none. Errors 4, 22; 13 if they are those of another job, 12
     /// for input if no job has them, 14 if all slots below the limit have jobs.
-    #[tactic(auto, unfolding(its_plain::specs::CallUsr::opens_usr, its_plain::specs::View::view))]
+    #[tactic(auto, unfolding(its_plain::specs::Call::Usr::opens_usr, its_plain::specs::Machine::View::view))]
     pub(crate) fn open_usr(&self) -> Decision
         requires { SeenFits self.now.seen.now }
         ensures { result ≡ opens_usr (looks self.now) self.now.ask.now }
@@ -86,7 +86,7 @@ impl Caller<'_> {
     }
 
     /// The least slot whose job is an inferior of the caller with the names of OPEN.
-    #[tactic(auto, unfolding(its_plain::specs::View::view))]
+    #[tactic(auto, unfolding(its_plain::specs::Machine::View::view))]
     fn inferior_named(&self) -> Option<u8>
         ensures { result ≡ inferior_named (looks self.now) (input self.now.ask.now 2) (input self.now.ask.now 3) }
     {
@@ -94,7 +94,7 @@ impl Caller<'_> {
     }
 
     /// Whether any job has the names of OPEN.
-    #[tactic(auto, unfolding(its_plain::specs::View::view))]
+    #[tactic(auto, unfolding(its_plain::specs::Machine::View::view))]
     fn any_named(&self) -> bool
         ensures { result ≡ any_named (looks self.now) (input self.now.ask.now 2) (input self.now.ask.now 3) }
     {
@@ -102,7 +102,7 @@ impl Caller<'_> {
     }
 
     /// Whether the job of a slot has the names of OPEN.
-    #[tactic(auto, unfolding(its_plain::specs::View::view))]
+    #[tactic(auto, unfolding(its_plain::specs::Machine::View::view))]
     fn is_named(&self, slot: u8) -> bool
         ensures { result ≡ has_names (input self.now.ask.now 2) (input self.now.ask.now 3) ((looks self.now).outlines slot) }
     {
@@ -113,7 +113,7 @@ impl Caller<'_> {
     }
 
     /// Whether the job of a slot is an inferior of the caller.
-    #[tactic(auto, unfolding(its_plain::specs::View::view))]
+    #[tactic(auto, unfolding(its_plain::specs::Machine::View::view))]
     fn is_inferior(&self, slot: u8) -> bool
         ensures { result ≡ is_superior self.now.slot ((looks self.now).outlines slot) }
     {
@@ -142,7 +142,7 @@ impl Caller<'_> {
 
     /// `.IOT` from an inferior: the word at the channel's position, which is then one more;
     /// 777777000003 at the end. MPV or WRO by the word at E; IOC if the inferior's word is absent.
-    #[tactic(auto, using(crate::proofs::InferiorLaws::other_word), unfolding(its_plain::specs::View::view))]
+    #[tactic(auto, using(crate::proofs::InferiorLaws::other_word), unfolding(its_plain::specs::Machine::View::view))]
     fn iot_from(&self, inferior: u8, at: u32) -> Decision
         requires { Targets self.now (input self.now.ask.now 0) inferior }
         ensures { result ≡ iot_from (looks self.now) (slice_index_or self.now.ask.now.outputs.items 0 0) (input self.now.ask.now 0) at }
@@ -161,7 +161,7 @@ impl Caller<'_> {
 
     /// `.IOT` into an inferior: the word at E is stored at the channel's position, which is then
     /// one more. MPV by the word at E; IOC at the end, and if the inferior's word cannot be stored.
-    #[tactic(auto, using(crate::proofs::InferiorLaws::other_stored), unfolding(its_plain::specs::View::view))]
+    #[tactic(auto, using(crate::proofs::InferiorLaws::other_stored), unfolding(its_plain::specs::Machine::View::view))]
     fn iot_into(&self, inferior: u8, at: u32) -> Decision
         requires { Targets self.now (input self.now.ask.now 0) inferior }
         ensures { result ≡ iot_into (looks self.now) (slice_index_or self.now.ask.now.outputs.items 0 0) (input self.now.ask.now 0) inferior at }
@@ -212,7 +212,7 @@ impl Caller<'_> {
 
     /// SIOT from an inferior: the word at the channel's position is held, and stored by the next
     /// step. Error 16 if it is absent.
-    #[tactic(auto, using(crate::proofs::InferiorLaws::other_word), unfolding(its_plain::specs::View::view))]
+    #[tactic(auto, using(crate::proofs::InferiorLaws::other_word), unfolding(its_plain::specs::Machine::View::view))]
     fn siot_from(&self, inferior: u8, at: u32) -> Decision
         requires { Targets self.now (input self.now.ask.now 0) inferior }
         ensures { result ≡ siot_from (looks self.now) self.now.ask.now (input self.now.ask.now 0) at }
@@ -225,7 +225,7 @@ impl Caller<'_> {
 
     /// SIOT from an inferior once no test of its arguments stops it: its word is held. Error 16 if
     /// it is absent.
-    #[tactic(auto, unfolding(its_plain::specs::View::view))]
+    #[tactic(auto, unfolding(its_plain::specs::Machine::View::view))]
     fn siot_peeks(&self, next: Word, at: u32, word: Option<Word>) -> Decision
         requires number { input self.now.ask.now 0 < 16 }
         requires below { at < 2 ^ 18 }
@@ -242,7 +242,7 @@ impl Caller<'_> {
 
     /// SIOT into an inferior: the word is stored at the channel's position. Error 16 if it cannot
     /// be.
-    #[tactic(auto, unfolding(its_plain::specs::View::view))]
+    #[tactic(auto, unfolding(its_plain::specs::Machine::View::view))]
     fn siot_into(&self, inferior: u8, at: u32) -> Decision
         requires { Targets self.now (input self.now.ask.now 0) inferior }
         ensures { result ≡ siot_into (looks self.now) self.now.ask.now (input self.now.ask.now 0) inferior at }
@@ -255,7 +255,7 @@ impl Caller<'_> {
 
     /// SIOT into an inferior once no test of its arguments stops it: the word is stored. Error 16
     /// if it cannot be.
-    #[tactic(auto, using(crate::proofs::InferiorLaws::other_stored, its_machine::proofs::StopLaws::loaded_fits), unfolding(its_plain::specs::View::view))]
+    #[tactic(auto, using(crate::proofs::InferiorLaws::other_stored, its_shared::proofs::StopLaws::loaded_fits), unfolding(its_plain::specs::Machine::View::view))]
     fn siot_pokes(&self, next: Word, inferior: u8, at: u32) -> Decision
         requires targets { Targets self.now (input self.now.ask.now 0) inferior }
         requires below { at < 2 ^ 18 }
@@ -281,7 +281,7 @@ impl Caller<'_> {
     /// USRMEM channel, address, optional new word: the output gets the word of the inferior, and
     /// then the new one is stored. Errors 4, 5, 22; 5 if the channel has no leave to write, 16 if
     /// the word is absent or cannot be stored.
-    #[tactic(auto, using(its_machine::proofs::NumberLaws::under, crate::proofs::InferiorLaws::targeted), unfolding(its_plain::specs::CallUsr::usrmem, its_plain::specs::View::view))]
+    #[tactic(auto, using(its_shared::proofs::NumberLaws::under, crate::proofs::InferiorLaws::targeted), unfolding(its_plain::specs::Call::Usr::usrmem, its_plain::specs::Machine::View::view))]
     pub(crate) fn usrmem(&self) -> Decision
         requires fail { self.now.ask.now.fail ≡ 0 }
         requires name { call_named self.now.ask.now.name ≡ Some Usrmem }
@@ -300,7 +300,7 @@ impl Caller<'_> {
     }
 
     /// USRMEM on this inferior: the output gets its word, and then the new one is stored.
-    #[tactic(auto, using(crate::proofs::InferiorLaws::other_word, crate::proofs::InferiorLaws::other_stored), unfolding(its_plain::specs::View::view))]
+    #[tactic(auto, using(crate::proofs::InferiorLaws::other_word, crate::proofs::InferiorLaws::other_stored), unfolding(its_plain::specs::Machine::View::view))]
     fn usrmem_on(&self, inferior: u8, write: bool, at: u32) -> Decision
         requires { Targets self.now (input self.now.ask.now 0) inferior }
         ensures { result ≡ usrmem_on (looks self.now) self.now.ask.now (On inferior write at) }
@@ -332,7 +332,7 @@ impl Caller<'_> {
     }
 
     /// UCLOSE channel: the inferior and all jobs below it are removed. Errors 4, 5.
-    #[tactic(auto, using(its_machine::proofs::NumberLaws::under), unfolding(its_plain::specs::CallUsr::uclose, its_plain::specs::View::view))]
+    #[tactic(auto, using(its_shared::proofs::NumberLaws::under), unfolding(its_plain::specs::Call::Usr::uclose, its_plain::specs::Machine::View::view))]
     pub(crate) fn uclose(&self) -> Decision
         ensures { result ≡ uclose (looks self.now) self.now.ask.now }
     {

@@ -2,11 +2,11 @@
 ghost use Rattle.std.specs.Prelude.{◌≡◌, ◌-◌, [], true, None, Some, IfSome};
 ghost use Rattle.its_frame.specs.declared.name.CallName.TheVariants.{Siot};
 ghost use Rattle.its_jobs.specs.Table.{job_at};
-ghost use Rattle.its_machine.specs.Called.{channel_under};
-ghost use Rattle.its_plain.specs.Arguments.{input};
-ghost use Rattle.its_plain.specs.CallDevice.{siot_call};
-ghost use Rattle.its_plain.specs.CallStep.{decision};
-ghost use Rattle.its_plain.specs.Decide.{call_named, reach};
+ghost use Rattle.its_shared.specs.Called.{channel_under};
+ghost use Rattle.its_plain.specs.Call.Arguments.{input};
+ghost use Rattle.its_plain.specs.Call.Device.{siot_call};
+ghost use Rattle.its_plain.specs.Call.Step.{decision};
+ghost use Rattle.its_plain.specs.Call.Decide.{call_named, reach};
 ghost use Rattle.its_decide.specs.Called.{looks};
 ghost use Rattle.its_decide.specs.Fits.{SeenFits};
 ghost use Rattle.its_decide.specs.Moving.{change_of, found, halted, moved_by, moved_on, moving, next_moved, outcome};
@@ -92,7 +92,7 @@ fn moving(m: &NextMove) -> Decision
 
 impl Caller<'_> {
     /// The decision of a SIOT that moves nothing.
-    #[tactic(auto, unfolding(its_plain::specs::View::view))]
+    #[tactic(auto, unfolding(its_plain::specs::Machine::View::view))]
     pub(crate) fn halts(&self, halt: Halt) -> Decision
         ensures { result ≡ halted (looks self.now) self.now.ask.now halt }
     {
@@ -130,7 +130,7 @@ impl Caller<'_> {
     /// What SIOT moves next, if its channel is on a console, a file, a draft or a link: exactly
     /// what its decision moves.
     #[inline(always)]
-    #[tactic(auto, using(its_machine::proofs::NumberLaws::under), unfolding(its_plain::specs::CallDevice::siot_call, its_plain::specs::View::view))]
+    #[tactic(auto, using(its_shared::proofs::NumberLaws::under), unfolding(its_plain::specs::Call::Device::siot_call, its_plain::specs::Machine::View::view))]
     fn next_move(&self) -> Option<NextMove>
         requires fits { SeenFits self.now.seen.now }
         ensures moves { IfSome result (λ m. moving m ≡ siot_call (looks self.now) self.now.ask.now) }
@@ -153,7 +153,7 @@ impl Caller<'_> {
 /// decoding gave no error, and it reaches no other job. Then its decision is this, and disturbs
 /// nobody. None says that one of the three does not hold, or that the decision moves nothing.
 #[inline(always)]
-#[tactic(auto, using(crate::proofs::SiotLaws::siot_target, crate::proofs::SiotLaws::moved_failed, crate::proofs::SiotLaws::moved_other, crate::proofs::SiotLaws::moved_reaching, crate::proofs::SiotLaws::moved_next), unfolding(its_plain::specs::CallStep::decision, its_plain::specs::Decide::decided, its_plain::specs::Decide::reach))]
+#[tactic(auto, using(crate::proofs::Groups::next_move_laws), unfolding(its_plain::specs::Call::Step::decision, its_plain::specs::Call::Decide::decided, its_plain::specs::Call::Decide::reach))]
 pub fn next_move(seen: &Seen<'_>, slot: Slot, job: &Job, ask: &Ask) -> Option<NextMove>
     requires job { job_at seen.now.jobs.now slot ≡ Some job.now }
     requires fits { SeenFits seen.now }

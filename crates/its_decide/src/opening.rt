@@ -1,6 +1,6 @@
 //! What all calls OPEN test, whatever their device.
 ghost use Rattle.std.specs.Prelude.{◌≡◌, ◌&&◌, nat_lt, unwrap_or};
-ghost use Rattle.its_plain.specs.CallBasic.{channel_at, is_shut};
+ghost use Rattle.its_plain.specs.Call.Basic.{channel_at, is_shut};
 ghost use Rattle.its_decide.specs.Called.{looks};
 
 use super::caller::Caller;
@@ -19,7 +19,7 @@ impl Caller<'_> {
     }
 
     /// Whether a number is that of a closed channel.
-    #[tactic(auto, using(its_machine::proofs::NumberLaws::under), unfolding(its_plain::specs::View::view))]
+    #[tactic(auto, using(its_shared::proofs::NumberLaws::under), unfolding(its_plain::specs::Machine::View::view))]
     pub(crate) fn is_free(&self, number: Word) -> bool
         ensures { result ≡ (nat_lt number 16 && is_shut (channel_at (looks self.now).own.channels number)) }
     {

@@ -2,9 +2,9 @@
 ghost use Rattle.std.specs.Prelude.{◌≡◌};
 ghost use Rattle.its_jobs.specs.Table.{superior_at};
 ghost use Rattle.its_records.specs.Tree.{slots_below};
-ghost use Rattle.its_plain.specs.Change.{superiors};
-ghost use Rattle.its_plain.specs.Decide.{reach};
-ghost use Rattle.its_plain.specs.Footprint.{among};
+ghost use Rattle.its_plain.specs.Machine.Change.{superiors};
+ghost use Rattle.its_plain.specs.Call.Decide.{reach};
+ghost use Rattle.its_plain.specs.Call.Footprint.{among};
 ghost use Rattle.its_decide.specs.Reach.{is_listed, slots_of};
 ghost use Rattle.its_decide.specs.Seen.{machine_seen, raw_with};
 
@@ -25,7 +25,7 @@ pub enum Disturbed {
 }
 
 /// Whom the commit of the call of a slot's job disturbs, whose registers these are.
-#[tactic(auto, unfolding(its_plain::specs::Decide::reach))]
+#[tactic(auto, unfolding(its_plain::specs::Call::Decide::reach))]
 pub fn disturbed_by(seen: &Seen<'_>, slot: Slot, job: &Job, ask: &Ask) -> Disturbed
     ensures { slots_of result (machine_seen seen.now) slot (superior_at seen.now.jobs.now slot) ≡ reach (machine_seen seen.now) slot (raw_with seen.now slot job.now) ask.now }
 {

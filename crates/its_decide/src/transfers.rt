@@ -3,11 +3,11 @@ ghost use Rattle.std.specs.Prelude.{◌≡◌, ◌==◌, ◌||◌, true, false, 
 ghost use Rattle.its_word.specs.Byte.{has_size, size};
 ghost use Rattle.its_core.specs.Cores.{core_at};
 ghost use Rattle.its_frame.specs.declared.decision.Decision.{Decision as DecisionOf};
-ghost use Rattle.its_plain.specs.Arguments.{input, place_of_input};
-ghost use Rattle.its_plain.specs.CallBasic.{shared_place};
-ghost use Rattle.its_plain.specs.Footprint.{in_footprint};
-ghost use Rattle.its_plain.specs.Transfer.{is_indexed, next_pointer, siot_by, siot_tests, word_bits};
-ghost use Rattle.its_machine.specs.Called.{bar_of, first_of};
+ghost use Rattle.its_plain.specs.Call.Arguments.{input, place_of_input};
+ghost use Rattle.its_plain.specs.Call.Basic.{shared_place};
+ghost use Rattle.its_plain.specs.Call.Footprint.{in_footprint};
+ghost use Rattle.its_plain.specs.Call.Transfer.{is_indexed, next_pointer, siot_by, siot_tests, word_bits};
+ghost use Rattle.its_shared.specs.Called.{bar_of, first_of};
 ghost use Rattle.its_decide.specs.Called.{looks};
 ghost use Rattle.its_decide.specs.Moving.{halted, halted_by};
 
@@ -15,20 +15,9 @@ use super::caller::Caller;
 use super::moving::Halt;
 use its_bytes::{has_size, increment};
 use its_frame::error;
-use its_machine::are_apart;
-use its_word::{Fault, Word};
-
-/// Bits 13 to 17 of a byte pointer, I and X, are the low five bits of its left half.
-const INDEXED: u32 = 0o40;
-
-/// S of a byte pointer, bits 6 to 11, is in its left half from this bit on, and has as many values.
-const SIZE: u32 = 0o100;
-
-/// S of a pointer to whole words.
-const WORD_BITS: u32 = 36;
-
-/// The bit 0 of a word.
-const BIT_0: u64 = 0o400000000000;
+use its_shared::are_apart;
+use its_word::pointer::{INDEXED, SIZE, SIZES, WORD_BITS};
+use its_word::{BIT_0, Fault, Word};
 
 impl Caller<'_> {
     /// The pointer to the next byte of SIOT, if no test of its arguments stops it; or what the
@@ -49,7 +38,7 @@ impl Caller<'_> {
     /// What the first of SIOT's tests says that holds: errors 17, WRO, 21, 22, the end with count 0
     /// or if its channel is at its end (of a file or of an inferior's core), and error 20. `words`
     /// says that the channel moves only whole words.
-    #[tactic(auto, unfolding(its_plain::specs::View::view))]
+    #[tactic(auto, unfolding(its_plain::specs::Machine::View::view))]
     #[inline(always)]
     fn stop(&self, words: bool, at_end: bool) -> Option<Halt>
         ensures { halted_by (looks self.now) self.now.ask.now result ≡ first_of (siot_tests (looks self.now) self.now.ask.now (input self.now.ask.now 1) (input self.now.ask.now 2) words at_end) }
@@ -131,7 +120,7 @@ fn next_pointer(pointer: Word) -> Word
 fn is_word_sized(pointer: Word) -> bool
     ensures { result ≡ (size pointer == word_bits) }
 {
-    pointer.left() / SIZE % SIZE == WORD_BITS
+    pointer.left() / SIZE % SIZES == WORD_BITS
 }
 
 /// Whether I or X of a byte pointer is not 0.

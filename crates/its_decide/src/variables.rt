@@ -1,9 +1,9 @@
 //! USRVAR: the variables of jobs.
 ghost use Rattle.std.specs.Prelude.{if◌then◌else◌, ◌≡◌, Some, None};
-ghost use Rattle.its_plain.specs.Arguments.{input};
+ghost use Rattle.its_plain.specs.Call.Arguments.{input};
 ghost use Rattle.its_frame.specs.Variables.{variable_named};
-ghost use Rattle.its_plain.specs.CallBasic.{by_oneself, by_superior, other_variable, own_variable, usrvar, value_of_other};
-ghost use Rattle.its_plain.specs.Own.{with_advance, exit_of, variable_of, with_variable};
+ghost use Rattle.its_plain.specs.Call.Basic.{by_oneself, by_superior, other_variable, own_variable, usrvar, value_of_other};
+ghost use Rattle.its_plain.specs.Machine.Own.{with_advance, exit_of, variable_of, with_variable};
 ghost use Rattle.its_decide.specs.Called.{looks};
 ghost use Rattle.its_decide.specs.Seen.{raw_with};
 
@@ -18,7 +18,7 @@ impl Caller<'_> {
     /// USRVAR job, name, optional new value: the output gets the value before, and then the new
     /// value is set. Errors 4 if the channel is closed, 5 if it is on no job, 22 if no variable has
     /// the name, 5 if the channel has no leave to write, and 22 if the variable cannot be set so.
-    #[tactic(auto, using(its_machine::proofs::NumberLaws::under), unfolding(its_plain::specs::CallBasic::usrvar, its_plain::specs::View::view))]
+    #[tactic(auto, using(its_shared::proofs::NumberLaws::under), unfolding(its_plain::specs::Call::Basic::usrvar, its_plain::specs::Machine::View::view))]
     pub(crate) fn usrvar(&self) -> Decision
         ensures { result ≡ usrvar (looks self.now) self.now.ask.now }
     {
@@ -34,7 +34,7 @@ impl Caller<'_> {
     }
 
     /// USRVAR on oneself.
-    #[tactic(auto, using(its_machine::proofs::BareLaws::set_bare), unfolding(its_plain::specs::View::view))]
+    #[tactic(auto, using(its_shared::proofs::BareLaws::set_bare), unfolding(its_plain::specs::Machine::View::view))]
     fn own_variable(&self) -> Decision
         ensures { result ≡ own_variable (looks self.now) self.now.ask.now (variable_named (input self.now.ask.now 1)) }
     {
@@ -59,7 +59,7 @@ impl Caller<'_> {
 
     /// The registers of the caller whose call finishes and sets a variable of its own; None if it
     /// may not set that itself.
-    #[tactic(auto, unfolding(its_plain::specs::Own::with_variable))]
+    #[tactic(auto, unfolding(its_plain::specs::Machine::Own::with_variable))]
     fn set(&self, variable: Variable, value: Word) -> Option<Exit>
         ensures { result ≡ (if by_oneself variable then Some (exit_of (with_variable variable value (with_advance 2 self.now.job.now))) else None) }
     {
@@ -77,7 +77,7 @@ impl Caller<'_> {
     }
 
     /// USRVAR through a channel on an inferior.
-    #[tactic(auto, unfolding(its_plain::specs::View::view))]
+    #[tactic(auto, unfolding(its_plain::specs::Machine::View::view))]
     fn other_variable(&self, inferior: u8, write: bool) -> Decision
         ensures { result ≡ other_variable (looks self.now) self.now.ask.now inferior write (variable_named (input self.now.ask.now 1)) }
     {
@@ -100,7 +100,7 @@ impl Caller<'_> {
     }
 
     /// The value of a variable of the job into which the call reaches, an inferior in a slot.
-    #[tactic(auto, unfolding(its_plain::specs::View::view))]
+    #[tactic(auto, unfolding(its_plain::specs::Machine::View::view))]
     fn other_value(&self, inferior: u8, variable: Variable) -> Word
         ensures { result ≡ value_of_other inferior variable (looks self.now).other }
     {
@@ -129,5 +129,5 @@ fn by_superior(variable: Variable) -> bool
 fn variable_of(seen: &Seen<'_>, index: u8, slot: Slot, job: &Job, variable: Variable) -> Word
     ensures { result ≡ variable_of index (raw_with seen.now slot job.now) variable }
 {
-    its_machine::variable_of(seen.core, seen.jobs, index, slot, job, variable)
+    its_shared::variable_of(seen.core, seen.jobs, index, slot, job, variable)
 }

@@ -3,9 +3,9 @@ ghost use Rattle.std.specs.Prelude.{◌≡◌, ◌<◌, ◌∷◌, ◌^◌, [], 
 ghost use Rattle.std.specs.Option.{option_to_list};
 ghost use Rattle.its_frame.specs.declared.change.Change.TheVariants.{Move};
 ghost use Rattle.its_frame.specs.declared.decision.Decision.TheVariants.{Ends};
-ghost use Rattle.its_plain.specs.Arguments.{input};
-ghost use Rattle.its_plain.specs.CallFile.{siot_read};
-ghost use Rattle.its_plain.specs.Own.{with_advance, exit_of};
+ghost use Rattle.its_plain.specs.Call.Arguments.{input};
+ghost use Rattle.its_plain.specs.Call.File.{siot_read};
+ghost use Rattle.its_plain.specs.Machine.Own.{with_advance, exit_of};
 ghost use Rattle.its_decide.specs.Called.{looks};
 ghost use Rattle.its_decide.specs.Moving.{outcome};
 ghost use Rattle.its_decide.specs.declared.moving.Shift.TheVariants.{Move as ShiftTo};
@@ -15,9 +15,6 @@ use super::ends::{ends, store_at};
 use super::moving::{Halt, NextMove, Shift, one_moved};
 use its_frame::{Change, Decision, Held};
 use its_word::Word;
-
-/// What `.IOT` gets at the end of a file, and of an inferior's core.
-pub(crate) const END_OF_FILE: u64 = 0o777777000003;
 
 impl Caller<'_> {
     /// The channel of a call has another position.
@@ -61,7 +58,7 @@ impl Caller<'_> {
     /// pointer; the position that it came from is one more. MPV or WRO by the word that it will be
     /// stored in.
     #[inline(always)]
-    #[tactic(auto, unfolding(its_plain::specs::View::view))]
+    #[tactic(auto, unfolding(its_plain::specs::Machine::View::view))]
     pub(crate) fn siot_gets(&self, next: Word, at: u32, word: Word) -> Result<NextMove, Halt>
         requires number { input self.now.ask.now 0 < 16 }
         requires few { at < 2 ^ 18 }

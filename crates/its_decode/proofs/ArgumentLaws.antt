@@ -14,20 +14,22 @@ use Rattle.its_records.specs.declared.calls.Kind.{Kind}
 use Rattle.its_records.specs.declared.calls.Placed.{Placed}
 use Rattle.its_word.specs.Address.{address}
 use Rattle.its_word.specs.declared.access.Address.{Address}
-use Rattle.its_plain.specs.Traced.{Located, also, gives, goes_on, located, located_by}
-use Rattle.its_plain.specs.Decode.{argument, argument_at, arguments, control_of, error_at_of, input_of, kind_of, operand_of, output_of}
+use Rattle.its_plain.specs.Unit.Trace.{Located, also, gives, goes_on, located, located_by}
+use Rattle.its_plain.specs.Call.Decode.{argument, argument_at, arguments, control_of, error_at_of, input_of, kind_of, operand_of, output_of}
 use Rattle.its_decode.specs.declared.arguments.Progress.{Progress}
 use Rattle.its_decode.specs.Gathering.{Added, Fetched, First, Gathered, HasRoom, Holds, Longer}
 
 -- an argument whose address is found, and which is one
-pub argument_ok : (c : Core) (w used after : ℕ) (k : Kind) (a : Address) (x : Arg) → k ≡ kind_of w → Ok a ≡ (address c w used).answer → after ≡ (address c w used).used
+pub argument_ok : (c : Core) (w used after : ℕ) (k : Kind) (a : Address) (x : Arg) → k ≡ kind_of w → Ok a ≡ (address c w used).answer
+    → after ≡ (address c w used).used
     → (argument_at k c a.e).answer ≡ Ok x → Ok (record { argument = x; used = after }) ≡ (argument c w used).answer
 unfolding argument also located
 argument_ok c w used after k a x of h u is =
     let n = (address c w used).used in
     let m = located c w used in
     let placed = λ (v : ℕ) (y : Arg). gives {X = Placed} (record { argument = y; used = v }) in
-    let rest = λ (k : Kind) (f : Located). goes_on (argument_at k c f.at.e).reads (argument_at k c f.at.e).tests (argument_at k c f.at.e).answer (placed f.used) in
+    let rest = λ (k : Kind) (f : Located). goes_on (argument_at k c f.at.e).reads (argument_at k c f.at.e).tests
+    (argument_at k c f.at.e).answer (placed f.used) in
     ap (λ (v : ℕ). (placed v x).answer) u
     ∙ sym (ap (λ r. (goes_on (argument_at k c a.e).reads (argument_at k c a.e).tests r (placed n)).answer) is)
     ∙ ap (λ r. (goes_on m.reads m.tests (located_by r n) (rest k)).answer) h
@@ -39,14 +41,18 @@ pub record Finding (c : Core) (words : List ℕ) (used : ℕ) (reads rest : List
   pub places : seen ++ (arguments rest c now found).reads ≡ reads ++ (arguments words c used []).reads
 
 arguments_ok : (c : Core) (w : ℕ) (ws : List ℕ) (used : ℕ) (found : List Arg) (x : Placed) → (argument c w used).answer ≡ Ok x
-    → arguments (w ∷ ws) c used found ≡ goes_on (argument c w used).reads (argument c w used).tests (Ok x) (λ (y : Placed). arguments ws c y.used (found ++ y.argument ∷ []))
+    → arguments (w ∷ ws) c used found ≡ goes_on (argument c w used).reads (argument c w used).tests (Ok x)
+    (λ (y : Placed). arguments ws c y.used (found ++ y.argument ∷ []))
 unfolding arguments also
-arguments_ok c w ws used found x h = ap (λ r. goes_on (argument c w used).reads (argument c w used).tests r (λ (y : Placed). arguments ws c y.used (found ++ y.argument ∷ []))) h
+arguments_ok c w ws used found x h = ap (λ r. goes_on (argument c w used).reads (argument c w used).tests r
+    (λ (y : Placed). arguments ws c y.used (found ++ y.argument ∷ []))) h
 
 arguments_err : (c : Core) (w : ℕ) (ws : List ℕ) (used : ℕ) (found : List Arg) (f : Fault) → (argument c w used).answer ≡ Err f
-    → arguments (w ∷ ws) c used found ≡ goes_on (argument c w used).reads (argument c w used).tests (Err f) (λ (y : Placed). arguments ws c y.used (found ++ y.argument ∷ []))
+    → arguments (w ∷ ws) c used found ≡ goes_on (argument c w used).reads (argument c w used).tests (Err f)
+    (λ (y : Placed). arguments ws c y.used (found ++ y.argument ∷ []))
 unfolding arguments also
-arguments_err c w ws used found f h = ap (λ r. goes_on (argument c w used).reads (argument c w used).tests r (λ (y : Placed). arguments ws c y.used (found ++ y.argument ∷ []))) h
+arguments_err c w ws used found f h = ap (λ r. goes_on (argument c w used).reads (argument c w used).tests r
+    (λ (y : Placed). arguments ws c y.used (found ++ y.argument ∷ []))) h
 
 arguments_none : (c : Core) (used : ℕ) (found : List Arg) → arguments [] c used found ≡ gives (record { items = found })
 unfolding arguments
@@ -56,7 +62,8 @@ finding_more : (c : Core) (words : List ℕ) (used : ℕ) (reads : List ℕ) (i 
     → Finding c words used reads (drop i words) now found seen → w ≡ get_or words i w → i < length words → Ok x ≡ (argument c w now).answer → after ≡ x.used
     → new ≡ seen ++ (argument c w now).reads → Finding c words used reads (drop (i + 1) words) after (found ++ x.argument ∷ []) new
 finding_more c words used reads i now w after found seen new x f is l h a n =
-    let e = ap (λ ws. arguments ws c now found) (drop_more words i w l ∙ ap (λ v. v ∷ drop (i + 1) words) (sym is)) ∙ arguments_ok c w (drop (i + 1) words) now found x (sym h) in
+    let e = ap (λ ws. arguments ws c now found) (drop_more words i w l ∙ ap (λ v. v ∷ drop (i + 1) words) (sym is))
+    ∙ arguments_ok c w (drop (i + 1) words) now found x (sym h) in
     subst (λ (u : ℕ). Finding c words used reads (drop (i + 1) words) u (found ++ x.argument ∷ []) new) (sym a)
     (record {
       answer = ap (λ t. t.answer) (sym e) ∙ f.answer;
@@ -68,7 +75,8 @@ finding_more c words used reads i now w after found seen new x f is l h a n =
     })
 
 -- a list, and the first of some values and their number, with one argument more
-all_more : {X : Type 0} (h : Arg → Option X) (xs : List Arg) (x : Arg) (o : Option X) → h x ≡ o → filter_map h (xs ++ x ∷ []) ≡ filter_map h xs ++ cons_option o []
+all_more : {X : Type 0} (h : Arg → Option X) (xs : List Arg) (x : Arg) (o : Option X) → h x ≡ o
+    → filter_map h (xs ++ x ∷ []) ≡ filter_map h xs ++ cons_option o []
 all_more h xs x o e = filter_map-append h xs (x ∷ []) ∙ ap (λ y. filter_map h xs ++ cons_option y []) e
 
 longer : {X : Type 0} (h : Arg → Option X) (xs : List Arg) (x : Arg) (o : Option X) (old new : List X) → h x ≡ o → Longer o old new → old ≡ filter_map h xs
@@ -80,7 +88,8 @@ first_more : {X : Type 0} (ys : List X) (y : X) → option_or (slice_get ys 0) (
 first_more [] y = refl
 first_more (x ∷ ys) y = refl
 
-firsts : {X : Type 0} (h : Arg → Option X) (xs : List Arg) (x : Arg) (o old new : Option X) (n m : ℕ) → h x ≡ o → First o old new n m → old ≡ slice_get (filter_map h xs) 0
+firsts : {X : Type 0} (h : Arg → Option X) (xs : List Arg) (x : Arg) (o old new : Option X) (n m : ℕ) → h x ≡ o → First o old new n m
+    → old ≡ slice_get (filter_map h xs) 0
     → n ≡ length (filter_map h xs) → (new ≡ slice_get (filter_map h (xs ++ x ∷ [])) 0) × (m ≡ length (filter_map h (xs ++ x ∷ [])))
 firsts h xs x None old new n m e f is number =
     let all = sym (all_more h xs x None e ∙ append-nil (filter_map h xs)) in
@@ -130,7 +139,8 @@ pub record Gathering (c : Core) (words : List ℕ) (used : ℕ) (reads : List �
   pub same : Finding c words used reads (drop i words) p.used found a.decode.items
   pub holds : Holds c found a p
 
-pub gathering_begins : (c : Core) (words : List ℕ) (used : ℕ) (a : Ask) (p : Progress) → p.used ≡ used → Holds c [] a p → Gathering c words used a.decode.items 0 a p
+pub gathering_begins : (c : Core) (words : List ℕ) (used : ℕ) (a : Ask) (p : Progress) → p.used ≡ used → Holds c [] a p
+    → Gathering c words used a.decode.items 0 a p
 gathering_begins c words used a p u h = record {
   found = [];
   number = refl;
@@ -138,7 +148,8 @@ gathering_begins c words used a p u h = record {
   holds = h;
 }
 
-pub gathering_room : (c : Core) (words : List ℕ) (used : ℕ) (reads : List ℕ) (i : ℕ) (a : Ask) (p : Progress) → Gathering c words used reads i a p → i < 8 → HasRoom a p
+pub gathering_room : (c : Core) (words : List ℕ) (used : ℕ) (reads : List ℕ) (i : ℕ) (a : Ask) (p : Progress)
+    → Gathering c words used reads i a p → i < 8 → HasRoom a p
 gathering_room c words used reads i a p g l = let n = g.number in holds_room c g.found a p g.holds (omega arith)
 
 pub gathering_more : (c : Core) (words : List ℕ) (used : ℕ) (reads : List ℕ) (i w : ℕ) (a b : Ask) (p q : Progress) → Gathering c words used reads i a p
@@ -151,7 +162,8 @@ gathering_more c words used reads i w a b p q g is l f r = record {
   holds = holds_more c g.found f.placed.argument a b p q g.holds f.added;
 }
 
-pub gathering_fails : (c : Core) (words : List ℕ) (used : ℕ) (reads : List ℕ) (i w : ℕ) (a : Ask) (p : Progress) (f : Fault) → Gathering c words used reads i a p
+pub gathering_fails : (c : Core) (words : List ℕ) (used : ℕ) (reads : List ℕ) (i w : ℕ) (a : Ask) (p : Progress) (f : Fault)
+    → Gathering c words used reads i a p
     → w ≡ get_or words i w → i < length words → Err f ≡ (argument c w p.used).answer → (arguments words c used []).answer ≡ Err f
 gathering_fails c words used reads i w a p f g is l h =
     let e =
@@ -160,7 +172,8 @@ gathering_fails c words used reads i w a p f g is l h =
     in
     sym g.same.answer ∙ ap (λ t. t.answer) e
 
-pub gathering_ends : (c : Core) (words : List ℕ) (used : ℕ) (i : ℕ) (old new : Ask) (p : Progress) → Gathering c words used old.decode.items i new p → length words ≤ i
+pub gathering_ends : (c : Core) (words : List ℕ) (used : ℕ) (i : ℕ) (old new : Ask) (p : Progress)
+    → Gathering c words used old.decode.items i new p → length words ≤ i
     → Gathered c words used old new p
 gathering_ends c words used i old new p g l =
     let e = ap (λ ws. arguments ws c p.used g.found) (drop_of_length-le words l) ∙ arguments_none c p.used g.found in

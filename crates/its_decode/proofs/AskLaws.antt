@@ -6,15 +6,19 @@ use Rattle.its_word.specs.declared.access.Fault.{Fault}
 use Rattle.its_records.specs.declared.calls.Arg.{Arg}
 use Rattle.its_records.specs.declared.calls.Ask.{Ask}
 use Rattle.its_records.specs.declared.calls.Site.{Site}
-use Rattle.its_plain.specs.UnitPlan.{given}
-use Rattle.its_plain.specs.Decode.{arguments, ask, ask_of, error_by, exceeds, name_of, row_named, words_of}
+use Rattle.its_plain.specs.Unit.Plans.{given}
+use Rattle.its_plain.specs.Call.Decode.{arguments, ask, ask_of, error_by, exceeds, name_of, row_named, words_of}
 use Rattle.its_stepped.specs.TwoParts.{block_places, fetch_of, fetched, parse_of}
-use Rattle.its_stepped.proofs.TwoLaws.{ask_after_parse, ask_unparsed}
+use Rattle.its_stepped.proofs.Frame.TwoLaws.{ask_after_parse, ask_unparsed}
 use Rattle.its_decode.specs.declared.arguments.Progress.{Progress}
 use Rattle.its_decode.specs.Gathering.{Gathered, Holds}
 
 asked_is : (c : Core) (decode block : List ℕ) (xs : List Arg) (a : Ask) (p : Progress) → Holds c xs a p → a.decode.items ≡ decode
-    → record a { name = name_of block; fail = error_by (row_named (name_of block)) (length a.inputs.items) (length a.outputs.items) (exceeds p.errors p.controls (words_of block)) }
+    → record a {
+      name = name_of block;
+      fail = error_by (row_named (name_of block)) (length a.inputs.items) (length a.outputs.items)
+          (exceeds p.errors p.controls (words_of block));
+    }
     ≡ ask_of c decode (record { block = block; arguments = xs })
 unfolding ask_of
 asked_is c decode block xs a p h d =
@@ -37,17 +41,30 @@ unfolding fetched
 fetched_ok c s b old new p words name fail g ws d n f =
     let reads = (arguments (words_of b.items) c s.used []).reads in
     let answer = ap (λ xs. (arguments xs c s.used []).answer) (sym ws) ∙ g.answer in
-    let all = g.reads ∙ ap (λ ps. ps ++ (arguments words c s.used []).reads) d ∙ ap (λ xs. s.decode.items ++ block_places s.e b.items ++ (arguments xs c s.used []).reads) ws in
+    let all = g.reads ∙ ap (λ ps. ps ++ (arguments words c s.used []).reads) d
+    ∙ ap (λ xs. s.decode.items ++ block_places s.e b.items ++ (arguments xs c s.used []).reads) ws in
     let named : record new { name = name; fail = fail }
-    ≡ record new { name = name_of b.items; fail = error_by (row_named (name_of b.items)) (length new.inputs.items) (length new.outputs.items) (exceeds p.errors p.controls (words_of b.items)) } =
+    ≡ record new {
+      name = name_of b.items;
+      fail = error_by (row_named (name_of b.items)) (length new.inputs.items)
+          (length new.outputs.items) (exceeds p.errors p.controls (words_of b.items));
+    } =
     ap (λ (v : ℕ). record new { name = name; fail = v }) f
-    ∙ ap (λ (v : ℕ). record new { name = v; fail = error_by (row_named v) (length new.inputs.items) (length new.outputs.items) (exceeds p.errors p.controls words) }) n
-    ∙ ap (λ (v : List ℕ). record new { name = name_of b.items; fail = error_by (row_named (name_of b.items)) (length new.inputs.items) (length new.outputs.items) (exceeds p.errors p.controls v) }) ws
+    ∙ ap (λ (v : ℕ). record new {
+      name = v;
+      fail = error_by (row_named v) (length new.inputs.items) (length new.outputs.items)
+          (exceeds p.errors p.controls words);
+    }) n
+    ∙ ap (λ (v : List ℕ). record new {
+      name = name_of b.items;
+      fail = error_by (row_named (name_of b.items)) (length new.inputs.items) (length new.outputs.items) (exceeds p.errors p.controls v);
+    }) ws
     in
     ap (λ r. given r (λ xs. Ok (ask_of c (s.decode.items ++ block_places s.e b.items ++ reads) (record { block = b.items; arguments = xs.items })))) answer
     ∙ ap Ok (sym (named ∙ asked_is c _ b.items g.found new p g.holds all))
 
-pub fetched_err : (c : Core) (s : Site) (b : ArrayVec ℕ) (words : List ℕ) (f : Fault) → (arguments words c s.used []).answer ≡ Err f → words ≡ words_of b.items → fetched c s b ≡ Err f
+pub fetched_err : (c : Core) (s : Site) (b : ArrayVec ℕ) (words : List ℕ) (f : Fault) → (arguments words c s.used []).answer ≡ Err f
+    → words ≡ words_of b.items → fetched c s b ≡ Err f
 unfolding fetched
 fetched_err c s b words f h ws =
     let reads = (arguments (words_of b.items) c s.used []).reads in

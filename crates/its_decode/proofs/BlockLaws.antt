@@ -2,13 +2,14 @@
 use Rattle.std.proofs.Common.{◌≡◌, ◌<◌, ◌≤◌, ◌+◌, ◌-◌, ◌%◌, ◌^◌, ℕ, suc, true, false, List, [], ◌∷◌, ◌++◌, Ok, Err, refl, sym, ◌∙◌, ap, arith}
 use Rattle.its_word.specs.Core.{Core}
 use Rattle.its_word.specs.declared.access.Fault.{Fault}
-use Rattle.its_plain.specs.UnitPlan.{read_of}
-use Rattle.its_plain.specs.Traced.{Traced, also, goes_on, word}
-use Rattle.its_plain.specs.Decode.{argument_words, has_bit_0, up_to_last}
+use Rattle.its_plain.specs.Unit.Plans.{read_of}
+use Rattle.its_plain.specs.Unit.Trace.{Traced, also, goes_on, word}
+use Rattle.its_plain.specs.Call.Decode.{argument_words, has_bit_0, up_to_last}
 
 -- with i words read
 words_suc : (n m : ℕ) (c : Core) (a : ℕ) (seen : List ℕ) → n ≡ suc m
-    → (argument_words n c a seen).answer ≡ (also (word c (a % 2 ^ 18)) (λ w. up_to_last (has_bit_0 w) (λ ws. argument_words m c (a + 1) ws) (seen ++ w ∷ []))).answer
+    → (argument_words n c a seen).answer ≡ (also (word c (a % 2 ^ 18))
+    (λ w. up_to_last (has_bit_0 w) (λ ws. argument_words m c (a + 1) ws) (seen ++ w ∷ []))).answer
 unfolding argument_words
 words_suc n m c a seen h = rw h refl
 
@@ -36,7 +37,8 @@ words_last c a i seen w l h b =
     ∙ read_ok c ((a + i) % 2 ^ 18) w _ (sym h)
     ∙ ap (λ t. (up_to_last t (λ ws. argument_words (8 - (i + 1)) c (a + i + 1) ws) (seen ++ w ∷ [])).answer) b
 
-pub words_absent : (c : Core) (a i : ℕ) (seen : List ℕ) (f : Fault) → i < 8 → Err f ≡ read_of c ((a + i) % 2 ^ 18) → (argument_words (8 - i) c (a + i) seen).answer ≡ Err f
+pub words_absent : (c : Core) (a i : ℕ) (seen : List ℕ) (f : Fault) → i < 8 → Err f ≡ read_of c ((a + i) % 2 ^ 18)
+    → (argument_words (8 - i) c (a + i) seen).answer ≡ Err f
 words_absent c a i seen f l h =
     words_suc (8 - i) (8 - (i + 1)) c (a + i) seen (omega arith) ∙ read_err c ((a + i) % 2 ^ 18) f _ (sym h)
 

@@ -1,3 +1,4 @@
 pub mod BlockLaws
 pub mod ArgumentLaws
 pub mod AskLaws
+pub mod Groups

@@ -13,7 +13,7 @@ use Rattle.its_records.specs.declared.calls.Kind.TheVariants as kinds
 use Rattle.its_records.specs.declared.calls.Placed.{Placed}
 use Rattle.its_records.specs.declared.calls.Source.TheVariants.{Held, Immediate}
 use Rattle.its_word.specs.Word.{pair_of}
-use Rattle.its_plain.specs.Decode.{argument, arguments, control_of, error_at_of, input_of, operand_of, output_of}
+use Rattle.its_plain.specs.Call.Decode.{argument, arguments, control_of, error_at_of, input_of, operand_of, output_of}
 use Rattle.its_decode.specs.declared.arguments.Progress.{Progress}
 
 -- the argument of a kind whose address is e, if there is one

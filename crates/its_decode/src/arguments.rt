@@ -3,7 +3,7 @@ ghost use Rattle.std.specs.Prelude.{◌≡◌, ◌+◌, ◌-◌, ◌*◌, ◌^�
 ghost use Rattle.its_core.specs.Cores.{core_at};
 ghost use Rattle.its_word.specs.Core.{word_at};
 ghost use Rattle.its_word.specs.Limits.{budget};
-ghost use Rattle.its_plain.specs.Decode.{argument, argument_at, arguments, held, kind_of, storable};
+ghost use Rattle.its_plain.specs.Call.Decode.{argument, argument_at, arguments, held, kind_of, storable};
 ghost use Rattle.its_decode.specs.Gathering.{Added, Fetched, Gathered, HasRoom, Holds, argument_for};
 
 use super::block::argument_type;
@@ -21,7 +21,7 @@ pub struct Progress {
 }
 
 /// What an argument word is.
-#[tactic(auto, unfolding(its_plain::specs::Decode::kind_of))]
+#[tactic(auto, unfolding(its_plain::specs::Call::Decode::kind_of))]
 fn kind_of(w: Word) -> Kind
     ensures { result ≡ kind_of w }
 {
@@ -37,7 +37,7 @@ fn kind_of(w: Word) -> Kind
 }
 
 /// The word at a place; Mpv if it is absent.
-#[tactic(auto, unfolding(its_plain::specs::Decode::held))]
+#[tactic(auto, unfolding(its_plain::specs::Call::Decode::held))]
 fn word_held(core: &Core, slot: Slot, e: u32) -> Result<Word, Fault>
     requires address { e < 2 ^ 18 }
     ensures place { OnOk result ((held (core_at core.now slot) e).answer ≡ Ok e) }
@@ -51,7 +51,7 @@ fn word_held(core: &Core, slot: Slot, e: u32) -> Result<Word, Fault>
 }
 
 /// Whether a word can be stored at a place: Mpv if it is absent, Wro if it is read only.
-#[tactic(auto, unfolding(its_plain::specs::Decode::storable))]
+#[tactic(auto, unfolding(its_plain::specs::Call::Decode::storable))]
 fn check_storable(core: &Core, slot: Slot, e: u32) -> Result<(), Fault>
     requires address { e < 2 ^ 18 }
     ensures place { OnOk result ((storable (core_at core.now slot) e).answer ≡ Ok e) }
@@ -65,7 +65,7 @@ fn check_storable(core: &Core, slot: Slot, e: u32) -> Result<(), Fault>
 
 /// Adds the argument of a kind whose address is found to what a call asks for. The first error
 /// address counts, and the first control.
-#[tactic(auto, unfolding(its_plain::specs::Decode::argument_at, its_plain::specs::Traced::also))]
+#[tactic(auto, unfolding(its_plain::specs::Call::Decode::argument_at, its_plain::specs::Unit::Trace::also))]
 fn add_argument(
     core: &Core,
     slot: Slot,
@@ -128,7 +128,7 @@ fn add_argument(
 
 /// Finds the argument of an argument word, and adds it to what a call asks for. The decode words
 /// get the places of the words that are read.
-#[tactic(auto, using(its_plain::proofs::TracedLaws::joined, its_plain::proofs::TracedLaws::ended, its_plain::proofs::ReadLaws::unread), unfolding(its_plain::specs::Decode::argument, its_plain::specs::Traced::also, its_plain::specs::Traced::located))]
+#[tactic(auto, using(crate::proofs::Groups::fetch_argument_laws), unfolding(its_plain::specs::Call::Decode::argument, its_plain::specs::Unit::Trace::also, its_plain::specs::Unit::Trace::located))]
 fn fetch_argument(
     core: &Core,
     slot: Slot,

@@ -2,9 +2,9 @@
 ghost use Rattle.std.specs.Prelude.{◌≡◌, ◌==◌, ◌<◌, ◌≤◌, ◌+◌, ◌*◌, ◌%◌, ◌^◌, ◌++◌, [], length, map, not, None, Ok, Err, IfErr, OnOk};
 ghost use Rattle.std.specs.List.{list_any, range_with_len};
 ghost use Rattle.its_core.specs.Cores.{core_at};
-ghost use Rattle.its_plain.specs.Decode.{ask as asked, error_by, exceeds, has_bit_0, iot_ask, row_named};
+ghost use Rattle.its_plain.specs.Call.Decode.{ask as asked, error_by, exceeds, has_bit_0, iot_ask, row_named};
 ghost use Rattle.its_stepped.specs.TwoParts.{fetch_of, fetched, parse_of};
-ghost use Rattle.its_plain.specs.Footprint.{SiteFits};
+ghost use Rattle.its_plain.specs.Call.Footprint.{SiteFits};
 
 use super::arguments::fetch_arguments;
 use super::block::{has_bit_0, name_of, parse_block, words_of};
@@ -15,7 +15,7 @@ use its_records::{Ask, Block, Operand, Site};
 use its_word::{ADDRESSES, Fault, Slot, Word};
 
 /// The row of a call that a block can name: any but `.IOT`, which has none.
-#[tactic(auto, unfolding(its_plain::specs::Decode::row_named))]
+#[tactic(auto, unfolding(its_plain::specs::Call::Decode::row_named))]
 fn row_named(name: Word) -> Option<CallRow>
     ensures { result ≡ row_named name }
 {
@@ -28,7 +28,7 @@ fn row_named(name: Word) -> Option<CallRow>
 
 /// The error of a call: 1 if no call has the name, 2 if there are too few arguments, 3 if there are
 /// too many, else 0.
-#[tactic(auto, unfolding(its_plain::specs::Decode::error_by))]
+#[tactic(auto, unfolding(its_plain::specs::Call::Decode::error_by))]
 fn error_by(row: Option<CallRow>, inputs: usize, outputs: usize, excess: bool) -> u8
     ensures { result ≡ error_by row inputs outputs excess }
 {
@@ -52,7 +52,7 @@ fn have_end(words: &[Word]) -> bool
 }
 
 /// Whether there is a second error address, a second control, or no end of the argument words.
-#[tactic(auto, unfolding(its_plain::specs::Decode::exceeds))]
+#[tactic(auto, unfolding(its_plain::specs::Call::Decode::exceeds))]
 fn exceeds(errors: usize, controls: usize, words: &[Word]) -> bool
     ensures { result ≡ exceeds errors controls words.now }
 {
@@ -127,7 +127,7 @@ fn fetch_ask(
 }
 
 /// What `.IOT` asks for: its channel is its one input, and E its one output address.
-#[tactic(auto, unfolding(its_plain::specs::Decode::iot_ask))]
+#[tactic(auto, unfolding(its_plain::specs::Call::Decode::iot_ask))]
 fn ask_iot(site: &Site, channel: u8, ask: &mut Ask)
     ensures { ask.new ≡ iot_ask site.now channel }
 {

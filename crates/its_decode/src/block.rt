@@ -2,15 +2,13 @@
 ghost use Rattle.std.specs.Prelude.{◌≡◌, ◌+◌, ◌%◌, ◌^◌, ◌<◌, ◌≤◌, ◌&&◌, length, nat_lt, Ok, Err, IfErr, OnOk};
 ghost use Rattle.std.specs.List.{list_all};
 ghost use Rattle.its_core.specs.Cores.{core_at};
-ghost use Rattle.its_plain.specs.UnitPlan.{read_of};
-ghost use Rattle.its_plain.specs.Decode.{argument_words, block_at, checked, has_bit_0, is_legal, name_of, parsed, type_of, words_of};
+ghost use Rattle.its_plain.specs.Unit.Plans.{read_of};
+ghost use Rattle.its_plain.specs.Call.Decode.{argument_words, block_at, checked, has_bit_0, is_legal, name_of, parsed, type_of, words_of};
 
 use its_core::Core;
+use its_plain::ARGUMENTS;
 use its_records::Block;
 use its_word::{ADDRESSES, Fault, Slot, Word};
-
-/// How many argument words of a block are read.
-const ARGUMENTS: u32 = 8;
 
 /// Bit 0 of a word.
 pub fn has_bit_0(w: Word) -> bool
@@ -43,7 +41,7 @@ pub fn words_of(block: &[Word]) -> &[Word]
 }
 
 /// The word at an address modulo 2^18; Mpv if it is absent.
-#[tactic(auto, unfolding(its_plain::specs::UnitPlan::read_of))]
+#[tactic(auto, unfolding(its_plain::specs::Unit::Plans::read_of))]
 fn read(core: &Core, slot: Slot, a: u32) -> Result<Word, Fault>
     ensures { result ≡ read_of (core_at core.now slot) (a % 2 ^ 18) }
 {
@@ -71,7 +69,7 @@ fn read_words(core: &Core, slot: Slot, a: u32, block: &mut Block) -> Result<(), 
 }
 
 /// Reads the block at an address, whether it is legal or not. Mpv if one of its words is absent.
-#[tactic(auto, unfolding(its_plain::specs::Decode::block_at, its_plain::specs::Traced::also, its_plain::specs::Traced::word))]
+#[tactic(auto, unfolding(its_plain::specs::Call::Decode::block_at, its_plain::specs::Unit::Trace::also, its_plain::specs::Unit::Trace::word))]
 fn read_block(core: &Core, slot: Slot, e: u32, block: &mut Block) -> Result<(), Fault>
     requires address { e < 2 ^ 18 }
     ensures block { OnOk result ((block_at (core_at core.now slot) e).answer ≡ Ok block.new) }
@@ -93,7 +91,7 @@ fn have_types(words: &[Word]) -> bool
 }
 
 /// Whether bit 0 of a block's first word is on, and its arguments have types.
-#[tactic(auto, unfolding(its_plain::specs::Decode::is_legal))]
+#[tactic(auto, unfolding(its_plain::specs::Call::Decode::is_legal))]
 fn is_legal(block: &[Word]) -> bool
     requires { 2 ≤ length block.now }
     ensures { result ≡ is_legal block.now }
@@ -104,7 +102,7 @@ fn is_legal(block: &[Word]) -> bool
 /// Reads the block of a call at an address: its first word, its name, and argument words up to the
 /// first with bit 0 on, at most 8. Mpv if one of its words is absent; else Ilo if bit 0 of the
 /// first word is off, or an argument has no type.
-#[tactic(auto, unfolding(its_plain::specs::Decode::parsed, its_plain::specs::Traced::also))]
+#[tactic(auto, unfolding(its_plain::specs::Call::Decode::parsed, its_plain::specs::Unit::Trace::also))]
 pub fn parse_block(core: &Core, slot: Slot, e: u32, block: &mut Block) -> Result<(), Fault>
     requires address { e < 2 ^ 18 }
     ensures parsed { OnOk result ((parsed (core_at core.now slot) e).answer ≡ Ok block.new) }

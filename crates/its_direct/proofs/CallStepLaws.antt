@@ -23,26 +23,26 @@ use Rattle.its_frame.specs.declared.decision.Decision.{Decision}
 use Rattle.its_frame.specs.declared.decision.Decision.TheVariants.{Waits, Goes, Ends, Gone}
 use Rattle.its_frame.specs.declared.name.CallName.{CallName}
 use Rattle.its_frame.specs.declared.name.CallName.TheVariants.{Logout, Uclose}
-use Rattle.its_plain.specs.Arguments.{input}
-use Rattle.its_plain.specs.Decode.{ask}
-use Rattle.its_plain.specs.CallBasic.{channel_at as chan_at, is_oneself}
-use Rattle.its_plain.specs.CallStep.{Transition, acted, quiet_step, by_ask, decision, with_fault, step, transition, is_made}
-use Rattle.its_plain.specs.Change.{channel_in, in_job, superiors, superior_in}
-use Rattle.its_plain.specs.Decide.{argument_of, call_named, inferior_on, listed, reach, reach_by, target, target_by, with_below}
-use Rattle.its_plain.specs.Footprint.{SiteFits, among}
-use Rattle.its_plain.specs.Job.{bit_of, with_pending}
+use Rattle.its_plain.specs.Call.Arguments.{input}
+use Rattle.its_plain.specs.Call.Decode.{ask}
+use Rattle.its_plain.specs.Call.Basic.{channel_at as chan_at, is_oneself}
+use Rattle.its_plain.specs.Call.Step.{Transition, acted, quiet_step, by_ask, decision, with_fault, step, transition, is_made}
+use Rattle.its_plain.specs.Machine.Change.{channel_in, in_job, superiors, superior_in}
+use Rattle.its_plain.specs.Call.Decide.{argument_of, call_named, inferior_on, listed, reach, reach_by, target, target_by, with_below}
+use Rattle.its_plain.specs.Call.Footprint.{SiteFits, among}
+use Rattle.its_plain.specs.Machine.Registers.{bit_of, with_pending}
 use Rattle.its_plain.specs.Machine.{Chan, On, Machine, Whole}
-use Rattle.its_plain.specs.Turns.{is_running}
+use Rattle.its_plain.specs.Transcript.Turns.{is_running}
 use Rattle.its_plain.proofs.StepLaws.{AllOf, step_by}
 use Rattle.its_plain.proofs.FitsLaws.{site_fits}
-use Rattle.its_machine.specs.Across.{Across, channel_at, channel_by}
-use Rattle.its_machine.specs.Parts.{alarm_at, bare, chan_of, chans_of, raw_machine, raw_of}
+use Rattle.its_shared.specs.Across.{Across, channel_at, channel_by}
+use Rattle.its_shared.specs.Parts.{alarm_at, bare, chan_of, chans_of, raw_machine, raw_of}
 use Rattle.its_stepped.specs.Forest.{Forest, OnInferior}
-use Rattle.its_stepped.proofs.AlarmLaws.{step_alarmed}
-use Rattle.its_stepped.proofs.ConsoledLaws.{step_consoled}
-use Rattle.its_stepped.proofs.FitLaws.{forest_steps}
-use Rattle.its_stepped.proofs.ForestLaws.{channel_of, forest_few, inferior_stands, job_few}
-use Rattle.its_stepped.proofs.UnwindLaws.{filtered_out}
+use Rattle.its_stepped.proofs.Keeping.AlarmLaws.{step_alarmed}
+use Rattle.its_stepped.proofs.Keeping.ConsoledLaws.{step_consoled}
+use Rattle.its_stepped.proofs.Duties.FitLaws.{forest_steps}
+use Rattle.its_stepped.proofs.Keeping.ForestLaws.{channel_of, forest_few, inferior_stands, job_few}
+use Rattle.its_stepped.proofs.Unwinding.UnwindLaws.{filtered_out}
 use Rattle.its_decide.specs.Fits.{SeenFits, OnJob}
 use Rattle.its_decide.specs.Reach.{slots_of}
 use Rattle.its_decide.specs.Seen.{machine_seen, raw_with}
@@ -72,7 +72,8 @@ idle p s o is none = ap is_running (nobody_is p s (sym is ∙ none))
 -- a machine whose parts are lent
 pub lent_machine : (p : Plain) (s : Seen) → Lent p s → machine_seen s ≡ machine_of p
 unfolding machine_of
-lent_machine p s h = λ t. raw_machine (h.files t) (h.core t) (h.jobs t) (h.alarms t).items (h.consoles t).items (h.holders t) (h.clock t) (h.version t) (h.symbols t).items (h.pipes t)
+lent_machine p s h = λ t. raw_machine (h.files t) (h.core t) (h.jobs t) (h.alarms t).items (h.consoles t).items (h.holders t) (h.clock t)
+    (h.version t) (h.symbols t).items (h.pipes t)
 
 pub lent_own : (p : Plain) (s : Seen) (k : ℕ) (j : Job) → Lent p s → raw_with s k j ≡ own_of p k j
 lent_own p s k j h = λ t. record {
@@ -108,7 +109,8 @@ aimed : (p : Plain) → Forest (machine_of p) → (k n : ℕ) → OnJob p.jobs (
 unfolding machine_of
 aimed p d k n = go (job_at p.jobs k) (d.channels k n)
   where
-    go : (o : Option Job) → OnInferior (machine_of p) k (channel_in (raw_of p.files (core_at p.core k) (superior_at p.jobs k) (alarm_at p.alarms.items k) o) n) → OnJob p.jobs (channel_by o n)
+    go : (o : Option Job) → OnInferior (machine_of p) k (channel_in
+        (raw_of p.files (core_at p.core k) (superior_at p.jobs k) (alarm_at p.alarms.items k) o) n) → OnJob p.jobs (channel_by o n)
     go (Some j) h = on_job p k (slice_index_or j.channels n channels.Closed) h
     go None h = tt
 
@@ -123,13 +125,16 @@ lent_fits p s h tidy forest = record {
   limited = ap (λ (t : Table). t.limit) h.jobs ∙ p.limited ∙ ap limit_of (sym h.version);
 }
 
-pub decision_seen : (p : Plain) (s : Seen) (k : ℕ) (j : Job) (a : Ask) → Lent p s → decision (machine_seen s) k (raw_with s k j) a ≡ decision (machine_of p) k (own_of p k j) a
+pub decision_seen : (p : Plain) (s : Seen) (k : ℕ) (j : Job) (a : Ask) → Lent p s
+    → decision (machine_seen s) k (raw_with s k j) a ≡ decision (machine_of p) k (own_of p k j) a
 decision_seen p s k j a h = λ t. decision (lent_machine p s h t) k (lent_own p s k j h t) a
 
-slots_seen : (p : Plain) (s : Seen) (k : ℕ) (w : Disturbed) → Lent p s → slots_of w (machine_seen s) k (superior_at s.jobs.now k) ≡ slots_of w (machine_of p) k (superior_at p.jobs k)
+slots_seen : (p : Plain) (s : Seen) (k : ℕ) (w : Disturbed) → Lent p s
+    → slots_of w (machine_seen s) k (superior_at s.jobs.now k) ≡ slots_of w (machine_of p) k (superior_at p.jobs k)
 slots_seen p s k w h = λ t. slots_of w (lent_machine p s h t) k (superior_at (h.jobs t) k)
 
-pub reach_seen : (p : Plain) (s : Seen) (k : ℕ) (j : Job) (a : Ask) (w : Disturbed) → Lent p s → slots_of w (machine_seen s) k (superior_at s.jobs.now k) ≡ reach (machine_seen s) k (raw_with s k j) a
+pub reach_seen : (p : Plain) (s : Seen) (k : ℕ) (j : Job) (a : Ask) (w : Disturbed) → Lent p s
+    → slots_of w (machine_seen s) k (superior_at s.jobs.now k) ≡ reach (machine_seen s) k (raw_with s k j) a
     → slots_of w (machine_of p) k (superior_at p.jobs k) ≡ reach (machine_of p) k (own_of p k j) a
 reach_seen p s k j a w h e = sym (slots_seen p s k w h) ∙ e ∙ (λ t. reach (lent_machine p s h t) k (lent_own p s k j h t) a)
 
@@ -162,12 +167,14 @@ unfolding target
 target_few m j q a d is = if_few (a.fail == 0) (target_by q a (argument_of (call_named a.name))) (go (argument_of (call_named a.name)))
   where
     go : (o : Option ℕ) → IfSome (target_by q a o) (λ s. s < slots)
-    go (Some i) = unless_few (is_oneself (input a i)) (inferior_on (chan_at q.channels (input a i))) (inferior_few m j (chan_at q.channels (input a i)) d (channel_of m j q (input a i) d is))
+    go (Some i) = unless_few (is_oneself (input a i)) (inferior_on (chan_at q.channels (input a i)))
+        (inferior_few m j (chan_at q.channels (input a i)) d (channel_of m j q (input a i) d is))
     go None = tt
 
 below_few : (m : Machine) (s k : ℕ) → Forest m → slots ≤ k → among k (slots_below (superiors m) s) ≡ false
 unfolding slots_below
-below_few m s k d past = filtered_out (is_below (superiors m) s) k (range_with_len 0 slots) (below_none (superiors m) s k (ap superior_in (forest_few m d k past)))
+below_few m s k d past = filtered_out (is_below (superiors m) s) k (range_with_len 0 slots)
+    (below_none (superiors m) s k (ap superior_in (forest_few m d k past)))
 
 both_few : (k : ℕ) (xs ys : List ℕ) → among k xs ≡ false → among k ys ≡ false → among k (xs ++ ys) ≡ false
 both_few k xs ys x y = list_any-append (λ q. q == k) xs ys ∙ rw (x, y) refl
@@ -196,7 +203,8 @@ reach_few m j q a k d is past = by_fail (a.fail == 0)
     by_fail true = by_name (call_named a.name)
     by_fail false = refl
 
-pub own_few : (p : Plain) (s : ℕ) (j : Job) (a : Ask) (k : ℕ) → Kept p → job_at p.jobs s ≡ Some j → slots ≤ k → among k (reach (machine_of p) s (own_of p s j) a) ≡ false
+pub own_few : (p : Plain) (s : ℕ) (j : Job) (a : Ask) (k : ℕ) → Kept p → job_at p.jobs s ≡ Some j → slots ≤ k
+    → among k (reach (machine_of p) s (own_of p s j) a) ≡ false
 own_few p s j a k kept had past = reach_few (machine_of p) s (own_of p s j) a k kept.forest (own_is p s j had) past
 
 -- so the one that it reaches alone is one of them
@@ -207,7 +215,8 @@ target_within (Some s) h = elim (cases_lt s slots) [
   | inr above ↦ absurd (false≢true (sym (h s above) ∙ rw (eq-eqb s s refl) refl))
 ]
 
-pub within_reach : (p : Plain) (s : ℕ) (j : Job) (a : Ask) (ks : List ℕ) → Kept p → job_at p.jobs s ≡ Some j → ks ≡ reach (machine_of p) s (own_of p s j) a → (k : ℕ) → slots ≤ k → among k ks ≡ false
+pub within_reach : (p : Plain) (s : ℕ) (j : Job) (a : Ask) (ks : List ℕ) → Kept p → job_at p.jobs s ≡ Some j
+    → ks ≡ reach (machine_of p) s (own_of p s j) a → (k : ℕ) → slots ≤ k → among k ks ≡ false
 within_reach p s j a ks kept had e k past = ap (λ (xs : List ℕ). among k xs) e ∙ own_few p s j a k kept had past
 
 -- a list that says of each slot below n what a test says
@@ -218,18 +227,21 @@ pub record Marked (test : ℕ → Bool) (n : ℕ) (bs : List Bool) : Type 0 wher
 pub marks_start : (test : ℕ → Bool) (bs : List Bool) → length bs ≡ slots → Marked test 0 bs
 marks_start test bs e = record { count = e; each = λ k below. absurd (omega arith) }
 
-pub marks_next : (test : ℕ → Bool) (n : ℕ) (xs ys : List Bool) (b : Bool) → n < slots → Marked test n xs → ys ≡ slice_set xs n b → b ≡ test n → Marked test (n + 1) ys
+pub marks_next : (test : ℕ → Bool) (n : ℕ) (xs ys : List Bool) (b : Bool) → n < slots → Marked test n xs → ys ≡ slice_set xs n b
+    → b ≡ test n → Marked test (n + 1) ys
 marks_next test n xs ys b below m e here = record {
   count = ap length e ∙ length-set xs n b ∙ m.count;
   each = λ k under.
       ap (λ l. slice_index_or l k false) e
       ∙ elim (cases_eq k n) [
-        | inl same ↦ ap (λ i. slice_index_or (slice_set xs n b) i false) same ∙ get_or-set_same xs n b false (omega (arith, m.count)) ∙ here ∙ ap test (sym same)
+        | inl same ↦ ap (λ i. slice_index_or (slice_set xs n b) i false) same ∙ get_or-set_same xs n b false (omega (arith, m.count)) ∙ here
+            ∙ ap test (sym same)
         | inr other ↦ get_or-set_other xs n k b false other ∙ m.each k (omega arith)
       ];
 }
 
-pub marks_end : (test : ℕ → Bool) (n : ℕ) (bs : List Bool) → Marked test n bs → slots ≤ n → ((k : ℕ) → slots ≤ k → test k ≡ false) → (k : ℕ) → slice_index_or bs k false ≡ test k
+pub marks_end : (test : ℕ → Bool) (n : ℕ) (bs : List Bool) → Marked test n bs → slots ≤ n → ((k : ℕ) → slots ≤ k → test k ≡ false) → (k : ℕ)
+    → slice_index_or bs k false ≡ test k
 marks_end test n bs m all past k = elim (cases_lt k slots) [
   | inl below ↦ m.each k (omega arith)
   | inr above ↦ get_or_past bs k false (omega (arith, m.count)) ∙ sym (past k above)
@@ -239,7 +251,8 @@ pub table_few : (t : Table) (k : ℕ) → IsTree t.jobs t.superiors → slots �
 table_few t k tree past = ap is_some (get_or_past t.jobs k None (omega (arith, tree.job_count)))
 
 -- a decision that is carried out, and whom it touches
-acted_reaches : (m : Machine) (j : ℕ) (a : Ask) (ks : List ℕ) (d : Decision) → acted m j a ks d ≡ option_map (λ (t : Transition). record t { disturbs = ks }) (acted m j a [] d)
+acted_reaches : (m : Machine) (j : ℕ) (a : Ask) (ks : List ℕ) (d : Decision)
+    → acted m j a ks d ≡ option_map (λ (t : Transition). record t { disturbs = ks }) (acted m j a [] d)
 unfolding acted
 acted_reaches m j a ks (Waits r) = refl
 acted_reaches m j a ks (Goes cs h vs) = refl
@@ -255,7 +268,8 @@ act_waits old mid s a ks d b h e = subst (λ (o : Option Transition). Makes fals
     go None h = (refl, h)
     go (Some t) h = absurd h
 
-module _ (old mid new : Plain) (s : ℕ) (a : Ask) (ks : List ℕ) (d : Decision) (disturbed stood : List Bool) (b : Bool) (reached : (k : ℕ) → slice_index_or disturbed k false ≡ among k ks)
+module _ (old mid new : Plain) (s : ℕ) (a : Ask) (ks : List ℕ) (d : Decision) (disturbed stood : List Bool) (b : Bool)
+    (reached : (k : ℕ) → slice_index_or disturbed k false ≡ among k ks)
     (before : (k : ℕ) → slice_index_or stood k false ≡ is_some (job_at old.jobs k)) (same : new ≡ record mid { touched = new.touched })
     (touched : (k : ℕ) → is_touched new k ≡ marked_by disturbed stood mid k) where
   now_there : (t : Transition) → machine_of mid ≡ t.machine → (k : ℕ) → is_some (job_at mid.jobs k) ≡ is_some (t.machine.jobs k)
@@ -281,10 +295,14 @@ module _ (old mid new : Plain) (s : ℕ) (a : Ask) (ks : List ℕ) (d : Decision
       }
 
 -- a decision that makes no job is carried out, and whom it touches is marked
-pub act_alone : (old mid new : Plain) (s : ℕ) (a : Ask) (ks : List ℕ) (d : Decision) (b : Bool) → makes_job d ≡ false → new ≡ record mid { touched = new.touched }
-    → ((k : ℕ) → is_touched new k ≡ among k ks) → Acts b (acted (machine_of old) s a [] d) old mid → b ≡ true → Makes true (acted (machine_of old) s a ks d) old new
-act_alone old mid new s a ks d b none same touched h e = subst (λ (o : Option Transition). Makes true o old new) (sym (acted_reaches (machine_of old) s a ks d))
-    (go (acted (machine_of old) s a [] d) (λ k. unmade_by (machine_of old) s a [] d k none) (subst (λ (x : Bool). Acts x (acted (machine_of old) s a [] d) old mid) e h))
+pub act_alone : (old mid new : Plain) (s : ℕ) (a : Ask) (ks : List ℕ) (d : Decision) (b : Bool) → makes_job d ≡ false
+    → new ≡ record mid { touched = new.touched }
+    → ((k : ℕ) → is_touched new k ≡ among k ks) → Acts b (acted (machine_of old) s a [] d) old mid → b ≡ true
+    → Makes true (acted (machine_of old) s a ks d) old new
+act_alone old mid new s a ks d b none same touched h e = subst (λ (o : Option Transition). Makes true o old new)
+    (sym (acted_reaches (machine_of old) s a ks d))
+    (go (acted (machine_of old) s a [] d) (λ k. unmade_by (machine_of old) s a [] d k none)
+    (subst (λ (x : Bool). Acts x (acted (machine_of old) s a [] d) old mid) e h))
   where
     go : (o : Option Transition) → ((k : ℕ) → AllOf (λ t. is_made (machine_of old) t.machine k ≡ false) o) → Acts true o old mid
         → Makes true (option_map (λ (t : Transition). record t { disturbs = ks }) o) old new
@@ -300,18 +318,22 @@ act_alone old mid new s a ks d b none same touched h e = subst (λ (o : Option T
     }
 
 -- what is decided and whom it disturbs, as the definitions say it
-pub act_is : (old new : Plain) (s : ℕ) (j : Job) (a : Ask) (ks : List ℕ) (d : Decision) (b : Bool) → ks ≡ reach (machine_of old) s (own_of old s j) a → d ≡ decision (machine_of old) s (own_of old s j) a
+pub act_is : (old new : Plain) (s : ℕ) (j : Job) (a : Ask) (ks : List ℕ) (d : Decision) (b : Bool)
+    → ks ≡ reach (machine_of old) s (own_of old s j) a → d ≡ decision (machine_of old) s (own_of old s j) a
     → Makes b (acted (machine_of old) s a ks d) old new → Makes b (by_ask (machine_of old) s (own_of old s j) (Ok a)) old new
-act_is old new s j a ks d b reached decided h = subst (λ (o : Option Transition). Makes b o old new) (λ t. acted (machine_of old) s a (reached t) (decided t)) h
+act_is old new s j a ks d b reached decided h = subst (λ (o : Option Transition). Makes b o old new)
+    (λ t. acted (machine_of old) s a (reached t) (decided t)) h
 
 -- the decoding of a call faults
-module _ (old put new : Plain) (s : ℕ) (i k : Job) (f : Fault) (had : job_at old.jobs s ≡ Some i) (is : k ≡ with_pending i (bit_of f)) (b : JobBecomes old put s k)
+module _ (old put new : Plain) (s : ℕ) (i k : Job) (f : Fault) (had : job_at old.jobs s ≡ Some i) (is : k ≡ with_pending i (bit_of f))
+    (b : JobBecomes old put s k)
     (e : new ≡ record put { touched = no_slots }) where
   pub fault_row : Steps old new (quiet_step (in_job (machine_of old) s (with_fault f)))
   fault_row = record {
     machine = touched_machine put new no_slots e
         ∙ slot_machine old put s (core_at old.core s) i k (with_fault f) b had (ap (own_of old s) (sym is));
-    touched = step_touched new.touched (machine_of old) (in_job (machine_of old) s (with_fault f)) [] (none_touched new.touched (ap (λ (p : Plain). p.touched) e)) (slot_some (machine_of old).jobs s (with_fault f));
+    touched = step_touched new.touched (machine_of old) (in_job (machine_of old) s (with_fault f)) []
+        (none_touched new.touched (ap (λ (p : Plain). p.touched) e)) (slot_some (machine_of old).jobs s (with_fault f));
     place = ap (λ (p : Plain). p.place) e ∙ place_as b.aside.is;
   }
 
@@ -328,7 +350,8 @@ module _ (p : Plain) (s : ℕ) (x : Site) (o : Option Transition) (c : CallsAt (
   calls_some h is none = let wrong : None ≡ Some c.own = sym (nobody_is p s (sym is ∙ none)) ∙ c.had in cc
 
   pub calls_fits : (i : Job) → job_at p.jobs s ≡ Some i → Tidy p → SiteFits x
-  calls_fits i had tidy = site_fits c.own.core c.own.job x (subst (λ (q : Whole). q.job.pc < 2 ^ 18) (sym (calls_own i had)) (subst (λ (h : Option Job). IfSome h (λ j. j.pc < 2 ^ 18)) had (tidy.addressed s))) c.unit
+  calls_fits i had tidy = site_fits c.own.core c.own.job x (subst (λ (q : Whole). q.job.pc < 2 ^ 18) (sym (calls_own i had))
+      (subst (λ (h : Option Job). IfSome h (λ j. j.pc < 2 ^ 18)) had (tidy.addressed s))) c.unit
 
   asks : (i : Job) (r : Result Ask Fault) → job_at p.jobs s ≡ Some i → r ≡ ask (core_at p.core s) x → ask c.own.core x ≡ r
   asks i r had e = ap (λ (q : Whole). ask q.core x) (calls_own i had) ∙ sym e
@@ -364,7 +387,8 @@ kept_by old new s outside kept h tidy = record {
     stepped : step (machine_of old) s ≡ Some (machine_of new)
     stepped = step_by (machine_of old) s (Some h.transition) h.is ∙ ap Some (sym h.steps.machine)
 
-pub kept_after : (old new : Plain) (s : ℕ) (b : Bool) → old.place ≡ spots.Plain → Kept old → Makes b (transition (machine_of old) s) old new → Tidy new → Kept new
+pub kept_after : (old new : Plain) (s : ℕ) (b : Bool) → old.place ≡ spots.Plain → Kept old → Makes b (transition (machine_of old) s) old new
+    → Tidy new → Kept new
 kept_after old new s true outside kept h tidy = kept_by old new s outside kept h tidy
 kept_after old new s false outside kept h tidy = subst Kept (sym h.1) kept
 
@@ -374,13 +398,14 @@ place_stays old new o false h = ap (λ (p : Plain). p.place) h.1
 
 -- and who loses a job by it
 loses_by : (old new : Plain) (s : ℕ) → Forest (machine_of old) → SteppedBy old new (transition (machine_of old) s) → LosesOnly old new s
-loses_by old new s forest h k none = elim (step_loses (machine_of old) s h.transition forest h.is k (ap (λ (m : Machine). m.jobs k) (sym h.steps.machine) ∙ none)) [
-  | inl was ↦ inl was
-  | inr other ↦ elim other [
-    | inl own ↦ inr (inl own)
-    | inr reached ↦ inr (inr (h.steps.touched k ∙ rw reached refl))
-  ]
-]
+loses_by old new s forest h k none = elim (step_loses (machine_of old) s h.transition forest h.is k
+    (ap (λ (m : Machine). m.jobs k) (sym h.steps.machine) ∙ none)) [
+      | inl was ↦ inl was
+      | inr other ↦ elim other [
+        | inl own ↦ inr (inl own)
+        | inr reached ↦ inr (inr (h.steps.touched k ∙ rw reached refl))
+      ]
+    ]
 
 pub loses_only : (old new : Plain) (s : ℕ) (b : Bool) → Kept old → Makes b (transition (machine_of old) s) old new → LosesOnly old new s
 loses_only old new s true kept h = loses_by old new s kept.forest h

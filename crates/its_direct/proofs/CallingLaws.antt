@@ -9,11 +9,11 @@ use Rattle.its_word.specs.declared.plan.Store.{Store}
 use Rattle.its_frame.specs.declared.change.Change.{Change}
 use Rattle.its_frame.specs.declared.change.Change.TheVariants as changes
 use Rattle.its_frame.specs.declared.frame.Frame.{Frame}
-use Rattle.its_plain.specs.Change.{superior_in, job_after_removal, is_gone, on_slot, inferior, poke, with_protection, after_removal, with_alarm, with_inf, with_page_at, effect, effects}
-use Rattle.its_plain.specs.Decide.{reach}
-use Rattle.its_plain.specs.Footprint.{Stands, among}
+use Rattle.its_plain.specs.Machine.Change.{superior_in, job_after_removal, is_gone, on_slot, inferior, poke, with_protection, after_removal, with_alarm, with_inf, with_page_at, effect, effects}
+use Rattle.its_plain.specs.Call.Decide.{reach}
+use Rattle.its_plain.specs.Call.Footprint.{Stands, among}
 use Rattle.its_plain.specs.Machine.{Shut, Linked, Whole, Machine, changed}
-use Rattle.its_plain.specs.Own.{at_position, on_channel, opened_on, with_registers, with_stores, with_variable, with_word}
+use Rattle.its_plain.specs.Machine.Own.{at_position, on_channel, opened_on, with_registers, with_stores, with_variable, with_word}
 use Rattle.its_stepped.specs.Calling.{Calling}
 use Rattle.its_stepped.specs.Commit.{effect_on, effects_on}
 use Rattle.its_stepped.specs.Forest.{Forest}
@@ -21,9 +21,9 @@ use Rattle.its_stepped.specs.Quiet.{IsStill}
 use Rattle.its_stepped.specs.Sound.{Stored, Paged}
 use Rattle.its_stepped.specs.State.{State}
 use Rattle.its_stepped.specs.Tick.{reserves, quarters}
-use Rattle.its_stepped.proofs.DebtLaws.{debts_none}
-use Rattle.its_stepped.proofs.DecodingLaws.{decoding}
-use Rattle.its_stepped.proofs.GivenLaws.{reach_apart}
+use Rattle.its_stepped.proofs.Frame.DebtLaws.{debts_none}
+use Rattle.its_stepped.proofs.Frame.DecodingLaws.{decoding}
+use Rattle.its_stepped.proofs.Duties.GivenLaws.{reach_apart}
 
 -- the state in which slot j's call is carried out, with these other calls in progress: it has a
 -- clear page if it makes one
@@ -43,8 +43,10 @@ page_paged a true e = record { most = omega arith; reserves = e; owes = refl }
 page_paged a false e = tt
 
 -- the jobs that it reaches are in no call, and its own has nothing pending
-pub calling : (m : Machine) (j : ℕ) (q : Whole) (s : Site) (a : Ask) (frames : ℕ → Option Frame) → Forest m → m.jobs j ≡ Some q → Stands q.core q.job s a → IsStill (frames j)
-    → ((k : ℕ) → among k (reach m j q a) ≡ true → frames k ≡ None) → ((k : ℕ) → m.jobs k ≡ None → frames k ≡ None) → Calling m (beginning m frames (page_for (reserves a))) j q s a 0
+pub calling : (m : Machine) (j : ℕ) (q : Whole) (s : Site) (a : Ask) (frames : ℕ → Option Frame) → Forest m → m.jobs j ≡ Some q
+    → Stands q.core q.job s a → IsStill (frames j)
+    → ((k : ℕ) → among k (reach m j q a) ≡ true → frames k ≡ None) → ((k : ℕ) → m.jobs k ≡ None → frames k ≡ None)
+    → Calling m (beginning m frames (page_for (reserves a))) j q s a 0
 calling m j q s a frames forest here st still reached empty = record {
   stands = st;
   fetched = decoding.fetched q.core q.job s a st;
@@ -86,7 +88,7 @@ jobs_alike (changes.Remove s) j w m e = λ t k. job_after_removal (is_gone (λ i
 jobs_alike (changes.Inform s) j w m e = slot_alike w.raw.jobs m.jobs s with_inf e
 jobs_alike (changes.Arm alarm) j w m e = slot_alike w.raw.jobs m.jobs j (with_alarm alarm) e
 jobs_alike (changes.Join n l write x y) j w m e = slot_alike w.raw.jobs m.jobs j (on_channel n (λ c. Linked l write)) e
-jobs_alike (changes.Part n l write) j w m e = slot_alike w.raw.jobs m.jobs j (on_channel n (λ c. Shut)) e
+jobs_alike (changes.CloseEnd n l write) j w m e = slot_alike w.raw.jobs m.jobs j (on_channel n (λ c. Shut)) e
 jobs_alike _ j w m e = e
 
 pub all_alike : (cs : List Change) (j : ℕ) (w : State) (m : Machine) → w.raw.jobs ≡ m.jobs → (effects_on cs j w).raw.jobs ≡ (effects cs j m).jobs

@@ -10,20 +10,20 @@ use Rattle.its_core.specs.Cores.{core_at, clear_at}
 use Rattle.its_files.specs.Files.{Store, directory}
 use Rattle.its_jobs.specs.Table.{job_at, superior_at}
 use Rattle.its_pipes.specs.Pipes.{piped}
-use Rattle.its_plain.specs.Alarm.{is_due, time_after}
-use Rattle.its_plain.specs.Change.{in_job, with_alarm}
-use Rattle.its_plain.specs.Job.{ALR, with_pending}
+use Rattle.its_plain.specs.Machine.Alarm.{is_due, time_after}
+use Rattle.its_plain.specs.Machine.Change.{in_job, with_alarm}
+use Rattle.its_plain.specs.Machine.Registers.{ALR, with_pending}
 use Rattle.its_plain.specs.Machine.{Machine}
-use Rattle.its_plain.specs.OperatorClock.{alarm_in, due, after_alarm_if, at_clock, after_clock_if, after_clock, clock_end}
+use Rattle.its_plain.specs.Operator.Clock.{alarm_in, due, after_alarm_if, at_clock, after_clock_if, after_clock, clock_end}
 use Rattle.its_plain.proofs.MachineLaws.{machine_is}
 use Rattle.its_stepped.specs.Alarmed.{Periodic, Alarmed}
-use Rattle.its_stepped.proofs.AlarmLaws.{coming_periodic}
-use Rattle.its_machine.specs.Across.{Across}
-use Rattle.its_machine.specs.Parts.{alarm_at, console_at, holder_at, symbols_at, raw_of}
-use Rattle.its_machine.proofs.PartLaws.{slot_at}
+use Rattle.its_stepped.proofs.Keeping.AlarmLaws.{coming_periodic}
+use Rattle.its_shared.specs.Across.{Across}
+use Rattle.its_shared.specs.Parts.{alarm_at, console_at, holder_at, symbols_at, raw_of}
+use Rattle.its_shared.proofs.PartLaws.{slot_at}
 use Rattle.its_direct.specs.Plain.{machine_of, is_touched, no_slots, Tidy, JobBecomes}
-use Rattle.its_plain.specs.Own.{with_registers}
-use Rattle.its_machine.proofs.TimeLaws.{rung_slot, below_next}
+use Rattle.its_plain.specs.Machine.Own.{with_registers}
+use Rattle.its_shared.proofs.TimeLaws.{rung_slot, below_next}
 use Rattle.its_direct.specs.Clock.{AlarmBecomes, Clocks, Periods, RangAt, RangBelow}
 use Rattle.its_direct.specs.declared.plain.Plain.{Plain}
 use Rattle.its_direct.proofs.SlotLaws.{IsPlaced, placed_at, slot_machine, slot_tidy, touched_machine, touched_tidy}
@@ -31,7 +31,8 @@ use Rattle.its_direct.proofs.TouchLaws.{none_touched}
 use Rattle.its_direct.proofs.ContentsLaws.{core_as, jobs_as, consoles_as, holders_as, files_as, clock_as, alarms_as, version_as, symbols_as, pipes_as, place_as, touched_as}
 
 -- the alarm of a job of the machine is that of its slot
-alarm_by : (s : Store) (q : Plain) (k : ℕ) (o : Option Job) → (o ≡ None → alarm_at q.alarms.items k ≡ None) → alarm_at q.alarms.items k ≡ alarm_in (raw_of s (core_at q.core k) (superior_at q.jobs k) (alarm_at q.alarms.items k) o)
+alarm_by : (s : Store) (q : Plain) (k : ℕ) (o : Option Job) → (o ≡ None → alarm_at q.alarms.items k ≡ None)
+    → alarm_at q.alarms.items k ≡ alarm_in (raw_of s (core_at q.core k) (superior_at q.jobs k) (alarm_at q.alarms.items k) o)
 alarm_by s q k (Some j) quiet = refl
 alarm_by s q k None quiet = quiet refl
 
@@ -41,10 +42,13 @@ alarm_shown p k tidy = alarm_by p.files p k (job_at p.jobs k) (tidy.quiet k)
 
 pub periods_kept : (p new : Plain) → Alarmed (machine_of p) → Tidy p → new.alarms ≡ p.alarms → Periods new
 periods_kept p new a tidy same k =
-    subst (λ (o : Option (ℕ × ℕ)). IfSome o Periodic) (sym (ap (λ l. alarm_at l.items k) same ∙ alarm_shown p k tidy)) (coming_periodic (machine_of p).clock (alarm_in ((machine_of p).jobs k)) (a.each k))
+    subst (λ (o : Option (ℕ × ℕ)). IfSome o Periodic) (sym (ap (λ l. alarm_at l.items k) same ∙ alarm_shown p k tidy))
+    (coming_periodic (machine_of p).clock (alarm_in ((machine_of p).jobs k)) (a.each k))
 
 -- the alarm of a slot is written
-alarmed_as : (s : Store) (q : Plain) (k : ℕ) (a : Option (ℕ × ℕ)) (o : Option Job) → raw_of s (core_at q.core k) (superior_at q.jobs k) a o ≡ option_map (with_alarm a) (raw_of s (core_at q.core k) (superior_at q.jobs k) (alarm_at q.alarms.items k) o)
+alarmed_as : (s : Store) (q : Plain) (k : ℕ) (a : Option (ℕ × ℕ)) (o : Option Job)
+    → raw_of s (core_at q.core k) (superior_at q.jobs k) a o ≡ option_map (with_alarm a)
+    (raw_of s (core_at q.core k) (superior_at q.jobs k) (alarm_at q.alarms.items k) o)
 alarmed_as s q k a (Some j) = refl
 alarmed_as s q k a None = refl
 
@@ -52,9 +56,12 @@ pub alarm_machine : (old new : Plain) (s : ℕ) (a : Option (ℕ × ℕ)) → Al
 unfolding machine_of
 alarm_machine old new s a b = machine_is _ _
     (slot_at _ _ s (with_alarm a)
-    ((λ t. raw_of (b.rest t).files (core_at (b.rest t).core s) (superior_at (b.rest t).jobs s) (b.alarms.here t) (job_at (b.rest t).jobs s)) ∙ alarmed_as old.files old s a (job_at old.jobs s))
+    ((λ t. raw_of (b.rest t).files (core_at (b.rest t).core s) (superior_at (b.rest t).jobs s) (b.alarms.here t) (job_at (b.rest t).jobs s))
+    ∙ alarmed_as old.files old s a (job_at old.jobs s))
     (λ k ne t. raw_of (b.rest t).files (core_at (b.rest t).core k) (superior_at (b.rest t).jobs k) (b.alarms.others k ne t) (job_at (b.rest t).jobs k)))
-    (λ k. ap (λ l. console_at l.items k) (consoles_as b.rest)) (λ k. ap (λ l. holder_at l k) (holders_as b.rest)) (ap directory (files_as b.rest)) (clock_as b.rest) (version_as b.rest) (λ k. ap (λ l. symbols_at l.items k) (symbols_as b.rest)) (λ k. ap (λ l. piped l k) (pipes_as b.rest))
+    (λ k. ap (λ l. console_at l.items k) (consoles_as b.rest)) (λ k. ap (λ l. holder_at l k) (holders_as b.rest))
+    (ap directory (files_as b.rest)) (clock_as b.rest) (version_as b.rest) (λ k. ap (λ l. symbols_at l.items k) (symbols_as b.rest))
+    (λ k. ap (λ l. piped l k) (pipes_as b.rest))
 
 pub alarm_tidy : (old new : Plain) (s : ℕ) (a : Option (ℕ × ℕ)) → is_some (job_at old.jobs s) ≡ true → AlarmBecomes old new s a → Tidy old → Tidy new
 alarm_tidy old new s a some b tidy = record {
@@ -78,9 +85,11 @@ alarm_tidy old new s a some b tidy = record {
 other_jobs : (v u x : Machine) → u ≡ x → x ≡ record v { jobs = x.jobs } → u ≡ record v { jobs = u.jobs }
 other_jobs v u x e h = e ∙ h ∙ ap (λ (y : Machine). record v { jobs = y.jobs }) (sym e)
 
-marked_by : (ts : List Bool) (s k : ℕ) (d : Bool) → s < length ts → (k ≡ s → d ≡ true) → slice_index_or (slice_set ts s true) k false ≡ (slice_index_or ts k false || ((k == s) && d))
+marked_by : (ts : List Bool) (s k : ℕ) (d : Bool) → s < length ts → (k ≡ s → d ≡ true)
+    → slice_index_or (slice_set ts s true) k false ≡ (slice_index_or ts k false || ((k == s) && d))
 marked_by ts s k d l due = elim (cases_eq k s) [
-  | inl e ↦ ap (λ n. slice_index_or (slice_set ts s true) n false) e ∙ get_or-set_same ts s true false l ∙ sym (rw (eq-eqb k s e, due e) (or_true (slice_index_or ts k false)))
+  | inl e ↦ ap (λ n. slice_index_or (slice_set ts s true) n false) e ∙ get_or-set_same ts s true false l
+      ∙ sym (rw (eq-eqb k s e, due e) (or_true (slice_index_or ts k false)))
   | inr ne ↦ get_or-set_other ts s k true false ne ∙ sym (rw (ne_eqb k s ne) (or_none (slice_index_or ts k false)))
 ]
   where
@@ -92,11 +101,14 @@ marked_by ts s k d l due = elim (cases_eq k s) [
     or_none true = refl
     or_none false = refl
 
-module _ (c p t : ℕ) (old mid put new : Plain) (s : ℕ) (i : Job) (tidy : Tidy old) (had : job_at old.jobs s ≡ Some i) (has : Some (p, t) ≡ alarm_at old.alarms.items s) (late : t ≤ c)
-    (set : JobBecomes old mid s (with_pending i ALR)) (next : AlarmBecomes mid put s (Some (p, time_after c (p, t)))) (mark : new ≡ record put { touched = slice_set put.touched s true }) where
+module _ (c p t : ℕ) (old mid put new : Plain) (s : ℕ) (i : Job) (tidy : Tidy old) (had : job_at old.jobs s ≡ Some i)
+    (has : Some (p, t) ≡ alarm_at old.alarms.items s) (late : t ≤ c)
+    (set : JobBecomes old mid s (with_pending i ALR)) (next : AlarmBecomes mid put s (Some (p, time_after c (p, t))))
+    (mark : new ≡ record put { touched = slice_set put.touched s true }) where
   gone : machine_of new ≡ in_job (in_job (machine_of old) s (with_registers (λ j. with_pending j ALR))) s (with_alarm (Some (p, time_after c (p, t))))
   gone = touched_machine put new (slice_set put.touched s true) mark ∙ alarm_machine mid put s (Some (p, time_after c (p, t))) next
-      ∙ ap (λ m. in_job m s (with_alarm (Some (p, time_after c (p, t))))) (slot_machine old mid s (core_at old.core s) i (with_pending i ALR) (with_registers (λ j. with_pending j ALR)) set had refl)
+      ∙ ap (λ m. in_job m s (with_alarm (Some (p, time_after c (p, t)))))
+      (slot_machine old mid s (core_at old.core s) i (with_pending i ALR) (with_registers (λ j. with_pending j ALR)) set had refl)
 
   same_alarms : mid.alarms ≡ old.alarms
   same_alarms = alarms_as set.aside.is
@@ -114,11 +126,13 @@ module _ (c p t : ℕ) (old mid put new : Plain) (s : ℕ) (i : Job) (tidy : Tid
   went l = record {
     jobs = λ k. ap (λ (m : Machine). m.jobs k) gone ∙ rung_slot c p t (k == s) ((machine_of old).jobs k) (alarm_here k) (le-leb t c late)
         ∙ ap (λ o. after_alarm_if c ((k == s) && is_due c o) ((machine_of old).jobs k)) (sym (alarm_shown old k tidy));
-    rest = other_jobs (machine_of old) (machine_of new) (in_job (in_job (machine_of old) s (with_registers (λ j. with_pending j ALR))) s (with_alarm (Some (p, time_after c (p, t))))) gone refl;
+    rest = other_jobs (machine_of old) (machine_of new) (in_job (in_job (machine_of old) s (with_registers (λ j. with_pending j ALR))) s
+        (with_alarm (Some (p, time_after c (p, t))))) gone refl;
     touched = λ k. let ts : put.touched ≡ old.touched = touched_as next.rest ∙ touched_as set.aside.is in
         ap (λ (q : Plain). is_touched q k) mark ∙ ap (λ xs. slice_index_or (slice_set xs s true) k false) ts
         ∙ marked_by old.touched s k (is_due c (alarm_at old.alarms.items k)) l (due_here k);
-    alarms = λ k f. ap (λ l. alarm_at l.items k) new_alarms ∙ next.alarms.others k (λ e. let wrong : true ≡ false = sym (eq-eqb k s e) ∙ f in cc) ∙ ap (λ l. alarm_at l.items k) same_alarms;
+    alarms = λ k f. ap (λ l. alarm_at l.items k) new_alarms ∙ next.alarms.others k
+        (λ e. let wrong : true ≡ false = sym (eq-eqb k s e) ∙ f in cc) ∙ ap (λ l. alarm_at l.items k) same_alarms;
     place = ap (λ (q : Plain). q.place) mark ∙ place_as next.rest ∙ place_as set.aside.is;
   }
 
@@ -126,7 +140,8 @@ module _ (c p t : ℕ) (old mid put new : Plain) (s : ℕ) (i : Job) (tidy : Tid
   went_periods all k = elim (cases_eq k s) [
     | inl e ↦
         let h : IfSome (Some (p, t)) Periodic = subst (λ (o : Option (ℕ × ℕ)). IfSome o Periodic) (sym has) (all s) in
-        subst (λ (o : Option (ℕ × ℕ)). IfSome o Periodic) (sym (ap (λ l. alarm_at l.items k) new_alarms ∙ ap (alarm_at put.alarms.items) e ∙ next.alarms.here)) (record { some = h.some; most = h.most })
+        subst (λ (o : Option (ℕ × ℕ)). IfSome o Periodic) (sym
+        (ap (λ l. alarm_at l.items k) new_alarms ∙ ap (alarm_at put.alarms.items) e ∙ next.alarms.here)) (record { some = h.some; most = h.most })
     | inr ne ↦ subst (λ (o : Option (ℕ × ℕ)). IfSome o Periodic)
         (sym (ap (λ l. alarm_at l.items k) new_alarms ∙ next.alarms.others k ne ∙ ap (λ l. alarm_at l.items k) same_alarms)) (all k)
   ]
@@ -151,7 +166,8 @@ or_no false d e = sym e
 still : (c s : ℕ) (p : Plain) (a : Option (ℕ × ℕ)) → alarm_at p.alarms.items s ≡ a → is_due c a ≡ false → RangAt c s p p
 still c s p a e no_more =
     let none : (k : ℕ) → ((k == s) && is_due c (alarm_at p.alarms.items k)) ≡ false =
-    λ k. and_none (k == s) (is_due c (alarm_at p.alarms.items k)) (λ at. ap (λ n. is_due c (alarm_at p.alarms.items n)) (eqb-true k s at) ∙ ap (is_due c) e ∙ no_more) in
+    λ k. and_none (k == s) (is_due c (alarm_at p.alarms.items k))
+    (λ at. ap (λ n. is_due c (alarm_at p.alarms.items n)) (eqb-true k s at) ∙ ap (is_due c) e ∙ no_more) in
     record {
       jobs = λ k. sym (ap (λ (b : Bool). after_alarm_if c b ((machine_of p).jobs k)) (none k));
       rest = refl;
@@ -171,7 +187,8 @@ pub rang_starts : (c : ℕ) (p : Plain) → RangBelow c 0 p p
 rang_starts c p = record {
   jobs = λ k. sym (ap (λ (b : Bool). after_alarm_if c (b && is_due c (alarm_at p.alarms.items k)) ((machine_of p).jobs k)) (le-ltb k 0 (omega arith)));
   rest = refl;
-  touched = λ k. or_no (is_touched p k) (nat_lt k 0 && is_due c (alarm_at p.alarms.items k)) (ap (λ (b : Bool). b && is_due c (alarm_at p.alarms.items k)) (le-ltb k 0 (omega arith)));
+  touched = λ k. or_no (is_touched p k) (nat_lt k 0 && is_due c (alarm_at p.alarms.items k))
+      (ap (λ (b : Bool). b && is_due c (alarm_at p.alarms.items k)) (le-ltb k 0 (omega arith)));
   alarms = λ k f. refl;
   place = refl;
 }
@@ -230,7 +247,8 @@ module _ (c n : ℕ) (old mid new : Plain) (a : RangBelow c n old mid) (b : Rang
   }
 
 -- all of them, once the clock is the new one
-module _ (old put new : Plain) (n c : ℕ) (tidy : Tidy old) (later : c ≡ old.clock + n) (set : put ≡ record old { clock = c; touched = no_slots }) (r : RangBelow c slots put new) where
+module _ (old put new : Plain) (n c : ℕ) (tidy : Tidy old) (later : c ≡ old.clock + n)
+    (set : put ≡ record old { clock = c; touched = no_slots }) (r : RangBelow c slots put new) where
   set_machine : machine_of put ≡ record (machine_of old) { clock = c }
   unfolding machine_of
   set_machine = ap machine_of set

@@ -10,14 +10,14 @@ use Rattle.its_files.specs.Files.{Store, directory}
 use Rattle.its_core.specs.Cores.{core_at, clear_at}
 use Rattle.its_jobs.specs.Table.{job_at}
 use Rattle.its_pipes.specs.Pipes.{piped}
-use Rattle.its_plain.specs.Change.{on_console}
+use Rattle.its_plain.specs.Machine.Change.{on_console}
 use Rattle.its_plain.specs.Machine.{Console}
-use Rattle.its_plain.specs.OperatorClock.{clock_end}
-use Rattle.its_plain.specs.OperatorConsoles.{dropped}
+use Rattle.its_plain.specs.Operator.Clock.{clock_end}
+use Rattle.its_plain.specs.Operator.Consoles.{dropped}
 use Rattle.its_plain.proofs.MachineLaws.{machine_is}
-use Rattle.its_machine.specs.Across.{Across}
-use Rattle.its_machine.specs.Parts.{alarm_at, console_at, holder_at, symbols_at, raw_at}
-use Rattle.its_machine.proofs.PartLaws.{changed_at}
+use Rattle.its_shared.specs.Across.{Across}
+use Rattle.its_shared.specs.Parts.{alarm_at, console_at, holder_at, symbols_at, raw_at}
+use Rattle.its_shared.proofs.PartLaws.{changed_at}
 use Rattle.its_direct.specs.Contents.{contents}
 use Rattle.its_direct.specs.Plain.{machine_of, no_slots, Tidy}
 use Rattle.its_direct.specs.Consoles.{lost_of}
@@ -27,14 +27,17 @@ use Rattle.its_direct.proofs.SlotLaws.{IsPlaced, touched_machine, touched_tidy}
 use Rattle.its_direct.proofs.TouchLaws.{none_touched}
 use Rattle.its_direct.proofs.ContentsLaws.{core_as, jobs_as, holders_as, files_as, clock_as, alarms_as, version_as, symbols_as, pipes_as, place_as}
 
-pub console_becomes : (old new : Plain) (c : ℕ) (x : Console) → Only (console_at old.consoles.items) (console_at new.consoles.items) c x → contents new ≡ record (contents old) { consoles = new.consoles } → ConsoleBecomes old new c x
+pub console_becomes : (old new : Plain) (c : ℕ) (x : Console) → Only (console_at old.consoles.items) (console_at new.consoles.items) c x
+    → contents new ≡ record (contents old) { consoles = new.consoles } → ConsoleBecomes old new c x
 console_becomes old new c x consoles rest = record { consoles = consoles; rest = rest }
 
-pub console_machine : (old new : Plain) (c : ℕ) (f : Console → Console) → ConsoleBecomes old new c (f (console_at old.consoles.items c)) → machine_of new ≡ on_console (machine_of old) c f
+pub console_machine : (old new : Plain) (c : ℕ) (f : Console → Console) → ConsoleBecomes old new c (f (console_at old.consoles.items c))
+    → machine_of new ≡ on_console (machine_of old) c f
 unfolding machine_of
 console_machine old new c f b = machine_is _ _
     (λ k t. raw_at (b.rest t).files (b.rest t).core (b.rest t).jobs (b.rest t).alarms.items k) (changed_at _ _ c _ b.consoles.here b.consoles.others)
-    (λ k. ap (λ l. holder_at l k) (holders_as b.rest)) (ap directory (files_as b.rest)) (clock_as b.rest) (version_as b.rest) (λ k. ap (λ l. symbols_at l.items k) (symbols_as b.rest)) (λ k. ap (λ l. piped l k) (pipes_as b.rest))
+    (λ k. ap (λ l. holder_at l k) (holders_as b.rest)) (ap directory (files_as b.rest)) (clock_as b.rest) (version_as b.rest)
+    (λ k. ap (λ l. symbols_at l.items k) (symbols_as b.rest)) (λ k. ap (λ l. piped l k) (pipes_as b.rest))
 
 pub console_tidy : (old new : Plain) (c : ℕ) (x : Console) → ConsoleBecomes old new c x → Tidy old → Tidy new
 console_tidy old new c x b tidy = record {
@@ -49,7 +52,8 @@ console_tidy old new c x b tidy = record {
 }
 
 -- the line, after which nobody is touched
-pub console_stands : (old put new : Plain) (c : ℕ) (f : Console → Console) → ConsoleBecomes old put c (f (console_at old.consoles.items c)) → new ≡ record put { touched = no_slots }
+pub console_stands : (old put new : Plain) (c : ℕ) (f : Console → Console) → ConsoleBecomes old put c (f (console_at old.consoles.items c))
+    → new ≡ record put { touched = no_slots }
     → Stands old new (on_console (machine_of old) c f)
 console_stands old put new c f b e = record {
   machine = touched_machine put new no_slots e ∙ console_machine old put c f b;
@@ -73,11 +77,13 @@ pub record Typing (bytes : List ℕ) (i : ℕ) (old now : Console) (lost : ℕ) 
 pub typing_begins : (bytes : List ℕ) (old : Console) (n : ℕ) → n ≡ length old.input → n ≤ most_waiting → Typing bytes 0 old old 0
 typing_begins bytes old n e l = record {
   room = omega arith;
-  typed = ap (λ (xs : List ℕ). record old { input = xs }) (sym (ap (take most_waiting) (append-nil old.input) ∙ take_all most_waiting old.input (omega arith)));
+  typed = ap (λ (xs : List ℕ). record old { input = xs }) (sym
+      (ap (take most_waiting) (append-nil old.input) ∙ take_all most_waiting old.input (omega arith)));
   dropped = omega arith;
 }
 
-module _ (bytes : List ℕ) (i b d : ℕ) (old now new : Console) (lost : ℕ) (t : Typing bytes i old now lost) (is : b ≡ get_or bytes i d) (l : i < length bytes) where
+module _ (bytes : List ℕ) (i b d : ℕ) (old now new : Console) (lost : ℕ) (t : Typing bytes i old now lost) (is : b ≡ get_or bytes i d)
+    (l : i < length bytes) where
   long : length now.input ≡ length (take most_waiting (old.input ++ take i bytes))
   long = ap (λ (x : Console). length x.input) t.typed
 
@@ -97,7 +103,8 @@ module _ (bytes : List ℕ) (i b d : ℕ) (old now new : Console) (lost : ℕ) (
   typing_room h e =
       let f = few h in
       let a = all in
-      let whole : now.input ≡ old.input ++ take i bytes = ap (λ (x : Console). x.input) t.typed ∙ take_all most_waiting (old.input ++ take i bytes) (omega arith) in
+      let whole : now.input ≡ old.input ++ take i bytes = ap (λ (x : Console). x.input) t.typed
+      ∙ take_all most_waiting (old.input ++ take i bytes) (omega arith) in
       let n = length-append (old.input ++ take i bytes) (b ∷ []) in
       let m = ap (λ (xs : List ℕ). length xs) next in
       record {
@@ -120,13 +127,16 @@ module _ (bytes : List ℕ) (i b d : ℕ) (old now new : Console) (lost : ℕ) (
         room = t.room;
         typed =
             e ∙ t.typed
-            ∙ ap (λ (xs : List ℕ). record old { input = xs }) (sym (take-append-le most_waiting (old.input ++ take i bytes) (b ∷ []) (omega arith)) ∙ ap (take most_waiting) next);
+            ∙ ap (λ (xs : List ℕ). record old { input = xs })
+            (sym (take-append-le most_waiting (old.input ++ take i bytes) (b ∷ []) (omega arith)) ∙ ap (take most_waiting) next);
         dropped = let d = t.dropped in let r = t.room in omega arith;
       }
 
-  pub typing_more : (kept : Bool) (more : ℕ) → (IsTrue kept ↔ (length now.input < most_waiting)) → (IsTrue kept → new ≡ record now { input = now.input ++ b ∷ [] }) → (kept ≡ false → new ≡ now)
+  pub typing_more : (kept : Bool) (more : ℕ) → (IsTrue kept ↔ (length now.input < most_waiting))
+      → (IsTrue kept → new ≡ record now { input = now.input ++ b ∷ [] }) → (kept ≡ false → new ≡ now)
       → more ≡ lost + lost_of kept → Typing bytes (i + 1) old new more
-  typing_more true more taken put same e = let z : more ≡ lost = omega arith in subst (Typing bytes (i + 1) old new) (sym z) (typing_room (taken.0 refl) (put refl))
+  typing_more true more taken put same e = let z : more ≡ lost =
+      omega arith in subst (Typing bytes (i + 1) old new) (sym z) (typing_room (taken.0 refl) (put refl))
   typing_more false more taken put same e = subst (Typing bytes (i + 1) old new) (sym e) (typing_full past (same refl))
     where
       past : most_waiting ≤ length now.input
@@ -165,12 +175,14 @@ pub record Draining (k : ℕ) (old now : Console) (out : List ℕ) : Type 0 wher
 pub draining_begins : (old : Console) → Draining 0 old old []
 draining_begins old = record { few = omega arith; out_is = refl; rest = refl }
 
-left : (k : ℕ) (old now new : Console) (out : List ℕ) → Draining k old now out → new ≡ record now { output = drop 1 now.output } → new ≡ record old { output = drop (k + 1) old.output }
+left : (k : ℕ) (old now new : Console) (out : List ℕ) → Draining k old now out → new ≡ record now { output = drop 1 now.output }
+    → new ≡ record old { output = drop (k + 1) old.output }
 left k old now new out d e =
     e ∙ ap (λ (x : Console). record x { output = drop 1 x.output }) d.rest
     ∙ ap (λ (ys : List ℕ). record old { output = ys }) (drop-drop 1 k old.output)
 
-pub draining_more : (k : ℕ) (old now new : Console) (out more : List ℕ) → Draining k old now out → new ≡ record now { output = drop 1 now.output } → more ≡ out ++ cons_option (slice_get now.output 0) []
+pub draining_more : (k : ℕ) (old now new : Console) (out more : List ℕ) → Draining k old now out
+    → new ≡ record now { output = drop 1 now.output } → more ≡ out ++ cons_option (slice_get now.output 0) []
     → Draining (k + 1) old new more
 draining_more k old now new out more d e m = record {
   few =

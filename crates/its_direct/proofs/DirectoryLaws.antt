@@ -5,12 +5,12 @@ use Rattle.std.proofs.Common.{sym, ◌∙◌, ap, arith}
 use Rattle.std.proofs.lemmas.List.{append-nil, length-append, drop-drop}
 use Rattle.std.proofs.lemmas.List.Folds.{list_all-append}
 use Rattle.its_files.specs.Files.{Store, entry_at, is_file, file_at, directory, found}
-use Rattle.its_plain.specs.CallFile.{file_named}
+use Rattle.its_plain.specs.Call.File.{file_named}
 use Rattle.its_plain.specs.Machine.{File}
-use Rattle.its_plain.specs.OperatorFiles.{is_in, files_in}
-use Rattle.its_plain.specs.Own.{names_of}
-use Rattle.its_machine.proofs.DirLaws.{rest_in, rest_next, rest_past}
-use Rattle.its_machine.proofs.StoreLaws.{found_named}
+use Rattle.its_plain.specs.Operator.Files.{is_in, files_in}
+use Rattle.its_plain.specs.Machine.Own.{names_of}
+use Rattle.its_shared.proofs.DirLaws.{rest_in, rest_next, rest_past}
+use Rattle.its_shared.proofs.StoreLaws.{found_named}
 use Rattle.its_direct.proofs.ConsoleLaws.{head_more}
 use Rattle.its_direct.specs.Plain.{machine_of}
 use Rattle.its_direct.specs.declared.plain.Plain.{Plain}
@@ -20,10 +20,12 @@ pub files_are : (p : Plain) → (machine_of p).files ≡ directory p.files
 unfolding machine_of
 files_are p = refl
 
-pub listed_files : (p : Plain) (d : ℕ) (ids : List ℕ) → map (file_at p.files) ids ≡ files_in d (directory p.files) → map (file_at p.files) ids ≡ files_in d (machine_of p).files
+pub listed_files : (p : Plain) (d : ℕ) (ids : List ℕ) → map (file_at p.files) ids ≡ files_in d (directory p.files)
+    → map (file_at p.files) ids ≡ files_in d (machine_of p).files
 listed_files p d ids e = e ∙ ap (files_in d) (sym (files_are p))
 
-pub found_file : (p : Plain) (d x y : ℕ) (o : Option ℕ) → o ≡ found p.files (names_of d x y) → option_map (file_at p.files) o ≡ file_named (names_of d x y) (machine_of p).files
+pub found_file : (p : Plain) (d x y : ℕ) (o : Option ℕ) → o ≡ found p.files (names_of d x y)
+    → option_map (file_at p.files) o ≡ file_named (names_of d x y) (machine_of p).files
 found_file p d x y o e = ap (option_map (file_at p.files)) e ∙ found_named p.files (names_of d x y) ∙ sym (ap (file_named (names_of d x y)) (files_are p))
 
 -- those before place i are listed
@@ -36,14 +38,16 @@ map_more : (s : Store) (ids : List ℕ) (id : ℕ) (fs : List File) → map (fil
 map_more s [] id fs = refl
 map_more s (x ∷ ids) id fs = ap (λ ys. file_at s x ∷ ys) (map_more s ids id fs)
 
-all_more : (s : Store) (ids : List ℕ) (id : ℕ) → list_all (λ i. is_file (entry_at s i)) ids ≡ true → is_file (entry_at s id) ≡ true → list_all (λ i. is_file (entry_at s i)) (ids ++ id ∷ []) ≡ true
+all_more : (s : Store) (ids : List ℕ) (id : ℕ) → list_all (λ i. is_file (entry_at s i)) ids ≡ true → is_file (entry_at s id) ≡ true
+    → list_all (λ i. is_file (entry_at s i)) (ids ++ id ∷ []) ≡ true
 all_more s ids id h f = list_all-append (λ i. is_file (entry_at s i)) ids (id ∷ []) ∙ rw (h, f) refl
 
 module _ (s : Store) (d : ℕ) where
   pub listing_starts : Listing s d 0 []
   listing_starts = record { few = omega arith; files = refl; rest = refl }
 
-  module _ (i id : ℕ) (o : Option ℕ) (b : Bool) (ids : List ℕ) (h : Listing s d i ids) (at : o ≡ slice_get s.order i) (some : o ≡ Some id) (is : b ≡ is_in d (file_at s id)) where
+  module _ (i id : ℕ) (o : Option ℕ) (b : Bool) (ids : List ℕ) (h : Listing s d i ids) (at : o ≡ slice_get s.order i) (some : o ≡ Some id)
+      (is : b ≡ is_in d (file_at s id)) where
     here : rest_in s d i ≡ cond b (file_at s id ∷ rest_in s d (i + 1)) (rest_in s d (i + 1))
     here = rest_next s d i id o b at some is
 
@@ -72,7 +76,8 @@ get_first [] (suc i) = refl
 get_first (w ∷ ws) (suc i) = get_first ws i
 
 next_word : (ws : List ℕ) (j i : ℕ) → take (i + 1) (drop j ws) ≡ take i (drop j ws) ++ cons_option (slice_get ws (j + i)) []
-next_word ws j i = head_more (drop j ws) i ∙ ap (λ o. take i (drop j ws) ++ cons_option o []) (ap (λ xs. slice_get xs 0) (drop-drop i j ws) ∙ get_first ws (j + i))
+next_word ws j i = head_more (drop j ws) i ∙ ap (λ o. take i (drop j ws) ++ cons_option o [])
+    (ap (λ xs. slice_get xs 0) (drop-drop i j ws) ∙ get_first ws (j + i))
 
 pub record Row (ws : List ℕ) (j i : ℕ) (row : List ℕ) : Type 0 where
   pub few : length row ≤ i

@@ -21,19 +21,19 @@ use Rattle.its_files.proofs.EntryLaws.{within, file_stands}
 use Rattle.its_files.proofs.RoomBehindLaws.{no_room, most_appended, room_appended}
 use Rattle.its_jobs.specs.Table.{Table, job_at, superior_at}
 use Rattle.its_pipes.specs.Pipes.{piped}
-use Rattle.its_plain.specs.CallFile.{most_files, is_full, file_named, has_file}
-use Rattle.its_plain.specs.Change.{channel_in}
+use Rattle.its_plain.specs.Call.File.{most_files, is_full, file_named, has_file}
+use Rattle.its_plain.specs.Machine.Change.{channel_in}
 use Rattle.its_plain.specs.Machine.{Names, File, Machine}
 use Rattle.its_plain.specs.Machine as machines
 use Rattle.its_plain.specs.Operator.{and_then}
-use Rattle.its_plain.specs.OperatorClock.{clock_end}
-use Rattle.its_plain.specs.OperatorFiles.{channels_of, with_files, with_file_made_if, with_file_made, with_word_added_if, with_word_added_to, with_word_added, with_words_added}
+use Rattle.its_plain.specs.Operator.Clock.{clock_end}
+use Rattle.its_plain.specs.Operator.Files.{channels_of, with_files, with_file_made_if, with_file_made, with_word_added_if, with_word_added_to, with_word_added, with_words_added}
 use Rattle.its_plain.proofs.MachineLaws.{machine_is}
-use Rattle.its_machine.specs.Across.{Across, channel_by, channel_at, writers}
-use Rattle.its_machine.specs.Parts.{alarm_at, bare, chan_of, console_at, holder_at, symbols_at, raw_of}
-use Rattle.its_machine.proofs.RoomLaws.{full_on}
-use Rattle.its_machine.proofs.StandLaws.{reading_file, writing_draft}
-use Rattle.its_machine.proofs.StoreLaws.{found_named, has_named, named_self}
+use Rattle.its_shared.specs.Across.{Across, channel_by, channel_at, writers}
+use Rattle.its_shared.specs.Parts.{alarm_at, bare, chan_of, console_at, holder_at, symbols_at, raw_of}
+use Rattle.its_shared.proofs.RoomLaws.{full_on}
+use Rattle.its_shared.proofs.StandLaws.{reading_file, writing_draft}
+use Rattle.its_shared.proofs.StoreLaws.{found_named, has_named, named_self}
 use Rattle.its_direct.specs.Contents.{contents}
 use Rattle.its_direct.specs.Effects.{OnlyStore}
 use Rattle.its_direct.specs.Filing.{Leads}
@@ -52,7 +52,8 @@ use Rattle.its_direct.proofs.ContentsLaws.{core_as, jobs_as, consoles_as, holder
 
 -- what the channels are on is unchanged, if only the entry under one number is another: that is no
 -- draft, and a file keeps its names
-module _ (s u : Store) (t : Table) (across : Across s t) (id : ℕ) (entry : (k : ℕ) → k ≢ id → entry_at u k ≡ entry_at s k) (words : (k : ℕ) → k ≢ id → words_at u k ≡ words_at s k)
+module _ (s u : Store) (t : Table) (across : Across s t) (id : ℕ) (entry : (k : ℕ) → k ≢ id → entry_at u k ≡ entry_at s k)
+    (words : (k : ℕ) → k ≢ id → words_at u k ≡ words_at s k)
     (undrafted : is_draft (entry_at s id) ≡ false) (named : is_file (entry_at s id) ≡ true → names_at u id ≡ names_at s id) where
   names_stay : (f : ℕ) → is_file (entry_at s f) ≡ true → names_at u f ≡ names_at s f
   names_stay f file = elim (cases_eq f id) [
@@ -70,7 +71,8 @@ module _ (s u : Store) (t : Table) (across : Across s t) (id : ℕ) (entry : (k 
       λ i. machines.Writes (record { names = ap names_by (entry d ne) i; words = words d ne i })
   chan_stays k n _ e = refl
 
-across_stays : (s u : Store) (t : Table) → Across s t → ((f : ℕ) → readers_at u f ≡ readers_at s f) → ((d : ℕ) → writers (entry_at u d) (is_marked u d) ≡ writers (entry_at s d) (is_marked s d)) → Across u t
+across_stays : (s u : Store) (t : Table) → Across s t → ((f : ℕ) → readers_at u f ≡ readers_at s f)
+    → ((d : ℕ) → writers (entry_at u d) (is_marked u d) ≡ writers (entry_at s d) (is_marked s d)) → Across u t
 across_stays s u t a read written = record {
   past_slots = a.past_slots;
   past_numbers = a.past_numbers;
@@ -83,9 +85,11 @@ pub store_becomes : (old new : Plain) (x : Store) → new.files ≡ x → conten
 store_becomes old new x files e = record { is = e ∙ ap (λ (s : Store). record (contents old) { files = s }) files }
 
 -- the machine with other files, whose channels are on the same
-module _ (old new : Plain) (x : Store) (b : OnlyStore old new x) (stays : (k n : ℕ) (c : Channel) → channel_at old.jobs k n ≡ c → chan_of x c ≡ chan_of old.files c) where
+module _ (old new : Plain) (x : Store) (b : OnlyStore old new x)
+    (stays : (k n : ℕ) (c : Channel) → channel_at old.jobs k n ≡ c → chan_of x c ≡ chan_of old.files c) where
   raw_stays : (k : ℕ) (o : Option Job) → job_at old.jobs k ≡ o
-      → raw_of x (core_at old.core k) (superior_at old.jobs k) (alarm_at old.alarms.items k) o ≡ raw_of old.files (core_at old.core k) (superior_at old.jobs k) (alarm_at old.alarms.items k) o
+      → raw_of x (core_at old.core k) (superior_at old.jobs k) (alarm_at old.alarms.items k) o ≡ raw_of old.files (core_at old.core k)
+      (superior_at old.jobs k) (alarm_at old.alarms.items k) o
   raw_stays k None e = refl
   raw_stays k (Some j) e = λ i. Some (record {
     core = core_at old.core k;
@@ -98,8 +102,11 @@ module _ (old new : Plain) (x : Store) (b : OnlyStore old new x) (stays : (k n :
   pub files_machine : machine_of new ≡ with_files (machine_of old) (directory x)
   unfolding machine_of
   files_machine = machine_is _ _
-      (λ k. (λ t. raw_of (b.is t).files (core_at (b.is t).core k) (superior_at (b.is t).jobs k) (alarm_at (b.is t).alarms.items k) (job_at (b.is t).jobs k)) ∙ raw_stays k (job_at old.jobs k) refl)
-      (λ k. ap (λ l. console_at l.items k) (consoles_as b.is)) (λ k. ap (λ l. holder_at l k) (holders_as b.is)) (ap directory (files_as b.is)) (clock_as b.is) (version_as b.is) (λ k. ap (λ l. symbols_at l.items k) (symbols_as b.is)) (λ k. ap (λ l. piped l k) (pipes_as b.is))
+      (λ k. (λ t. raw_of (b.is t).files (core_at (b.is t).core k) (superior_at (b.is t).jobs k) (alarm_at (b.is t).alarms.items k)
+      (job_at (b.is t).jobs k)) ∙ raw_stays k (job_at old.jobs k) refl)
+      (λ k. ap (λ l. console_at l.items k) (consoles_as b.is)) (λ k. ap (λ l. holder_at l k) (holders_as b.is))
+      (ap directory (files_as b.is)) (clock_as b.is) (version_as b.is) (λ k. ap (λ l. symbols_at l.items k) (symbols_as b.is))
+      (λ k. ap (λ l. piped l k) (pipes_as b.is))
 
   pub files_tidy : x.mark ≡ None → Across x old.jobs → Tidy old → Tidy new
   files_tidy unmarked across tidy = record {
@@ -120,17 +127,21 @@ module _ (old new : Plain) (x : Store) (b : OnlyStore old new x) (stays : (k n :
 abbrev new_file : Names → File
 new_file n = record { names = n; words = [] }
 
-made_on : (p : Plain) (n : Names) → with_file_made (machine_of p) n ≡ with_file_made_if (machine_of p) n (is_some (found p.files n)) (nat_lt (length p.files.order) most_files)
+made_on : (p : Plain) (n : Names) → with_file_made (machine_of p) n ≡ with_file_made_if (machine_of p) n (is_some (found p.files n))
+    (nat_lt (length p.files.order) most_files)
 unfolding with_file_made
 made_on p n =
     ap (λ fs. with_file_made_if (machine_of p) n (has_file n fs) (nat_lt (length fs) most_files)) (files_are p)
     ∙ ap (λ b. with_file_made_if (machine_of p) n b (nat_lt (length (directory p.files)) most_files)) (has_named p.files n)
     ∙ ap (λ k. with_file_made_if (machine_of p) n (is_some (found p.files n)) (nat_lt k most_files)) (length-map p.files.order (file_at p.files))
 
-pub file_exists : (p : Plain) (n : Names) (o : Option ℕ) (b : Bool) → o ≡ found p.files n → b ≡ is_some o → b ≡ true → with_file_made (machine_of p) n ≡ Err reasons.Exists
-file_exists p n o b is e t = made_on p n ∙ ap (λ c. with_file_made_if (machine_of p) n c (nat_lt (length p.files.order) most_files)) (sym (ap is_some is) ∙ sym e ∙ t)
+pub file_exists : (p : Plain) (n : Names) (o : Option ℕ) (b : Bool) → o ≡ found p.files n → b ≡ is_some o → b ≡ true
+    → with_file_made (machine_of p) n ≡ Err reasons.Exists
+file_exists p n o b is e t = made_on p n ∙ ap (λ c. with_file_made_if (machine_of p) n c (nat_lt (length p.files.order) most_files))
+    (sym (ap is_some is) ∙ sym e ∙ t)
 
-pub file_full : (p : Plain) (n : Names) (o : Option ℕ) (b : Bool) (k : ℕ) → o ≡ found p.files n → b ≡ is_some o → b ≡ false → k ≡ length p.files.order → most_files ≤ k → with_file_made (machine_of p) n ≡ Err reasons.Full
+pub file_full : (p : Plain) (n : Names) (o : Option ℕ) (b : Bool) (k : ℕ) → o ≡ found p.files n → b ≡ is_some o → b ≡ false
+    → k ≡ length p.files.order → most_files ≤ k → with_file_made (machine_of p) n ≡ Err reasons.Full
 file_full p n o b k is e f count le =
     made_on p n ∙ ap (λ c. with_file_made_if (machine_of p) n c (nat_lt (length p.files.order) most_files)) (sym (ap is_some is) ∙ sym e ∙ f)
     ∙ ap (with_file_made_if (machine_of p) n false) (ap (λ m. nat_lt m most_files) (sym count) ∙ le-ltb k most_files le)
@@ -141,7 +152,8 @@ free_draft o e = ap is_draft e
 free_file : (o : Option Entry) → o ≡ None → is_file o ≡ true → ⊥
 free_file o e h = let wrong : false ≡ true = sym (ap is_file e) ∙ h in cc
 
-module _ (old new : Plain) (id : ℕ) (n : Names) (tidy : Tidy old) (few : length old.files.order < most_files) (fresh : found old.files n ≡ None) (free : entry_at old.files id ≡ None)
+module _ (old new : Plain) (id : ℕ) (n : Names) (tidy : Tidy old) (few : length old.files.order < most_files)
+    (fresh : found old.files n ≡ None) (free : entry_at old.files id ≡ None)
     (b : OnlyStore old new (with_file old.files id n)) (entry : Only (entry_at old.files) (entry_at new.files) id (Some (Standing n 0)))
     (words : Only (words_at old.files) (words_at new.files) id []) (files : directory new.files ≡ directory old.files ++ new_file n ∷ []) where
   entry_made : Only (entry_at old.files) (entry_at (with_file old.files id n)) id (Some (Standing n 0))
@@ -151,7 +163,8 @@ module _ (old new : Plain) (id : ℕ) (n : Names) (tidy : Tidy old) (few : lengt
   words_made = subst (λ (s : Store). Only (words_at old.files) (words_at s) id []) (files_as b.is) words
 
   made_chans : (k m : ℕ) (c : Channel) → channel_at old.jobs k m ≡ c → chan_of (with_file old.files id n) c ≡ chan_of old.files c
-  made_chans = chan_stays old.files (with_file old.files id n) old.jobs tidy.across id entry_made.others words_made.others (free_draft (entry_at old.files id) free)
+  made_chans = chan_stays old.files (with_file old.files id n) old.jobs tidy.across id entry_made.others words_made.others
+      (free_draft (entry_at old.files id) free)
       (λ h. absurd (free_file (entry_at old.files id) free h))
 
   pub made_row : with_file_made (machine_of old) n ≡ Ok (machine_of new)
@@ -168,7 +181,8 @@ module _ (old new : Plain) (id : ℕ) (n : Names) (tidy : Tidy old) (few : lengt
     | inr ne ↦ ap readers_by (entry_made.others f ne)
   ]
 
-  made_writers : (d : ℕ) → writers (entry_at (with_file old.files id n) d) (is_marked (with_file old.files id n) d) ≡ writers (entry_at old.files d) (is_marked old.files d)
+  made_writers : (d : ℕ) → writers (entry_at (with_file old.files id n) d) (is_marked (with_file old.files id n) d) ≡ writers
+      (entry_at old.files d) (is_marked old.files d)
   made_writers d = elim (cases_eq d id) [
     | inl e ↦
         ap (λ k. writers (entry_at (with_file old.files id n) k) (is_marked old.files d)) e ∙ ap (λ o. writers o (is_marked old.files d)) entry_made.here
@@ -177,13 +191,15 @@ module _ (old new : Plain) (id : ℕ) (n : Names) (tidy : Tidy old) (few : lengt
   ]
 
   pub made_tidy : Tidy new
-  made_tidy = files_tidy old new (with_file old.files id n) b made_chans tidy.unmarked (across_stays old.files (with_file old.files id n) old.jobs tidy.across made_readers made_writers) tidy
+  made_tidy = files_tidy old new (with_file old.files id n) b made_chans tidy.unmarked
+      (across_stays old.files (with_file old.files id n) old.jobs tidy.across made_readers made_writers) tidy
 
 pub placed_machine : (p new : Plain) (x : Spot) → new ≡ record p { place = x } → machine_of new ≡ machine_of p
 unfolding machine_of
 placed_machine p new x e = ap machine_of e
 
-pub file_done : (old mid at new : Plain) (n : Names) → with_file_made (machine_of old) n ≡ Ok (machine_of mid) → at ≡ record mid { place = spots.File n } → new ≡ record at { touched = no_slots }
+pub file_done : (old mid at new : Plain) (n : Names) → with_file_made (machine_of old) n ≡ Ok (machine_of mid)
+    → at ≡ record mid { place = spots.File n } → new ≡ record at { touched = no_slots }
     → Leads old new (spots.File n) (with_file_made (machine_of old) n)
 file_done old mid at new n made placed e = record {
   is = made ∙ ap Ok (sym (touched_machine at new no_slots e ∙ placed_machine mid at (spots.File n) placed));
@@ -195,7 +211,8 @@ pub file_tidy : (mid at new : Plain) (n : Names) → at ≡ record mid { place =
 file_tidy mid at new n placed e tidy = touched_tidy at new no_slots e (placed_tidy mid at (spots.File n) placed tidy)
 
 -- EOF
-pub ended : (old at new : Plain) → at ≡ record old { place = spots.Plain } → new ≡ record at { touched = no_slots } → Leads old new spots.Plain (Ok (machine_of old))
+pub ended : (old at new : Plain) → at ≡ record old { place = spots.Plain } → new ≡ record at { touched = no_slots }
+    → Leads old new spots.Plain (Ok (machine_of old))
 unfolding machine_of
 ended old at new placed e = record {
   is = ap Ok (sym (ap machine_of (e ∙ ap (λ (p : Plain). record p { touched = no_slots }) placed)));
@@ -207,7 +224,8 @@ pub ended_tidy : (old at new : Plain) → at ≡ record old { place = spots.Plai
 ended_tidy old at new placed e tidy = touched_tidy at new no_slots e (placed_tidy old at spots.Plain placed tidy)
 
 -- a word more of a file: the channels of the machine are those of the store
-channels_by : (s : Store) (p : Plain) (k n : ℕ) (o : Option Job) → channel_in (raw_of s (core_at p.core k) (superior_at p.jobs k) (alarm_at p.alarms.items k) o) n ≡ chan_of s (channel_by o n)
+channels_by : (s : Store) (p : Plain) (k n : ℕ) (o : Option Job)
+    → channel_in (raw_of s (core_at p.core k) (superior_at p.jobs k) (alarm_at p.alarms.items k) o) n ≡ chan_of s (channel_by o n)
 channels_by s p k n (Some j) = refl
 channels_by s p k n None = refl
 
@@ -220,8 +238,10 @@ file_no_draft (Some (Standing names readers)) h = refl
 file_no_draft (Some (Draft names)) h = cc
 file_no_draft None h = refl
 
-module _ (p : Plain) (whole : IsStore p.files) (tidy : Tidy p) (id : ℕ) (file : is_file (entry_at p.files id) ≡ true) (most : blocks_used p.files.stored ≤ 2048) where
-  added_on : (w : ℕ) → with_word_added (machine_of p) (names_at p.files id) w ≡ with_word_added_if (machine_of p) (names_at p.files id) w (store_is_full p.files.stored id)
+module _ (p : Plain) (whole : IsStore p.files) (tidy : Tidy p) (id : ℕ) (file : is_file (entry_at p.files id) ≡ true)
+    (most : blocks_used p.files.stored ≤ 2048) where
+  added_on : (w : ℕ) → with_word_added (machine_of p) (names_at p.files id) w ≡ with_word_added_if (machine_of p) (names_at p.files id) w
+      (store_is_full p.files.stored id)
   unfolding with_word_added
   added_on w =
       let m = machine_of p in
@@ -238,7 +258,8 @@ module _ (p : Plain) (whole : IsStore p.files) (tidy : Tidy p) (id : ℕ) (file 
   added_room w full ok = no_error (with_word_added (machine_of p) (names_at p.files id) w) reasons.Full (added_full w full) ok
 
   module _ (new : Plain) (w : ℕ) (b : OnlyStore p new (with_word p.files id w)) (entry : Same (entry_at p.files) (entry_at new.files))
-      (words : Only (words_at p.files) (words_at new.files) id (words_at p.files id ++ w ∷ [])) (files : directory new.files ≡ with_changed (names_at p.files id) (longer w) (directory p.files)) where
+      (words : Only (words_at p.files) (words_at new.files) id (words_at p.files id ++ w ∷ []))
+      (files : directory new.files ≡ with_changed (names_at p.files id) (longer w) (directory p.files)) where
     added_entry : (k : ℕ) → entry_at (with_word p.files id w) k ≡ entry_at p.files k
     added_entry k = refl
 
@@ -246,7 +267,8 @@ module _ (p : Plain) (whole : IsStore p.files) (tidy : Tidy p) (id : ℕ) (file 
     added_words = subst (λ (s : Store). Only (words_at p.files) (words_at s) id (words_at p.files id ++ w ∷ [])) (files_as b.is) words
 
     added_chans : (k m : ℕ) (c : Channel) → channel_at p.jobs k m ≡ c → chan_of (with_word p.files id w) c ≡ chan_of p.files c
-    added_chans = chan_stays p.files (with_word p.files id w) p.jobs tidy.across id (λ k ne. refl) added_words.others (file_no_draft (entry_at p.files id) file) (λ h. refl)
+    added_chans = chan_stays p.files (with_word p.files id w) p.jobs tidy.across id (λ k ne. refl) added_words.others
+        (file_no_draft (entry_at p.files id) file) (λ h. refl)
 
     pub added_row : store_is_full p.files.stored id ≡ false → with_word_added (machine_of p) (names_at p.files id) w ≡ Ok (machine_of new)
     added_row room =
@@ -257,7 +279,8 @@ module _ (p : Plain) (whole : IsStore p.files) (tidy : Tidy p) (id : ℕ) (file 
         ∙ ap Ok (sym (files_machine p new (with_word p.files id w) b added_chans))
 
     pub added_tidy : Tidy new
-    added_tidy = files_tidy p new (with_word p.files id w) b added_chans tidy.unmarked (across_stays p.files (with_word p.files id w) p.jobs tidy.across (λ f. refl) (λ d. refl)) tidy
+    added_tidy = files_tidy p new (with_word p.files id w) b added_chans tidy.unmarked
+        (across_stays p.files (with_word p.files id w) p.jobs tidy.across (λ f. refl) (λ d. refl)) tidy
 
 pub added_names : (s u : Store) (id : ℕ) → Same (entry_at s) (entry_at u) → names_at u id ≡ names_at s id
 added_names s u id e = ap names_by (e.each id)
@@ -280,13 +303,15 @@ module _ (s : Store) (whole : IsStore s) (id w : ℕ) (file : is_file (entry_at 
     few = whole.few;
     few_drafts = whole.few_drafts;
     unique = whole.unique;
-    bare = λ k none left. get_or-set_other s.stored.texts id k _ [] (λ e. free_file (entry_at s id) (ap (entry_at s) (sym e) ∙ none) file) ∙ whole.bare k none left;
+    bare = λ k none left. get_or-set_other s.stored.texts id k _ [] (λ e. free_file (entry_at s id) (ap (entry_at s) (sym e) ∙ none) file)
+        ∙ whole.bare k none left;
     marked = whole.marked;
   }
 
   words_longer : Only (words_at s) (words_at (with_word s id w)) id (words_at s id ++ w ∷ [])
   words_longer = record {
-    here = ap (words_by (entry_at s id)) (get_or-set_same s.stored.texts id (text_at s.stored.texts id ++ w ∷ []) [] long) ∙ words_more (entry_at s id) (text_at s.stored.texts id) file;
+    here = ap (words_by (entry_at s id)) (get_or-set_same s.stored.texts id (text_at s.stored.texts id ++ w ∷ []) [] long)
+        ∙ words_more (entry_at s id) (text_at s.stored.texts id) file;
     others = λ k ne. ap (words_by (entry_at s k)) (get_or-set_other s.stored.texts id k (text_at s.stored.texts id ++ w ∷ []) [] ne);
   }
     where
@@ -315,17 +340,20 @@ room_for p id (w ∷ ws) whole tidy file most = elim (cases_Bool (store_is_full 
       let words = words_longer p.files whole id w file in
       let files = with_word_file p.files whole id w file in
       let lt = long p.files whole id w file in
-      let rest = room_for q id ws (longer_store p.files whole id w file) (added_tidy p whole tidy id file most q w b entry words files) file (most_appended p.files.stored id w lt most f) in
+      let rest = room_for q id ws (longer_store p.files whole id w file) (added_tidy p whole tidy id file most q w b entry words files) file
+      (most_appended p.files.stored id w lt most f) in
       subst (Within (room_behind p.files.stored id) (suc (length ws)))
       (sym (ap (λ r. and_then r (λ k. with_words_added k (names_at p.files id) ws)) (added_row p whole tidy id file most q w b entry words files f)))
-      (one_more (room_behind q.files.stored id) (room_behind p.files.stored id) (length ws) (with_words_added (machine_of q) (names_at p.files id) ws) (room_appended p.files.stored id w lt most f) rest)
+      (one_more (room_behind q.files.stored id) (room_behind p.files.stored id) (length ws)
+      (with_words_added (machine_of q) (names_at p.files id) ws) (room_appended p.files.stored id w lt most f) rest)
 ]
   where
     one_more : (x y n : ℕ) (r : Result Machine Reason) → x + 1 ≡ y → Within x n r → Within y (suc n) r
     one_more x y n (Ok m) e h = omega arith
     one_more x y n (Err z) e h = let l = h.1 in (h.0, omega arith)
 
-module _ (p : Plain) (id room : ℕ) (ws : List ℕ) (whole : IsStore p.files) (tidy : Tidy p) (file : is_file (entry_at p.files id) ≡ true) (most : blocks_used p.files.stored ≤ 2048) (room_is : room ≡ room_behind p.files.stored id) where
+module _ (p : Plain) (id room : ℕ) (ws : List ℕ) (whole : IsStore p.files) (tidy : Tidy p) (file : is_file (entry_at p.files id) ≡ true)
+    (most : blocks_used p.files.stored ≤ 2048) (room_is : room ≡ room_behind p.files.stored id) where
   fits : Within room (length ws) (with_words_added (machine_of p) (names_at p.files id) ws)
   fits = subst (λ k. Within k (length ws) (with_words_added (machine_of p) (names_at p.files id) ws)) (sym room_is) (room_for p id ws whole tidy file most)
 
@@ -347,19 +375,24 @@ pub adding_starts : (p : Plain) (id : ℕ) (ws : List ℕ) → is_file (entry_at
 adding_starts p id ws file tidy = record { rest = refl; file = file; names = refl; place = refl; tidy = tidy }
 
 added_next : (old now : Plain) (id k w d : ℕ) (ws : List ℕ) → Adding old now id ws k → k < length ws → w ≡ get_or ws k d
-    → and_then (with_word_added (machine_of now) (names_at now.files id) w) (λ n. with_words_added n (names_at old.files id) (drop (k + 1) ws)) ≡ with_words_added (machine_of old) (names_at old.files id) ws
+    → and_then (with_word_added (machine_of now) (names_at now.files id) w)
+    (λ n. with_words_added n (names_at old.files id) (drop (k + 1) ws)) ≡ with_words_added (machine_of old) (names_at old.files id) ws
 added_next old now id k w d ws h l is =
     ap (λ ns. and_then (with_word_added (machine_of now) ns w) (λ n. with_words_added n (names_at old.files id) (drop (k + 1) ws))) h.names
     ∙ ap (λ x. with_words_added (machine_of now) (names_at old.files id) (x ∷ drop (k + 1) ws)) is
     ∙ ap (with_words_added (machine_of now) (names_at old.files id)) (sym (drop_more ws k d l)) ∙ h.rest
 
-pub adding_next : (old now : Plain) (id k w d : ℕ) (ws : List ℕ) → Adding old now id ws k → k < length ws → w ≡ get_or ws k d → IsOk (with_words_added (machine_of old) (names_at old.files id) ws)
+pub adding_next : (old now : Plain) (id k w d : ℕ) (ws : List ℕ) → Adding old now id ws k → k < length ws → w ≡ get_or ws k d
+    → IsOk (with_words_added (machine_of old) (names_at old.files id) ws)
     → IsOk (with_word_added (machine_of now) (names_at now.files id) w)
 adding_next old now id k w d ws h l is ok =
-    first_ok (with_word_added (machine_of now) (names_at now.files id) w) (λ n. with_words_added n (names_at old.files id) (drop (k + 1) ws)) (subst (λ (r : Result Machine Reason). IsOk r) (sym (added_next old now id k w d ws h l is)) ok)
+    first_ok (with_word_added (machine_of now) (names_at now.files id) w)
+    (λ n. with_words_added n (names_at old.files id) (drop (k + 1) ws))
+    (subst (λ (r : Result Machine Reason). IsOk r) (sym (added_next old now id k w d ws h l is)) ok)
 
 pub adding_more : (old now new : Plain) (id k w d : ℕ) (ws : List ℕ) → Adding old now id ws k → k < length ws → w ≡ get_or ws k d
-    → with_word_added (machine_of now) (names_at now.files id) w ≡ Ok (machine_of new) → is_file (entry_at new.files id) ≡ true → names_at new.files id ≡ names_at now.files id → new.place ≡ now.place → Tidy new
+    → with_word_added (machine_of now) (names_at now.files id) w ≡ Ok (machine_of new) → is_file (entry_at new.files id) ≡ true
+    → names_at new.files id ≡ names_at now.files id → new.place ≡ now.place → Tidy new
     → Adding old new id ws (k + 1)
 adding_more old now new id k w d ws h l is made file names place tidy = record {
   rest = sym (ap (λ r. and_then r (λ n. with_words_added n (names_at old.files id) (drop (k + 1) ws))) made) ∙ added_next old now id k w d ws h l is;
@@ -369,11 +402,13 @@ adding_more old now new id k w d ws h l is made file names place tidy = record {
   tidy = tidy;
 }
 
-pub adding_ends : (old now : Plain) (id k n : ℕ) (ws : List ℕ) → Adding old now id ws k → n ≡ length ws → n ≤ k → with_words_added (machine_of old) (names_at old.files id) ws ≡ Ok (machine_of now)
+pub adding_ends : (old now : Plain) (id k n : ℕ) (ws : List ℕ) → Adding old now id ws k → n ≡ length ws → n ≤ k
+    → with_words_added (machine_of old) (names_at old.files id) ws ≡ Ok (machine_of now)
 adding_ends old now id k n ws h is l = sym h.rest ∙ ap (with_words_added (machine_of now) (names_at old.files id)) (drop_of_length-le ws (omega arith))
 
 -- the line, if there is such a file, and if there is none
-pub appended : (old put new : Plain) (n : Names) (ws : List ℕ) → with_words_added (machine_of old) n ws ≡ Ok (machine_of put) → put.place ≡ old.place → new ≡ record put { touched = no_slots }
+pub appended : (old put new : Plain) (n : Names) (ws : List ℕ) → with_words_added (machine_of old) n ws ≡ Ok (machine_of put)
+    → put.place ≡ old.place → new ≡ record put { touched = no_slots }
     → Keeps old new (with_words_added (machine_of old) n ws)
 appended old put new n ws made place e = record {
   is = made ∙ ap Ok (sym (touched_machine put new no_slots e));
@@ -388,8 +423,10 @@ nothing_added : (p : Plain) (n : Names) (ws : List ℕ) → found p.files n ≡ 
 unfolding with_word_added
 nothing_added p n [] none = refl
 nothing_added p n (w ∷ ws) none =
-    ap (λ o. and_then (with_word_added_to (machine_of p) n w o) (λ k. with_words_added k n ws)) (ap (file_named n) (files_are p) ∙ sym (found_named p.files n) ∙ nothing_of (file_at p.files) (found p.files n) none)
+    ap (λ o. and_then (with_word_added_to (machine_of p) n w o) (λ k. with_words_added k n ws))
+    (ap (file_named n) (files_are p) ∙ sym (found_named p.files n) ∙ nothing_of (file_at p.files) (found p.files n) none)
     ∙ nothing_added p n ws none
 
-pub appended_none : (old new : Plain) (n : Names) (ws : List ℕ) (o : Option ℕ) → o ≡ found old.files n → o ≡ None → new ≡ record old { touched = no_slots } → Keeps old new (with_words_added (machine_of old) n ws)
+pub appended_none : (old new : Plain) (n : Names) (ws : List ℕ) (o : Option ℕ) → o ≡ found old.files n → o ≡ None
+    → new ≡ record old { touched = no_slots } → Keeps old new (with_words_added (machine_of old) n ws)
 appended_none old new n ws o is none e = appended old old new n ws (nothing_added old n ws (sym is ∙ none)) refl e

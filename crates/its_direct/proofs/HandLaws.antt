@@ -4,8 +4,8 @@ use Rattle.std.proofs.Common.{sym, ◌∙◌, subst}
 use Rattle.its_records.specs.declared.jobs.Job.{Job}
 use Rattle.its_core.specs.Cores.{core_at}
 use Rattle.its_jobs.specs.Table.{job_at}
-use Rattle.its_plain.specs.CallStep.{transition}
-use Rattle.its_plain.specs.Interrupt.{deliverable}
+use Rattle.its_plain.specs.Call.Step.{transition}
+use Rattle.its_plain.specs.Unit.Interrupt.{deliverable}
 use Rattle.its_plain.specs.Unit.{Called, unit}
 use Rattle.pdp_exec.specs.Near.{near_site}
 use Rattle.pdp_exec.specs.declared.near.Near.{Near}
@@ -27,7 +27,8 @@ hand_of p s n i h had =
     let same : h.job ≡ i = cc in
     subst (HandOf p s n) same (record { runs = h.runs; quiet = h.quiet; unit = h.unit })
 
-pub hand_calls : (p : Plain) (s : ℕ) (n : Near) (i : Job) → AtHand p s n → job_at p.jobs s ≡ Some i → CallsAt (machine_of p) s (near_site i.pc n) (transition (machine_of p) s)
+pub hand_calls : (p : Plain) (s : ℕ) (n : Near) (i : Job) → AtHand p s n → job_at p.jobs s ≡ Some i
+    → CallsAt (machine_of p) s (near_site i.pc n) (transition (machine_of p) s)
 hand_calls p s n i h had =
     let o = hand_of p s n i h had in
     calls_at p p.core s i (near_site i.pc n) had o.runs o.quiet refl o.unit

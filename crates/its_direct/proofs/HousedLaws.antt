@@ -12,20 +12,20 @@ use Rattle.its_records.specs.declared.session.Reason.{Reason}
 use Rattle.its_records.specs.declared.show.JobShow.{JobShow}
 use Rattle.its_print.specs.Printing.{Line, listed}
 use Rattle.its_session.specs.Fits.{EventFits}
-use Rattle.its_plain.specs.Change.{with_protection}
+use Rattle.its_plain.specs.Machine.Change.{with_protection}
 use Rattle.its_plain.specs.Machine.{Machine, Whole, mapped, with_job}
 use Rattle.its_plain.specs.Operator.{Block, Does, Quits, Refuses, Ticks, and_then, disturbs, quietly}
-use Rattle.its_plain.specs.OperatorClock.{clock_end, after_clock, after_clock_if, due, after_alarm_if}
-use Rattle.its_plain.specs.OperatorConsoles.{after_drain, with_typed}
-use Rattle.its_plain.specs.OperatorFiles.{with_file_made, file_shown, with_files, with_words_added}
-use Rattle.its_plain.specs.OperatorJobs.{after_cont, after_deposit, after_deposit_in, examined, after_int, after_load, on_job, on_registers, with_page_protected, with_page_protected_in, after_go, state_shown, after_stop, with_stored, with_core, with_registers, with_word_loaded, with_word_loaded_of, words_barred, with_words_loaded, with_words_loaded_if, with_words_stored}
-use Rattle.its_plain.specs.OperatorLines.{Done, Lined, Peeks, by_clock, by_exam, by_load, by_state, in_a_line, lined, operate, peeked_at, shows}
-use Rattle.its_plain.specs.OperatorSymbols.{with_symbol_kept, with_symbol_kept_if, with_symbol_kept_of}
-use Rattle.its_plain.specs.OperatorVersion.{with_version}
-use Rattle.its_plain.specs.Own.{names_of}
+use Rattle.its_plain.specs.Operator.Clock.{clock_end, after_clock, after_clock_if, due, after_alarm_if}
+use Rattle.its_plain.specs.Operator.Consoles.{after_drain, with_typed}
+use Rattle.its_plain.specs.Operator.Files.{with_file_made, file_shown, with_files, with_words_added}
+use Rattle.its_plain.specs.Operator.Jobs.{after_cont, after_deposit, after_deposit_in, examined, after_int, after_load, on_job, on_registers, with_page_protected, with_page_protected_in, after_go, state_shown, after_stop, with_stored, with_core, with_registers, with_word_loaded, with_word_loaded_of, words_barred, with_words_loaded, with_words_loaded_if, with_words_stored}
+use Rattle.its_plain.specs.Operator.Lines.{Done, Lined, Peeks, by_clock, by_exam, by_load, by_state, in_a_line, lined, operate, peeked_at, shows}
+use Rattle.its_plain.specs.Operator.Symbols.{with_symbol_kept, with_symbol_kept_if, with_symbol_kept_of}
+use Rattle.its_plain.specs.Operator.Version.{with_version}
+use Rattle.its_plain.specs.Machine.Own.{names_of}
 use Rattle.its_plain.proofs.CallLineLaws.{FilesAlone, added_files, made_files}
 use Rattle.its_stepped.specs.Consoled.{Consoled}
-use Rattle.its_stepped.proofs.ConsoledLaws.{HousedBy, jobs_consoled, loaded_consoled, put_consoled}
+use Rattle.its_stepped.proofs.Keeping.ConsoledLaws.{HousedBy, jobs_consoled, loaded_consoled, put_consoled}
 
 abbrev pub ConsoledBy : Result Machine Reason → Type 0
 ConsoledBy (Ok n) = Consoled n
@@ -51,7 +51,8 @@ deposited_consoled : (m : Machine) (s a w : ℕ) → Consoled m → ConsoledBy (
 unfolding after_deposit
 deposited_consoled m s a w h = go (m.jobs s) refl
   where
-    go : (o : Option Whole) → m.jobs s ≡ o → ConsoledBy (on_job m s (λ q. with_core m s q (after_deposit_in q.core a w (can_store q.core a) (is_some (word_at q.core a)))) o)
+    go : (o : Option Whole) → m.jobs s ≡ o → ConsoledBy (on_job m s
+        (λ q. with_core m s q (after_deposit_in q.core a w (can_store q.core a) (is_some (word_at q.core a)))) o)
     go (Some q) is = core_consoled m s q (after_deposit_in q.core a w (can_store q.core a) (is_some (word_at q.core a))) h is
     go None is = tt
 
@@ -68,7 +69,8 @@ stored_consoled : (m : Machine) (s a : ℕ) (ws : List ℕ) → Consoled m → C
 stored_consoled m s a [] h = h
 stored_consoled m s a (w ∷ ws) h = go (with_word_loaded m s a w) (word_consoled m s a w h) (λ n first. stored_consoled n s (a + 1) ws first)
   where
-    go : (r : Result Machine Reason) → ConsoledBy r → ((n : Machine) → Consoled n → ConsoledBy (with_words_stored n s (a + 1) ws)) → ConsoledBy (and_then r (λ n. with_words_stored n s (a + 1) ws))
+    go : (r : Result Machine Reason) → ConsoledBy r → ((n : Machine) → Consoled n → ConsoledBy (with_words_stored n s (a + 1) ws))
+        → ConsoledBy (and_then r (λ n. with_words_stored n s (a + 1) ws))
     go (Ok n) first rest = rest n first
     go (Err r) first rest = tt
 
@@ -144,12 +146,14 @@ quiet : (b : Block) (r : Result Machine Reason) → ConsoledBy r → LinedConsol
 quiet b (Ok n) h = h
 quiet b (Err r) h = tt
 
-loading : (m : Machine) (b : Block) (u j : ℕ) (console : Option ℕ) (r : Result (Machine × ℕ) Reason) → after_load m u j console ≡ r → IfSome console (λ c. c < 8) → Consoled m
+loading : (m : Machine) (b : Block) (u j : ℕ) (console : Option ℕ) (r : Result (Machine × ℕ) Reason) → after_load m u j console ≡ r
+    → IfSome console (λ c. c < 8) → Consoled m
     → LinedConsoled (Done (by_load b r))
 loading m b u j console (Ok (n, s)) is fits h = loaded_consoled m n u j s console fits h is
 loading m b u j console (Err r) is fits h = tt
 
-examining : (m : Machine) (b : Block) (s : ℕ) (show : List ℕ → List Line) (r : Result (List ℕ) Reason) → Consoled m → LinedConsoled (Done (by_exam m b s show r))
+examining : (m : Machine) (b : Block) (s : ℕ) (show : List ℕ → List Line) (r : Result (List ℕ) Reason) → Consoled m
+    → LinedConsoled (Done (by_exam m b s show r))
 examining m b s show (Ok ws) h = h
 examining m b s show (Err r) h = tt
 
@@ -177,8 +181,10 @@ each_line v m b (events.Words a words) fits h = disturbing b.slot b (with_words_
 each_line v m b (events.ReadOnly page) fits h = disturbing b.slot b (with_page_protected m b.slot page) (page_consoled m b.slot page h)
 each_line v m b (events.Symbol name a) fits h = quiet b (with_symbol_kept m b.slot name a) (symbol_consoled m b.slot name a h)
 each_line v m b (events.Go a) fits h = disturbing b.slot b (on_registers m b.slot (after_go a)) (registers_consoled m b.slot (after_go a) (λ j. refl) h)
-each_line v m b (events.File d x y) fits h = quiet (record b { file = names_of d x y }) (with_file_made m (names_of d x y)) (files_consoled m (with_file_made m (names_of d x y)) (made_files m (names_of d x y)) h)
-each_line v m b (events.Append words) fits h = quiet b (with_words_added m b.file words.items) (files_consoled m (with_words_added m b.file words.items) (added_files m b.file words.items) h)
+each_line v m b (events.File d x y) fits h = quiet (record b { file = names_of d x y }) (with_file_made m (names_of d x y))
+    (files_consoled m (with_file_made m (names_of d x y)) (made_files m (names_of d x y)) h)
+each_line v m b (events.Append words) fits h = quiet b (with_words_added m b.file words.items)
+    (files_consoled m (with_words_added m b.file words.items) (added_files m b.file words.items) h)
 each_line v m b (events.Tick s n) fits h = tt
 each_line v m b (events.TypeIn c bytes) fits h = jobs_consoled m (with_typed c bytes.items m) refl h
 each_line v m b (events.Drain c n) fits h = jobs_consoled m (after_drain c n m) refl h
@@ -195,5 +201,6 @@ each_line v m b (events.Show d x y) fits h = showing m b (file_shown m d x y) h
 each_line v m b events.End fits h = tt
 each_line v m b _ fits h = h
 
-pub line_consoled : (v : ℕ) (m n : Machine) (b c : Block) (e : Event) (out : List Line) (touched : ℕ → Bool) → EventFits v e → Consoled m → lined m b e ≡ Done (Does n out touched c) → Consoled n
+pub line_consoled : (v : ℕ) (m n : Machine) (b c : Block) (e : Event) (out : List Line) (touched : ℕ → Bool) → EventFits v e → Consoled m
+    → lined m b e ≡ Done (Does n out touched c) → Consoled n
 line_consoled v m n b c e out touched fits h is = subst LinedConsoled is (each_line v m b e fits h)

@@ -10,9 +10,9 @@ use Rattle.its_word.specs.Only.{Only}
 use Rattle.its_records.specs.declared.jobs.Job.{Job}
 use Rattle.its_core.specs.Cores.{Cores, core_at}
 use Rattle.its_jobs.specs.Table.{Table, job_at, superior_at}
-use Rattle.its_plain.specs.Change.{in_job}
+use Rattle.its_plain.specs.Machine.Change.{in_job}
 use Rattle.its_plain.specs.Machine.{Machine}
-use Rattle.its_machine.specs.Parts.{alarm_at}
+use Rattle.its_shared.specs.Parts.{alarm_at}
 use Rattle.pdp_exec.proofs.SeriesLaws.{units_keep}
 use Rattle.pdp_exec.specs.Units.{after_unit, after_units, left}
 use Rattle.its_direct.specs.InPlace.{UnitsIn}
@@ -36,20 +36,32 @@ put_here t s i j h = record {
     within (inl lt) = lt
     within (inr ge) = let n : slice_index_or t.jobs s None ≡ None = get_or_past t.jobs s None ge in cc
 
-job_put : (t : Table) (x s : ℕ) (i j : Job) → x ≡ s → job_at t s ≡ Some i → Only (job_at t) (job_at (record t { jobs = slice_set t.jobs x (Some j) })) s (Some j)
-job_put t x s i j at h = subst (λ (y : ℕ). Only (job_at t) (job_at (record t { jobs = slice_set t.jobs y (Some j) })) s (Some j)) (sym at) (put_here t s i j h)
+job_put : (t : Table) (x s : ℕ) (i j : Job) → x ≡ s → job_at t s ≡ Some i
+    → Only (job_at t) (job_at (record t { jobs = slice_set t.jobs x (Some j) })) s (Some j)
+job_put t x s i j at h = subst (λ (y : ℕ). Only (job_at t) (job_at (record t { jobs = slice_set t.jobs y (Some j) })) s (Some j)) (sym at)
+    (put_here t s i j h)
 
 put_back : (t : Table) (x s : ℕ) (j : Job) → x ≡ s → job_at t s ≡ Some j → slice_set t.jobs x (Some j) ≡ t.jobs
 put_back t x s j at h = ap (λ (y : ℕ). slice_set t.jobs y (Some j)) at ∙ ap (slice_set t.jobs s) (sym h) ∙ set-get_or t.jobs s None
 
 -- the machine with that core and those registers: a fact of the type holds in one way
-module _ (p : Plain) (x s : ℕ) (c : Cores) (i j : Job) (count : vec_len p.consoles ≡ 8) (places : vec_len p.alarms ≡ slots) (named : vec_len p.symbols ≡ slots) (limit : p.jobs.limit ≡ limit_of p.version)
+module _ (p : Plain) (x s : ℕ) (c : Cores) (i j : Job) (count : vec_len p.consoles ≡ 8) (places : vec_len p.alarms ≡ slots)
+    (named : vec_len p.symbols ≡ slots) (limit : p.jobs.limit ≡ limit_of p.version)
     (number : (1 ≤ p.version) × (p.version ≤ 2)) (at : x ≡ s) (had : job_at p.jobs s ≡ Some i) where
   abbrev put : Plain
-  put = record p { core = c; jobs = record p.jobs { jobs = slice_set p.jobs.jobs x (Some j) }; consoles_count = count; alarm_places = places; lists = named; limited = limit; numbered = number }
+  put = record p {
+    core = c;
+    jobs = record p.jobs { jobs = slice_set p.jobs.jobs x (Some j) };
+    consoles_count = count;
+    alarm_places = places;
+    lists = named;
+    limited = limit;
+    numbered = number;
+  }
 
   pub units_in : (n k : ℕ) → ((y : ℕ) → y ≢ s → core_at c y ≡ core_at p.core y) → c.reserved ≡ p.core.reserved
-      → after_units n (Some (left (core_at p.core s) i)) ≡ Some (left (core_at c s) j) → j.pc < 2 ^ 18 → (n < k → after_unit (Some (left (core_at c s) j)) ≡ None) → UnitsIn p put s n k
+      → after_units n (Some (left (core_at p.core s) i)) ≡ Some (left (core_at c s) j) → j.pc < 2 ^ 18
+      → (n < k → after_unit (Some (left (core_at c s) j)) ≡ None) → UnitsIn p put s n k
   units_in n k others reserved is placed most = record {
     job = i;
     left = left (core_at c s) j;
@@ -81,7 +93,8 @@ module _ (p : Plain) (x s : ℕ) (c : Cores) (i j : Job) (count : vec_len p.cons
 abbrev IsRunning : Option Job → Type 0
 IsRunning o = IfSome o (λ j. j.stopped ≡ false)
 
-pub runs_there : (p : Plain) (s : ℕ) (o : Option Job) (i : Job) → o ≡ job_at p.jobs s → o ≡ Some i → i.stopped ≡ false → IfSome (job_at p.jobs s) (λ j. j.stopped ≡ false)
+pub runs_there : (p : Plain) (s : ℕ) (o : Option Job) (i : Job) → o ≡ job_at p.jobs s → o ≡ Some i → i.stopped ≡ false
+    → IfSome (job_at p.jobs s) (λ j. j.stopped ≡ false)
 runs_there p s o i is some running = subst IsRunning (sym some ∙ is) running
 
 pub job_runs : (old new : Plain) (s n k : ℕ) (u : UnitsIn old new s n k) → IfSome (job_at old.jobs s) (λ j. j.stopped ≡ false) → u.job.stopped ≡ false
@@ -89,7 +102,8 @@ job_runs old new s n k u running = subst IsRunning u.had running
 
 -- if they are fewer than could be, no other is due
 pub none_due : (old put : Plain) (s n k : ℕ) (u : UnitsIn old put s n k) → n < k → unit_due (machine_of put) s ≡ false
-none_due old put s n k u less = due_spent put s u.left.job u.becomes.job.here (ap (λ (d : Core). after_unit (Some (left d u.left.job))) u.becomes.core.here ∙ u.most less)
+none_due old put s n k u less = due_spent put s u.left.job u.becomes.job.here
+    (ap (λ (d : Core). after_unit (Some (left d u.left.job))) u.becomes.core.here ∙ u.most less)
 
 -- so many steps
 module _ (old put new : Plain) (s n k : ℕ) (u : UnitsIn old put s n k) (e : new ≡ record put { touched = no_slots }) where
@@ -103,7 +117,8 @@ module _ (old put new : Plain) (s n k : ℕ) (u : UnitsIn old put s n k) (e : ne
 
   pub in_series : u.job.stopped ≡ false → Series n (machine_of old) s (machine_of new)
   in_series running = subst (Series n (machine_of old) s) (sym in_machine)
-      (units_series n (machine_of old) s (own_of old s u.job) (left (core_at old.core s) u.job) u.left (record { had = own_is old s u.job u.had; core = refl; job = refl; going = running }) u.is)
+      (units_series n (machine_of old) s (own_of old s u.job) (left (core_at old.core s) u.job) u.left
+      (record { had = own_is old s u.job u.had; core = refl; job = refl; going = running }) u.is)
 
   pub in_tidy : Tidy old → Tidy new
   in_tidy tidy = touched_tidy put new no_slots e (slot_tidy old put s u.left.core u.job u.left.job u.becomes u.had channels_kept u.placed tidy)

@@ -3,7 +3,6 @@ pub mod ContentsLaws
 pub mod SlotLaws
 pub mod TouchLaws
 pub mod UserLaws
-pub mod WordLaws
 pub mod LineLaws
 pub mod LinkLaws
 pub mod LoadLaws
@@ -36,3 +35,4 @@ pub mod PartLaws
 pub mod HandLaws
 pub mod WaitingLaws
 pub mod MovingLaws
+pub mod Groups

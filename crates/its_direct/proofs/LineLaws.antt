@@ -1,6 +1,6 @@
 -- The operator's lines on one job: the machine after each of them is what the line's definition
 -- says.
-use Rattle.std.specs.Prelude.{◌≡◌, ◌<◌, ◌^◌, ℕ, Bool, true, false, Option, Some, None, is_some, IsOk, List, [], ◌∷◌, Ok, Err, option_map, refl}
+use Rattle.std.specs.Prelude.{◌≡◌, ◌<◌, ◌^◌, ℕ, Bool, true, false, Option, Some, None, is_some, [], ◌∷◌, Ok, Err, option_map, refl}
 use Rattle.std.proofs.Common.{ap, sym, subst, ◌∙◌, inl, inr}
 use Rattle.std.proofs.lemmas.Bool.{cases_eq, eq-eqb, ne_eqb}
 use Rattle.its_word.specs.Core.{Core, word_at, can_store, store, putting, put}
@@ -12,18 +12,18 @@ use Rattle.its_records.specs.declared.session.Reason.TheVariants as reasons
 use Rattle.its_records.specs.declared.session.Refusal.{Refusal}
 use Rattle.its_core.specs.Cores.{core_at}
 use Rattle.its_jobs.specs.Table.{job_at, superior_at}
-use Rattle.its_plain.specs.Change.{in_job, on_slot}
-use Rattle.its_plain.specs.Footprint.{among}
+use Rattle.its_plain.specs.Machine.Change.{in_job, on_slot}
+use Rattle.its_plain.specs.Call.Footprint.{among}
 use Rattle.its_plain.specs.Machine.{Whole, Machine, with_job, changed, words_at}
 use Rattle.its_plain.specs.Operator.{only}
-use Rattle.its_plain.specs.OperatorJobs.{on_job, with_registers, on_registers, after_go, after_stop, after_cont, after_int, seen, examined, state_shown, shown, with_core, after_deposit_in, after_deposit}
-use Rattle.its_plain.specs.OperatorSymbols.{symbol_shown}
+use Rattle.its_plain.specs.Operator.Jobs.{on_job, with_registers, on_registers, after_go, after_stop, after_cont, after_int, seen, examined, state_shown, shown, with_core, after_deposit_in, after_deposit}
+use Rattle.its_plain.specs.Operator.Symbols.{symbol_shown}
 use Rattle.its_plain.proofs.MachineLaws.{machine_is}
-use Rattle.its_machine.specs.Parts.{bare, alarm_at}
-use Rattle.its_machine.proofs.PartLaws.{raw_job, changed_only, on_slot_here, on_slot_other}
+use Rattle.its_shared.specs.Parts.{bare, alarm_at}
+use Rattle.its_shared.proofs.PartLaws.{raw_job, changed_only, on_slot_here, on_slot_other}
 use Rattle.its_direct.specs.Plain.{machine_of, is_touched, no_slots, Tidy, CoreBecomes, JobBecomes}
 use Rattle.its_records.specs.Refusals.{reason_of}
-use Rattle.its_direct.specs.Lines.{refusal_of, one_slot, Operates, Looks, Rewritten}
+use Rattle.its_direct.specs.Lines.{refusal_of, one_slot, Operates, Rewritten}
 use Rattle.its_direct.specs.declared.plain.Plain.{Plain}
 use Rattle.its_direct.proofs.SlotLaws.{placed_at, core_machine, core_tidy, slot_machine, slot_tidy, touched_machine, touched_tidy}
 use Rattle.its_direct.proofs.TouchLaws.{one_touched}
@@ -50,17 +50,24 @@ pub only_touched : (put new : Plain) (s : ℕ) → s < slots → new ≡ record 
 only_touched put new s l e k = one_touched new.touched no_slots s l (ap (λ (p : Plain). p.touched) e) refl k ∙ among_only s k
 
 -- registers are written
-pub rewritten : (old put new : Plain) (s : ℕ) (i k : Job) → s < slots → job_at old.jobs s ≡ Some i → k.channels ≡ i.channels → JobBecomes old put s k → new ≡ record put { touched = one_slot s }
+pub rewritten : (old put new : Plain) (s : ℕ) (i k : Job) → s < slots → job_at old.jobs s ≡ Some i → k.channels ≡ i.channels
+    → JobBecomes old put s k → new ≡ record put { touched = one_slot s }
     → Rewritten old new s k
 rewritten old put new s i k l had same b e = record {
   machine = touched_machine put new (one_slot s) e ∙ slot_machine old put s (core_at old.core s) i k (λ q. record q { job = bare k }) b had
-      (λ t. record (own_of old s i) { job = bare k; channels = λ n. (raw_job old.files (core_at old.core s) (record i { channels = sym same t }) (superior_at old.jobs s) (alarm_at old.alarms.items s)).channels n });
+      (λ t. record (own_of old s i) {
+        job = bare k;
+        channels = λ n.
+            (raw_job old.files (core_at old.core s) (record i { channels = sym same t }) (superior_at old.jobs s) (alarm_at old.alarms.items s)).channels n;
+      });
   touched = only_touched put new s l e;
   place = ap (λ (p : Plain). p.place) e ∙ place_as b.aside.is;
 }
 
-pub rewritten_tidy : (old put new : Plain) (s : ℕ) (i k : Job) → job_at old.jobs s ≡ Some i → k.channels ≡ i.channels → k.pc < 2 ^ 18 → JobBecomes old put s k → new ≡ record put { touched = one_slot s } → Tidy old → Tidy new
-rewritten_tidy old put new s i k had same placed b e tidy = touched_tidy put new (one_slot s) e (slot_tidy old put s (core_at old.core s) i k b had same placed tidy)
+pub rewritten_tidy : (old put new : Plain) (s : ℕ) (i k : Job) → job_at old.jobs s ≡ Some i → k.channels ≡ i.channels → k.pc < 2 ^ 18
+    → JobBecomes old put s k → new ≡ record put { touched = one_slot s } → Tidy old → Tidy new
+rewritten_tidy old put new s i k had same placed b e tidy = touched_tidy put new (one_slot s) e
+    (slot_tidy old put s (core_at old.core s) i k b had same placed tidy)
 
 -- PC, if it is kept
 pub kept_placed : (p : Plain) (s : ℕ) (i k : Job) (o : Option Job) → o ≡ job_at p.jobs s → o ≡ Some i → k.pc ≡ i.pc → Tidy p → k.pc < 2 ^ 18
@@ -71,7 +78,8 @@ on_own : (m : Machine) (s : ℕ) (q : Whole) (f : Job → Job) → m.jobs s ≡ 
 unfolding on_registers
 on_own m s q f is = ap (on_job m s (with_registers m s f)) is
 
-pub registers_done : (old new : Plain) (s : ℕ) (i k : Job) (f : Job → Job) → job_at old.jobs s ≡ Some i → k ≡ f i → bare (f i) ≡ f (bare i) → Rewritten old new s k
+pub registers_done : (old new : Plain) (s : ℕ) (i k : Job) (f : Job → Job) → job_at old.jobs s ≡ Some i → k ≡ f i → bare (f i) ≡ f (bare i)
+    → Rewritten old new s k
     → Operates old new s (on_registers (machine_of old) s f)
 registers_done old new s i k f had is same w = record {
   is = on_own (machine_of old) s (own_of old s i) f (own_is old s i had)
@@ -81,7 +89,8 @@ registers_done old new s i k f had is same w = record {
   place = w.place;
 }
 
-pub registers_refused : (p : Plain) (s : ℕ) (f : Job → Job) (o : Option Job) → o ≡ job_at p.jobs s → o ≡ None → on_registers (machine_of p) s f ≡ Err reasons.NoJob
+pub registers_refused : (p : Plain) (s : ℕ) (f : Job → Job) (o : Option Job) → o ≡ job_at p.jobs s → o ≡ None
+    → on_registers (machine_of p) s f ≡ Err reasons.NoJob
 unfolding on_registers
 registers_refused p s f o is none = ap (on_job (machine_of p) s (with_registers (machine_of p) s f)) (nobody_is p s (sym is ∙ none))
 
@@ -97,20 +106,12 @@ pub cont_done : (old new : Plain) (s : ℕ) (i k : Job) (o : Option Job) → o �
     → Operates old new s (on_registers (machine_of old) s after_cont)
 cont_done old new s i k o is some e w = registers_done old new s i k after_cont (sym is ∙ some) e refl w
 
-pub interrupt_done : (old new : Plain) (s v w : ℕ) (i k : Job) (o : Option Job) → o ≡ job_at old.jobs s → o ≡ Some i → k ≡ after_int v w i → Rewritten old new s k
+pub interrupt_done : (old new : Plain) (s v w : ℕ) (i k : Job) (o : Option Job) → o ≡ job_at old.jobs s → o ≡ Some i → k ≡ after_int v w i
+    → Rewritten old new s k
     → Operates old new s (on_registers (machine_of old) s (after_int v w))
 interrupt_done old new s v w i k o is some e r = registers_done old new s i k (after_int v w) (sym is ∙ some) e refl r
 
 -- STATE
-pub state_done : (old new : Plain) (s : ℕ) (i : Job) (o : Option Job) → s < slots → o ≡ job_at old.jobs s → o ≡ Some i → new ≡ record old { touched = one_slot s } → Looks old new s (state_shown (machine_of old) s)
-unfolding state_shown
-state_done old new s i o l is some e = let had : job_at old.jobs s ≡ Some i = sym is ∙ some in record {
-  shown = subst IsOk (sym (ap (on_job (machine_of old) s (λ q. Ok (shown q.job q.superior (symbol_shown q.job.pc ((machine_of old).symbols s))))) (own_is old s i had))) refl;
-  machine = touched_machine old new (one_slot s) e;
-  touched = only_touched old new s l e;
-  place = ap (λ (p : Plain). p.place) e;
-}
-
 pub state_refused : (p : Plain) (s : ℕ) (o : Option Job) → o ≡ job_at p.jobs s → o ≡ None → state_shown (machine_of p) s ≡ Err reasons.NoJob
 unfolding state_shown
 state_refused p s o is none =
@@ -121,39 +122,22 @@ pub examined_own : (p : Plain) (s a n : ℕ) (i : Job) → job_at p.jobs s ≡ S
 unfolding examined
 examined_own p s a n i had = ap (on_job (machine_of p) s (λ q. seen (words_at q.core a n))) (own_is p s i had)
 
-seen_ok : (o : Option (List ℕ)) → is_some o ≡ true → IsOk (seen o)
-seen_ok (Some ws) h = refl
-seen_ok None h = cc
-
-seen_err : (o : Option (List ℕ)) → is_some o ≡ false → seen o ≡ Err reasons.NoPage
-seen_err (Some ws) h = cc
-seen_err None h = refl
-
-pub exam_done : (old new : Plain) (s a n : ℕ) (i : Job) (o : Option Job) (b : Bool) → s < slots → o ≡ job_at old.jobs s → o ≡ Some i → b ≡ is_some (words_at (core_at old.core s) a n) → b ≡ true → new ≡ record old { touched = one_slot s }
-    → Looks old new s (examined (machine_of old) s a n)
-exam_done old new s a n i o b l is some has there e = let had : job_at old.jobs s ≡ Some i = sym is ∙ some in record {
-  shown = subst IsOk (sym (examined_own old s a n i had)) (seen_ok (words_at (core_at old.core s) a n) (sym has ∙ there));
-  machine = touched_machine old new (one_slot s) e;
-  touched = only_touched old new s l e;
-  place = ap (λ (p : Plain). p.place) e;
-}
-
-pub exam_absent : (p : Plain) (s a n : ℕ) (i : Job) (o : Option Job) (b : Bool) → o ≡ job_at p.jobs s → o ≡ Some i → b ≡ is_some (words_at (core_at p.core s) a n) → b ≡ false → examined (machine_of p) s a n ≡ Err reasons.NoPage
-exam_absent p s a n i o b is some has none = examined_own p s a n i (sym is ∙ some) ∙ seen_err (words_at (core_at p.core s) a n) (sym has ∙ none)
-
 pub exam_refused : (p : Plain) (s a n : ℕ) (o : Option Job) → o ≡ job_at p.jobs s → o ≡ None → examined (machine_of p) s a n ≡ Err reasons.NoJob
 unfolding examined
 exam_refused p s a n o is none = ap (on_job (machine_of p) s (λ q. seen (words_at q.core a n))) (nobody_is p s (sym is ∙ none))
 
 -- DEPOSIT
 deposited_own : (p : Plain) (s a w : ℕ) (i : Job) → job_at p.jobs s ≡ Some i
-    → after_deposit (machine_of p) s a w ≡ with_core (machine_of p) s (own_of p s i) (after_deposit_in (core_at p.core s) a w (can_store (core_at p.core s) a) (is_some (word_at (core_at p.core s) a)))
+    → after_deposit (machine_of p) s a w ≡ with_core (machine_of p) s (own_of p s i)
+    (after_deposit_in (core_at p.core s) a w (can_store (core_at p.core s) a) (is_some (word_at (core_at p.core s) a)))
 unfolding after_deposit
 deposited_own p s a w i had =
-    ap (on_job (machine_of p) s (λ q. with_core (machine_of p) s q (after_deposit_in q.core a w (can_store q.core a) (is_some (word_at q.core a))))) (own_is p s i had)
+    ap (on_job (machine_of p) s (λ q. with_core (machine_of p) s q
+    (after_deposit_in q.core a w (can_store q.core a) (is_some (word_at q.core a))))) (own_is p s i had)
 
 pub deposit_done : (old put new : Plain) (s a w : ℕ) (i : Job) → s < slots → job_at old.jobs s ≡ Some i → can_store (core_at old.core s) a ≡ true
-    → CoreBecomes old put s (store (core_at old.core s) a w) → new ≡ record put { touched = one_slot s } → Operates old new s (after_deposit (machine_of old) s a w)
+    → CoreBecomes old put s (store (core_at old.core s) a w) → new ≡ record put { touched = one_slot s }
+    → Operates old new s (after_deposit (machine_of old) s a w)
 deposit_done old put new s a w i l had can b e = record {
   is = deposited_own old s a w i had
       ∙ ap (λ x. with_core (machine_of old) s (own_of old s i) (after_deposit_in (core_at old.core s) a w x (is_some (word_at (core_at old.core s) a)))) can
@@ -163,7 +147,8 @@ deposit_done old put new s a w i l had can b e = record {
   place = ap (λ (p : Plain). p.place) e ∙ place_as b.aside.is;
 }
 
-pub deposit_tidy : (old put new : Plain) (s : ℕ) (c : Core) (i : Job) → job_at old.jobs s ≡ Some i → CoreBecomes old put s c → new ≡ record put { touched = one_slot s } → Tidy old → Tidy new
+pub deposit_tidy : (old put new : Plain) (s : ℕ) (c : Core) (i : Job) → job_at old.jobs s ≡ Some i → CoreBecomes old put s c
+    → new ≡ record put { touched = one_slot s } → Tidy old → Tidy new
 deposit_tidy old put new s c i had b e tidy = touched_tidy put new (one_slot s) e (core_tidy old put s c i b had tidy)
 
 barred : (m : Machine) (s : ℕ) (q : Whole) (c : Core) (a w : ℕ) (can : Bool) (o : Option ℕ) (e : NoAccess) → putting c a w can o ≡ Err e
@@ -172,7 +157,8 @@ barred m s q c a w true o e h = cc
 barred m s q c a w false (Some v) e h = let is : ReadOnly ≡ e = cc in ap (λ (x : NoAccess). Err (reason_of (refusal_of x))) is
 barred m s q c a w false None e h = let is : Absent ≡ e = cc in ap (λ (x : NoAccess). Err (reason_of (refusal_of x))) is
 
-pub deposit_barred : (p : Plain) (s a w : ℕ) (i : Job) (o : Option Job) (e : NoAccess) (r : Refusal) → o ≡ job_at p.jobs s → o ≡ Some i → put (core_at p.core s) a w ≡ Err e → r ≡ refusal_of e
+pub deposit_barred : (p : Plain) (s a w : ℕ) (i : Job) (o : Option Job) (e : NoAccess) (r : Refusal) → o ≡ job_at p.jobs s → o ≡ Some i
+    → put (core_at p.core s) a w ≡ Err e → r ≡ refusal_of e
     → after_deposit (machine_of p) s a w ≡ Err (reason_of r)
 deposit_barred p s a w i o e r same some h is =
     deposited_own p s a w i (sym same ∙ some)
@@ -182,4 +168,5 @@ deposit_barred p s a w i o e r same some h is =
 pub deposit_refused : (p : Plain) (s a w : ℕ) (o : Option Job) → o ≡ job_at p.jobs s → o ≡ None → after_deposit (machine_of p) s a w ≡ Err reasons.NoJob
 unfolding after_deposit
 deposit_refused p s a w o is none =
-    ap (on_job (machine_of p) s (λ q. with_core (machine_of p) s q (after_deposit_in q.core a w (can_store q.core a) (is_some (word_at q.core a))))) (nobody_is p s (sym is ∙ none))
+    ap (on_job (machine_of p) s (λ q. with_core (machine_of p) s q
+    (after_deposit_in q.core a w (can_store q.core a) (is_some (word_at q.core a))))) (nobody_is p s (sym is ∙ none))

@@ -4,7 +4,7 @@ use Rattle.std.proofs.Common.{ap, sym, subst, ◌∙◌, inl, inr, lit<}
 use Rattle.std.proofs.lemmas.Bool.{cases_eq}
 use Rattle.std.proofs.lemmas.List.{get_or-set_same, get_or-set_other}
 use Rattle.its_pipes.specs.Pipes.{piped}
-use Rattle.its_stepped.proofs.FrameLaws.{changed_same}
+use Rattle.its_stepped.proofs.Frame.FrameLaws.{changed_same}
 use Rattle.its_word.specs.Core.{no_core}
 use Rattle.its_word.specs.Limits.{slots}
 use Rattle.its_word.specs.Only.{Only}
@@ -15,15 +15,15 @@ use Rattle.its_records.specs.declared.session.Reason.TheVariants as reasons
 use Rattle.its_core.specs.Cores.{core_at, clear_at}
 use Rattle.its_files.specs.Files.{Store, directory}
 use Rattle.its_jobs.specs.Table.{job_at, superior_at}
-use Rattle.its_plain.specs.Change.{console_in, inferior}
+use Rattle.its_plain.specs.Machine.Change.{console_in, inferior}
 use Rattle.its_plain.specs.Machine.{Machine, whole, changed, limit, with_new}
-use Rattle.its_plain.specs.OperatorJobs.{after_load, after_load_in, new_job, held_by, with_holder}
-use Rattle.its_plain.specs.OperatorClock.{clock_end}
+use Rattle.its_plain.specs.Operator.Jobs.{after_load, after_load_in, new_job, held_by, with_holder}
+use Rattle.its_plain.specs.Operator.Clock.{clock_end}
 use Rattle.its_plain.proofs.MachineLaws.{machine_is}
-use Rattle.its_machine.specs.Across.{channel_by, channel_at, Across}
-use Rattle.its_machine.specs.Parts.{alarm_at, console_at, holder_at, symbols_at, raw_of, raw_at}
-use Rattle.its_machine.proofs.AcrossLaws.{across_table}
-use Rattle.its_machine.proofs.PartLaws.{changed_at, changed_only, fresh_closed, fresh_raw}
+use Rattle.its_shared.specs.Across.{channel_by, channel_at, Across}
+use Rattle.its_shared.specs.Parts.{alarm_at, console_at, holder_at, symbols_at, raw_of, raw_at}
+use Rattle.its_shared.proofs.AcrossLaws.{across_table}
+use Rattle.its_shared.proofs.PartLaws.{changed_at, changed_only, fresh_closed, fresh_raw}
 use Rattle.its_direct.specs.Plain.{machine_of, Aside, Tidy}
 use Rattle.its_direct.specs.Effects.{Becomes, console_of}
 use Rattle.its_direct.specs.Lines.{one_slot, Loads}
@@ -67,7 +67,8 @@ module _ (old new : Plain) (s u j : ℕ) (above console : Option ℕ) (tidy : Ti
   made_other : (k : ℕ) → k ≢ s → raw_at new.files new.core new.jobs new.alarms.items k ≡ raw_at old.files old.core old.jobs old.alarms.items k
   made_other k ne = λ t. raw_of (files t) (core_at (core t) k) (superior.others k ne t) (alarm_at (alarms t).items k) (job.others k ne t)
 
-  pub made_jobs : (k : ℕ) → raw_at new.files new.core new.jobs new.alarms.items k ≡ changed (raw_at old.files old.core old.jobs old.alarms.items) s (Some (whole no_core (fresh_job u j console) above)) k
+  pub made_jobs : (k : ℕ) → raw_at new.files new.core new.jobs new.alarms.items k ≡ changed
+      (raw_at old.files old.core old.jobs old.alarms.items) s (Some (whole no_core (fresh_job u j console) above)) k
   made_jobs k = changed_at _ _ s (Some (whole no_core (fresh_job u j console) above)) made_here made_other k
 
   apart : (n : ℕ) → job_at new.jobs n ≡ None → n ≢ s
@@ -89,10 +90,12 @@ pub made_machine : (old new : Plain) (s u j : ℕ) (above console : Option ℕ) 
     → new.core ≡ old.core → Aside old new → machine_of new ≡ with_new (machine_of old) s (whole no_core (fresh_job u j console) above)
 unfolding machine_of
 made_machine old new s u j above console tidy least job superior core aside = machine_is _ _
-    (made_jobs old new s u j above console tidy (least_empty old.jobs.limit (job_at old.jobs) s least) job superior core (files_as aside.is) (alarms_as aside.is))
+    (made_jobs old new s u j above console tidy (least_empty old.jobs.limit (job_at old.jobs) s least) job superior core (files_as aside.is)
+    (alarms_as aside.is))
     (λ k. ap (λ l. console_at l.items k) (consoles_as aside.is)) (λ k. ap (λ l. holder_at l k) (holders_as aside.is)) (ap directory (files_as aside.is))
     (clock_as aside.is) (version_as aside.is)
-    (λ k. ap (λ l. symbols_at l.items k) (symbols_as aside.is) ∙ changed_same (symbols_at old.symbols.items) s k [] (tidy.nameless s (least_empty old.jobs.limit (job_at old.jobs) s least)))
+    (λ k. ap (λ l. symbols_at l.items k) (symbols_as aside.is)
+    ∙ changed_same (symbols_at old.symbols.items) s k [] (tidy.nameless s (least_empty old.jobs.limit (job_at old.jobs) s least)))
     (λ k. ap (λ l. piped l k) (pipes_as aside.is))
 
 pub made_tidy : (old new : Plain) (s u j : ℕ) (above console : Option ℕ) → Tidy old → least_free old.jobs.limit (job_at old.jobs) ≡ Some s
@@ -118,27 +121,33 @@ made_tidy old new s u j above console tidy least job superior core aside =
 -- the holder of its console
 same_holder : (holders : ℕ → Option ℕ) (c s h k : ℕ) → holders c ≡ Some h → holders k ≡ changed holders c (held_by s (holders c)) k
 same_holder holders c s h k e = elim (cases_eq k c) [
-  | inl is ↦ ap holders is ∙ e ∙ sym (ap (changed holders c (held_by s (holders c))) is ∙ (changed_only holders c (held_by s (holders c))).here ∙ ap (held_by s) e)
+  | inl is ↦ ap holders is ∙ e ∙ sym (ap (changed holders c (held_by s (holders c))) is
+      ∙ (changed_only holders c (held_by s (holders c))).here ∙ ap (held_by s) e)
   | inr ne ↦ sym ((changed_only holders c (held_by s (holders c))).others k ne)
 ]
 
 pub held_keeps : (p : Plain) (s c h : ℕ) (o : Option ℕ) → o ≡ holder_at p.holders c → o ≡ Some h → machine_of p ≡ with_holder (machine_of p) s (Some c)
 unfolding machine_of
-held_keeps p s c h o is some = machine_is _ _ (λ k. refl) (λ k. refl) (λ k. same_holder (holder_at p.holders) c s h k (sym is ∙ some)) refl refl refl (λ k. refl) (λ k. refl)
+held_keeps p s c h o is some = machine_is _ _ (λ k. refl) (λ k. refl) (λ k. same_holder (holder_at p.holders) c s h k (sym is ∙ some)) refl
+    refl refl (λ k. refl) (λ k. refl)
 
-given_by : (hs : List (Option ℕ)) (s c k : ℕ) → c < length hs → holder_at hs c ≡ None → holder_at (slice_set hs c (Some s)) k ≡ changed (holder_at hs) c (held_by s (holder_at hs c)) k
+given_by : (hs : List (Option ℕ)) (s c k : ℕ) → c < length hs → holder_at hs c ≡ None
+    → holder_at (slice_set hs c (Some s)) k ≡ changed (holder_at hs) c (held_by s (holder_at hs c)) k
 given_by hs s c k l none = elim (cases_eq k c) [
   | inl is ↦
       ap (holder_at (slice_set hs c (Some s))) is ∙ get_or-set_same hs c (Some s) None l
-      ∙ sym (ap (changed (holder_at hs) c (held_by s (holder_at hs c))) is ∙ (changed_only (holder_at hs) c (held_by s (holder_at hs c))).here ∙ ap (held_by s) none)
+      ∙ sym (ap (changed (holder_at hs) c (held_by s (holder_at hs c))) is
+      ∙ (changed_only (holder_at hs) c (held_by s (holder_at hs c))).here ∙ ap (held_by s) none)
   | inr ne ↦ get_or-set_other hs c k (Some s) None ne ∙ sym ((changed_only (holder_at hs) c (held_by s (holder_at hs c))).others k ne)
 ]
 
-given_machine : (p : Plain) (s c : ℕ) → c < length p.holders → holder_at p.holders c ≡ None → machine_of (record p { holders = slice_set p.holders c (Some s) }) ≡ with_holder (machine_of p) s (Some c)
+given_machine : (p : Plain) (s c : ℕ) → c < length p.holders → holder_at p.holders c ≡ None
+    → machine_of (record p { holders = slice_set p.holders c (Some s) }) ≡ with_holder (machine_of p) s (Some c)
 unfolding machine_of
 given_machine p s c l none = machine_is _ _ (λ k. refl) (λ k. refl) (λ k. given_by p.holders s c k l none) refl refl refl (λ k. refl) (λ k. refl)
 
-pub held_given : (p new : Plain) (s c : ℕ) (o : Option ℕ) → o ≡ holder_at p.holders c → o ≡ None → c < length p.holders → new ≡ record p { holders = slice_set p.holders c (Some s) }
+pub held_given : (p new : Plain) (s c : ℕ) (o : Option ℕ) → o ≡ holder_at p.holders c → o ≡ None → c < length p.holders
+    → new ≡ record p { holders = slice_set p.holders c (Some s) }
     → machine_of new ≡ with_holder (machine_of p) s (Some c)
 held_given p new s c o is none l e = ap machine_of e ∙ given_machine p s c l (sym is ∙ none)
 
@@ -157,7 +166,8 @@ holder_keeps p hs h = record {
 pub holder_tidy : (p new : Plain) (hs : List (Option ℕ)) → new ≡ record p { holders = hs } → Tidy p → Tidy new
 holder_tidy p new hs e h = subst Tidy (sym e) (holder_keeps p hs h)
 
-pub console_some : (old new : Plain) (s c : ℕ) (console : Option ℕ) → console ≡ Some c → machine_of new ≡ with_holder (machine_of old) s (Some c) → machine_of new ≡ with_holder (machine_of old) s console
+pub console_some : (old new : Plain) (s c : ℕ) (console : Option ℕ) → console ≡ Some c
+    → machine_of new ≡ with_holder (machine_of old) s (Some c) → machine_of new ≡ with_holder (machine_of old) s console
 console_some old new s c console e h = h ∙ ap (with_holder (machine_of old) s) (sym e)
 
 pub console_none : (p : Plain) (s : ℕ) (console : Option ℕ) → console ≡ None → machine_of p ≡ with_holder (machine_of p) s console
@@ -190,23 +200,27 @@ pub load_done : (old mid put at new : Plain) (s u j : ℕ) (console : Option ℕ
 unfolding after_load
 load_done old mid put at new s u j console l least made held placed e = record {
   is = ap (after_load_in (machine_of old) u j console) least
-      ∙ ap (λ (m : Machine). Ok (m, s)) (sym (touched_machine at new (one_slot s) e ∙ ap machine_of placed ∙ placed_machine put (spots.Load s) ∙ held ∙ ap (λ (m : Machine). with_holder m s console) made));
+      ∙ ap (λ (m : Machine). Ok (m, s)) (sym (touched_machine at new (one_slot s) e ∙ ap machine_of placed
+      ∙ placed_machine put (spots.Load s) ∙ held ∙ ap (λ (m : Machine). with_holder m s console) made));
   touched = only_touched at new s l e;
   place = ap (λ (p : Plain). p.place) e ∙ ap (λ (p : Plain). p.place) placed;
 }
 
-pub load_full : (p : Plain) (u j : ℕ) (console : Option ℕ) → least_free (limit (machine_of p)) (machine_of p).jobs ≡ None → after_load (machine_of p) u j console ≡ Err reasons.Full
+pub load_full : (p : Plain) (u j : ℕ) (console : Option ℕ) → least_free (limit (machine_of p)) (machine_of p).jobs ≡ None
+    → after_load (machine_of p) u j console ≡ Err reasons.Full
 unfolding after_load
 load_full p u j console none = ap (after_load_in (machine_of p) u j console) none
 
 -- an inferior, in the least free slot of the machine
-pub same_free : (p : Plain) (s k : ℕ) → least_free (limit (machine_of p)) (machine_of p).jobs ≡ Some s → least_free p.jobs.limit (job_at p.jobs) ≡ Some k → k ≡ s
+pub same_free : (p : Plain) (s k : ℕ) → least_free (limit (machine_of p)) (machine_of p).jobs ≡ Some s
+    → least_free p.jobs.limit (job_at p.jobs) ≡ Some k → k ≡ s
 same_free p s k e f = let same : Some k ≡ Some s = sym f ∙ sym (least_is p) ∙ e in cc
 
 pub none_full : (p : Plain) (s : ℕ) → least_free (limit (machine_of p)) (machine_of p).jobs ≡ Some s → least_free p.jobs.limit (job_at p.jobs) ≡ None → ⊥
 none_full p s e f = let same : None ≡ Some s = sym f ∙ sym (least_is p) ∙ e in cc
 
-console_by : (p : Plain) (s : ℕ) (o : Option Job) → console_in (raw_of p.files (core_at p.core s) (superior_at p.jobs s) (alarm_at p.alarms.items s) o) ≡ console_of o
+console_by : (p : Plain) (s : ℕ) (o : Option Job) → console_in
+    (raw_of p.files (core_at p.core s) (superior_at p.jobs s) (alarm_at p.alarms.items s) o) ≡ console_of o
 console_by p s (Some j) = refl
 console_by p s None = refl
 
@@ -214,8 +228,10 @@ console_here : (p : Plain) (s : ℕ) → console_in ((machine_of p).jobs s) ≡ 
 unfolding machine_of
 console_here p s = console_by p s (job_at p.jobs s)
 
-pub inferior_made : (old new : Plain) (maker s k u j : ℕ) (console : Option ℕ) → Tidy old → least_free (limit (machine_of old)) (machine_of old).jobs ≡ Some s → least_free old.jobs.limit (job_at old.jobs) ≡ Some k
-    → console ≡ console_of (job_at old.jobs maker) → Only (job_at old.jobs) (job_at new.jobs) k (Some (fresh_job u j console)) → Only (superior_at old.jobs) (superior_at new.jobs) k (Some maker)
+pub inferior_made : (old new : Plain) (maker s k u j : ℕ) (console : Option ℕ) → Tidy old
+    → least_free (limit (machine_of old)) (machine_of old).jobs ≡ Some s → least_free old.jobs.limit (job_at old.jobs) ≡ Some k
+    → console ≡ console_of (job_at old.jobs maker) → Only (job_at old.jobs) (job_at new.jobs) k (Some (fresh_job u j console))
+    → Only (superior_at old.jobs) (superior_at new.jobs) k (Some maker)
     → new.core ≡ old.core → Aside old new → Becomes old new (with_new (machine_of old) s (inferior maker ((machine_of old).jobs maker) u j))
 inferior_made old new maker s k u j console tidy least free c job superior core aside = record {
   machine = made_machine old new k u j (Some maker) console tidy free job superior core aside

@@ -5,11 +5,11 @@ use Rattle.std.proofs.Common.{ap, ◌∙◌, subst, arith}
 use Rattle.its_records.specs.declared.calls.Ask.{Ask}
 use Rattle.its_records.specs.declared.calls.Operand.{Operand}
 use Rattle.its_frame.specs.declared.decision.Held.{Held}
-use Rattle.its_plain.specs.Arguments.{debts, operands_with_values, place_in, place_of_input, store_of, stores_of, with_new_values}
-use Rattle.its_plain.specs.CallStep.{after_moves}
-use Rattle.its_plain.specs.Change.{effects, in_job}
+use Rattle.its_plain.specs.Call.Arguments.{debts, operands_with_values, place_in, place_of_input, store_of, stores_of, with_new_values}
+use Rattle.its_plain.specs.Call.Step.{after_moves}
+use Rattle.its_plain.specs.Machine.Change.{effects, in_job}
 use Rattle.its_plain.specs.Machine.{Machine}
-use Rattle.its_plain.specs.Tests.{goes}
+use Rattle.its_plain.specs.Call.Tests.{goes}
 use Rattle.its_stepped.specs.Alarmed.{Alarmed}
 use Rattle.its_stepped.specs.Consoled.{Consoled}
 use Rattle.its_stepped.specs.Forest.{Forest}
@@ -64,12 +64,15 @@ kept_marked p tidy kept = record {
 -- a part that is decided
 module _ (old new : Plain) (s : ℕ) (a b : Ask) (x : Shift) (h : Option Held) (v w : ℕ) (kept : Kept old) (at : AtCall (machine_of old) s a)
     (dec : Decides (machine_of old) s a (goes (change_of x ∷ []) h (v ∷ w ∷ [])))
-    (row : Becomes old new (in_job (effects (change_of x ∷ []) s (machine_of old)) s (after_moves a h (v ∷ w ∷ [])))) (renewed : b ≡ with_new_values a (v ∷ w ∷ [])) where
+    (row : Becomes old new (in_job (effects (change_of x ∷ []) s (machine_of old)) s (after_moves a h (v ∷ w ∷ []))))
+    (renewed : b ≡ with_new_values a (v ∷ w ∷ [])) where
   pub moved_row : PartIf true old new s b
   moved_row = subst (λ (m : Machine). OnePart (machine_of old) s m × AtCall m s b) (touch_machine new no_slots)
-      (part_row old s a (record { items = change_of x ∷ [] }) h (record { items = v ∷ w ∷ [] }) kept at dec new (record new { touched = no_slots }) b (shift_unmade x) row refl renewed)
+      (part_row old s a (record { items = change_of x ∷ [] }) h (record { items = v ∷ w ∷ [] }) kept at dec new
+      (record new { touched = no_slots }) b (shift_unmade x) row refl renewed)
 
   pub moved_kept : old.place ≡ spots.Plain → Tidy new → Kept new
   moved_kept outside tidy = kept_marked new tidy
-      (part_kept old s a (record { items = change_of x ∷ [] }) h (record { items = v ∷ w ∷ [] }) kept at dec new (record new { touched = no_slots }) b (shift_unmade x) row refl renewed outside
+      (part_kept old s a (record { items = change_of x ∷ [] }) h (record { items = v ∷ w ∷ [] }) kept at dec new
+      (record new { touched = no_slots }) b (shift_unmade x) row refl renewed outside
       (touch_tidy new no_slots tidy))

@@ -16,26 +16,26 @@ use Rattle.its_frame.specs.declared.change.Change.{Change}
 use Rattle.its_frame.specs.declared.decision.Decision.TheVariants.{Goes}
 use Rattle.its_frame.specs.declared.decision.Held.{Held}
 use Rattle.its_word.specs.Stores.{stored}
-use Rattle.its_plain.specs.Arguments.{debts, operands_with_values, with_new_values}
-use Rattle.its_plain.specs.CallStep.{Transition, acted, after_moves, decision, is_made, transition}
-use Rattle.its_plain.specs.Change.{effects, in_job}
-use Rattle.its_plain.specs.Decide.{reach}
-use Rattle.its_plain.specs.Decode.{ask}
-use Rattle.its_plain.specs.Footprint.{Stands}
-use Rattle.its_plain.specs.Interrupt.{deliverable}
+use Rattle.its_plain.specs.Call.Arguments.{debts, operands_with_values, with_new_values}
+use Rattle.its_plain.specs.Call.Step.{Transition, acted, after_moves, decision, is_made, transition}
+use Rattle.its_plain.specs.Machine.Change.{effects, in_job}
+use Rattle.its_plain.specs.Call.Decide.{reach}
+use Rattle.its_plain.specs.Call.Decode.{ask}
+use Rattle.its_plain.specs.Call.Footprint.{Stands}
+use Rattle.its_plain.specs.Unit.Interrupt.{deliverable}
 use Rattle.its_plain.specs.Machine.{Machine, Whole}
-use Rattle.its_plain.specs.Moves.{moves_of_all}
+use Rattle.its_plain.specs.Call.Moves.{moves_of_all}
 use Rattle.its_plain.specs.Unit.{Called, unit}
 use Rattle.its_plain.proofs.StepLaws.{transition_called}
-use Rattle.its_machine.proofs.PartLaws.{on_slot_here}
+use Rattle.its_shared.proofs.PartLaws.{on_slot_here}
 use Rattle.its_stepped.specs.Commit.{effects_on}
 use Rattle.its_stepped.specs.Duty.{Duty, Going}
 use Rattle.its_stepped.specs.State.{State}
 use Rattle.its_stepped.specs.Tick.{reserves}
-use Rattle.its_stepped.proofs.DecodingLaws.{decoding}
-use Rattle.its_stepped.proofs.GivenLaws.{decision_duty}
-use Rattle.its_stepped.proofs.OwnLaws.{Sees, spared}
-use Rattle.its_stepped.proofs.OwnLaws as owns
+use Rattle.its_stepped.proofs.Frame.DecodingLaws.{decoding}
+use Rattle.its_stepped.proofs.Duties.GivenLaws.{decision_duty}
+use Rattle.its_stepped.proofs.Frame.OwnLaws.{Sees, spared}
+use Rattle.its_stepped.proofs.Frame.OwnLaws as owns
 use Rattle.its_direct.specs.Effects.{Becomes}
 use Rattle.its_direct.specs.Events.{Kept}
 use Rattle.pdp_exec.specs.Near.{near_site}
@@ -62,7 +62,8 @@ use Rattle.its_direct.proofs.UserLaws.{own_is, quiet_is, unit_is}
 
 -- the last two of three inputs get new values
 renewed_list : (xs : List Operand) (v w : ℕ) → length xs ≡ 3
-    → slice_set (slice_set xs 1 (record (slice_index_or xs 1 no_input) { value = v })) 2 (record (slice_index_or (slice_set xs 1 (record (slice_index_or xs 1 no_input) { value = v })) 2 no_input) { value = w })
+    → slice_set (slice_set xs 1 (record (slice_index_or xs 1 no_input) { value = v })) 2
+    (record (slice_index_or (slice_set xs 1 (record (slice_index_or xs 1 no_input) { value = v })) 2 no_input) { value = w })
     ≡ take (length xs - 2) xs ++ operands_with_values (drop (length xs - 2) xs) (v ∷ w ∷ [])
 renewed_list (x ∷ y ∷ z ∷ []) v w l = refl
 renewed_list [] v w l = absurd cc
@@ -82,8 +83,10 @@ one_more : (n : ℕ) (m p o : Machine) (j : ℕ) → InParts n m j p → OnePart
 one_more zero m p o j so one = (o, subst (λ (x : Machine). OnePart x j o) so one, refl)
 one_more (suc n) m p o j so one = (so.0, so.1, one_more n so.0 p o j so.2 one)
 
-pub parts_more : (old now new : Plain) (s n : ℕ) (a : Ask) (b : Bool) → b ≡ true → InParts n (machine_of old) s (machine_of now) → PartIf b now new s a → InParts (n + 1) (machine_of old) s (machine_of new)
-parts_more old now new s n a true is so one = subst (λ k. InParts k (machine_of old) s (machine_of new)) (next n) (one_more n (machine_of old) (machine_of now) (machine_of new) s so one.0)
+pub parts_more : (old now new : Plain) (s n : ℕ) (a : Ask) (b : Bool) → b ≡ true → InParts n (machine_of old) s (machine_of now)
+    → PartIf b now new s a → InParts (n + 1) (machine_of old) s (machine_of new)
+parts_more old now new s n a true is so one = subst (λ k. InParts k (machine_of old) s (machine_of new)) (next n)
+    (one_more n (machine_of old) (machine_of now) (machine_of new) s so one.0)
   where
     next : (k : ℕ) → suc k ≡ k + 1
     next k = omega arith
@@ -93,7 +96,8 @@ pub parts_at : (now new : Plain) (s : ℕ) (a : Ask) (b : Bool) → b ≡ true �
 parts_at now new s a true is one = one.1
 parts_at now new s a false is one = absurd (false≢true is)
 
-pub parts_end : (old now new : Plain) (s n : ℕ) (a : Ask) (b : Bool) → b ≡ false → InParts n (machine_of old) s (machine_of now) → PartIf b now new s a → InParts n (machine_of old) s (machine_of new)
+pub parts_end : (old now new : Plain) (s n : ℕ) (a : Ask) (b : Bool) → b ≡ false → InParts n (machine_of old) s (machine_of now)
+    → PartIf b now new s a → InParts n (machine_of old) s (machine_of new)
 parts_end old now new s n a false is so one = subst (λ (p : Plain). InParts n (machine_of old) s (machine_of p)) (sym one) so
 parts_end old now new s n a true is so one = absurd (false≢true (sym is))
 
@@ -104,7 +108,8 @@ parts_all m o s k n few most so = subst (λ (i : ℕ). InParts i m s o) (le_anti
     le_antisym i j a b = omega arith
 
 -- a job at a call
-pub at_call : (p : Plain) (s : ℕ) (n : Near) (i : Job) (a : Ask) (r : Result Ask Fault) → AtHand p s n → job_at p.jobs s ≡ Some i → r ≡ ask (core_at p.core s) (near_site i.pc n) → r ≡ Ok a
+pub at_call : (p : Plain) (s : ℕ) (n : Near) (i : Job) (a : Ask) (r : Result Ask Fault) → AtHand p s n → job_at p.jobs s ≡ Some i
+    → r ≡ ask (core_at p.core s) (near_site i.pc n) → r ≡ Ok a
     → AtCall (machine_of p) s a
 at_call p s n i a r h had e got =
     let o = hand_of p s n i h had in
@@ -118,7 +123,8 @@ at_call p s n i a r h had e got =
     }
 
 pub decides : (p : Plain) (v : Seen) (s : ℕ) (i : Job) (a : Ask) (o : Option NextMove) → Lent p v → job_at p.jobs s ≡ Some i
-    → IfSome o (λ m. moving m ≡ decision (machine_seen v) s (raw_with v s i) a) → IfSome o (λ m. reach (machine_seen v) s (raw_with v s i) a ≡ []) → IfSome o (λ m. Decides (machine_of p) s a (moving m))
+    → IfSome o (λ m. moving m ≡ decision (machine_seen v) s (raw_with v s i) a)
+    → IfSome o (λ m. reach (machine_seen v) s (raw_with v s i) a ≡ []) → IfSome o (λ m. Decides (machine_of p) s a (moving m))
 decides p v s i a None h had e alone = tt
 decides p v s i a (Some m) h had e alone = record {
   own = own_of p s i;
@@ -132,19 +138,22 @@ moved_job : (a : Ask) (h : Option Held) (vs : List ℕ) (q : Whole) → (after_m
 moved_job a (Some b) vs q = refl
 moved_job a None vs q = refl
 
-moved_core : (a : Ask) (h : Option Held) (vs : List ℕ) (q : Whole) → (after_moves a h vs q).core ≡ stored (held_in q.core (with_new_values a vs) h) (debts (with_new_values a vs) (length vs))
+moved_core : (a : Ask) (h : Option Held) (vs : List ℕ) (q : Whole)
+    → (after_moves a h vs q).core ≡ stored (held_in q.core (with_new_values a vs) h) (debts (with_new_values a vs) (length vs))
 moved_core a (Some b) vs q = refl
 moved_core a None vs q = refl
 
 abbrev going_step : Machine → ℕ → Ask → List Change → Option Held → List ℕ → Transition
 going_step m j a cs h vs = record { machine = in_job (effects cs j m) j (after_moves a h vs); moves = moves_of_all cs j m; disturbs = []; part = true }
 
-going_is : (m : Machine) (j : ℕ) (a : Ask) (cs : ArrayVec Change) (h : Option Held) (vs : ArrayVec ℕ) → acted m j a [] (Goes cs h vs) ≡ Some (going_step m j a cs.items h vs.items)
+going_is : (m : Machine) (j : ℕ) (a : Ask) (cs : ArrayVec Change) (h : Option Held) (vs : ArrayVec ℕ)
+    → acted m j a [] (Goes cs h vs) ≡ Some (going_step m j a cs.items h vs.items)
 unfolding acted
 going_is m j a cs h vs = refl
 
 -- a part that is decided
-module _ (old : Plain) (s : ℕ) (a : Ask) (cs : ArrayVec Change) (h : Option Held) (vs : ArrayVec ℕ) (kept : Kept old) (at : AtCall (machine_of old) s a) (dec : Decides (machine_of old) s a (Goes cs h vs)) where
+module _ (old : Plain) (s : ℕ) (a : Ask) (cs : ArrayVec Change) (h : Option Held) (vs : ArrayVec ℕ) (kept : Kept old)
+    (at : AtCall (machine_of old) s a) (dec : Decides (machine_of old) s a (Goes cs h vs)) where
   abbrev m : Machine
   m = machine_of old
 
@@ -166,10 +175,12 @@ module _ (old : Plain) (s : ℕ) (a : Ask) (cs : ArrayVec Change) (h : Option He
 
   pub part_can : CanCarryOut m s a (Goes cs h vs)
   part_can = subst (CanCarryOut m s a) decided_is
-      (ready m s at.own at.site a kept.forest kept.consoled at.had (subst (λ (w : Option Whole). IfSome w (λ q. q.job.pc < 2 ^ 18)) at.had ((addressed old kept.tidy).each s)) at.stands)
+      (ready m s at.own at.site a kept.forest kept.consoled at.had
+      (subst (λ (w : Option Whole). IfSome w (λ q. q.job.pc < 2 ^ 18)) at.had ((addressed old kept.tidy).each s)) at.stands)
 
   step_is : transition m s ≡ Some (going_step m s a cs.items h vs.items)
-  step_is = transition_called m s at.own at.site (Ok a) at.had at.runs at.quiet at.stands.unit_is at.stands.ask_is ∙ (λ t. acted m s a (alone_is t) (decided_is t)) ∙ going_is m s a cs h vs
+  step_is = transition_called m s at.own at.site (Ok a) at.had at.runs at.quiet at.stands.unit_is at.stands.ask_is
+      ∙ (λ t. acted m s a (alone_is t) (decided_is t)) ∙ going_is m s a cs h vs
 
   -- the job after it
   sees : Sees owns.own_of ((effects_on cs.items s begun).raw.jobs s) (owns.own_of at.own)
@@ -183,7 +194,8 @@ module _ (old : Plain) (s : ℕ) (a : Ask) (cs : ArrayVec Change) (h : Option He
 
   core_is : (after_moves a h vs.items at.own).core ≡ (after_moves a h vs.items sees.whole).core
   core_is = moved_core a h vs.items at.own
-      ∙ ap (λ (c : Core). stored (held_in c (with_new_values a vs.items) h) (debts (with_new_values a vs.items) (length vs.items))) (sym (ap (λ (p : Core × Job). p.0) sees.same))
+      ∙ ap (λ (c : Core). stored (held_in c (with_new_values a vs.items) h) (debts (with_new_values a vs.items) (length vs.items)))
+      (sym (ap (λ (p : Core × Job). p.0) sees.same))
       ∙ sym (moved_core a h vs.items sees.whole)
 
   at_after : AtCall (in_job (effects cs.items s m) s (after_moves a h vs.items)) s (with_new_values a vs.items)
@@ -197,7 +209,8 @@ module _ (old : Plain) (s : ℕ) (a : Ask) (cs : ArrayVec Change) (h : Option He
         (subst (λ (j : Job). Stands (after_moves a h vs.items at.own).core j at.site (with_new_values a vs.items)) (sym job_is) duty.stands);
   }
 
-  module _ (mid new : Plain) (b : Ask) (none : list_any is_making cs.items ≡ false) (row : Becomes old mid (in_job (effects cs.items s m) s (after_moves a h vs.items)))
+  module _ (mid new : Plain) (b : Ask) (none : list_any is_making cs.items ≡ false)
+      (row : Becomes old mid (in_job (effects cs.items s m) s (after_moves a h vs.items)))
       (e : new ≡ record mid { touched = no_slots }) (renewed_is : b ≡ with_new_values a vs.items) where
     new_is : machine_of new ≡ in_job (effects cs.items s m) s (after_moves a h vs.items)
     new_is = touched_machine mid new no_slots e ∙ row.machine
@@ -221,8 +234,16 @@ module _ (old : Plain) (s : ℕ) (a : Ask) (cs : ArrayVec Change) (h : Option He
 
     pub part_row : PartIf true old new s b
     part_row = (
-      record { step = going_step m s a cs.items h vs.items; is = step_is; machine = new_is; part = refl; alone = refl; unmade = λ k. ap (λ (n : Machine). is_made m n k) new_is ∙ unmade_is k },
-      subst (λ (n : Machine). AtCall n s b) (sym new_is) (subst (AtCall (in_job (effects cs.items s m) s (after_moves a h vs.items)) s) (sym renewed_is) at_after),
+      record {
+        step = going_step m s a cs.items h vs.items;
+        is = step_is;
+        machine = new_is;
+        part = refl;
+        alone = refl;
+        unmade = λ k. ap (λ (n : Machine). is_made m n k) new_is ∙ unmade_is k;
+      },
+      subst (λ (n : Machine). AtCall n s b) (sym new_is) (subst (AtCall (in_job (effects cs.items s m) s (after_moves a h vs.items)) s)
+          (sym renewed_is) at_after),
     )
 
     pub part_kept : old.place ≡ spots.Plain → Tidy new → Kept new

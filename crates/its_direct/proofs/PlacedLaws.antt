@@ -12,13 +12,13 @@ use Rattle.its_records.specs.declared.session.Reason.{Reason}
 use Rattle.its_records.proofs.FreeLaws.{least_below, limit_few}
 use Rattle.its_word.proofs.NamesLaws.{same_refl}
 use Rattle.its_session.specs.Events.{place_after}
-use Rattle.its_plain.specs.CallFile.{has_file, is_full, file_named, most_files}
+use Rattle.its_plain.specs.Call.File.{has_file, is_full, file_named, most_files}
 use Rattle.its_plain.specs.Machine.{Names, File, Whole, Machine, limit}
 use Rattle.its_plain.specs.Operator.{Block, Does, Refuses, Ticks, Quits, and_then, disturbs, quietly}
-use Rattle.its_plain.specs.OperatorFiles.{channels_of, with_file_made, with_file_made_if, with_word_added, with_word_added_if, with_word_added_to, with_words_added}
-use Rattle.its_plain.specs.OperatorJobs.{after_load, after_load_in}
-use Rattle.its_plain.specs.OperatorLines.{Lined, Done, Peeks, by_load, lined, operate}
-use Rattle.its_plain.specs.Own.{names_of}
+use Rattle.its_plain.specs.Operator.Files.{channels_of, with_file_made, with_file_made_if, with_word_added, with_word_added_if, with_word_added_to, with_words_added}
+use Rattle.its_plain.specs.Operator.Jobs.{after_load, after_load_in}
+use Rattle.its_plain.specs.Operator.Lines.{Lined, Done, Peeks, by_load, lined, operate}
+use Rattle.its_plain.specs.Machine.Own.{names_of}
 use Rattle.its_plain.proofs.CallLineLaws.{SlotKept, Stays, Made, LineKeepsBy, line_keeps}
 use Rattle.its_direct.specs.Events.{MayStand, SpotFits, Speaks, spot_place}
 use Rattle.its_direct.specs.declared.plain.Spot.{Spot}
@@ -48,7 +48,8 @@ plain_placed (Done Quits) = tt
 plain_placed (Peeks s) = tt
 
 -- LOAD makes the job, and the lines of its block leave it
-load_placed : (m : Machine) (b : Block) (u j : ℕ) (console o : Option ℕ) → least_free (limit m) m.jobs ≡ o → PlacedBy places.Load (Done (by_load b (after_load_in m u j console o)))
+load_placed : (m : Machine) (b : Block) (u j : ℕ) (console o : Option ℕ) → least_free (limit m) m.jobs ≡ o
+    → PlacedBy places.Load (Done (by_load b (after_load_in m u j console o)))
 load_placed m b u j console None is = tt
 load_placed m b u j console (Some s) is =
     let below : s < limit m = least_below (limit m) m.jobs s is in let few = limit_few m.version in
@@ -64,11 +65,13 @@ job_stays (Some q) None (Stays e) h = cc
 job_stays (Some q) None (Made u j c none is) h = cc
 job_stays None None kept h = cc
 
-disturbs_placed : (m : Machine) (b : Block) (r : Result Machine Reason) → LineKeepsBy m (Done (disturbs b.slot b r)) → Placed m b places.Load → PlacedBy places.Load (Done (disturbs b.slot b r))
+disturbs_placed : (m : Machine) (b : Block) (r : Result Machine Reason) → LineKeepsBy m (Done (disturbs b.slot b r))
+    → Placed m b places.Load → PlacedBy places.Load (Done (disturbs b.slot b r))
 disturbs_placed m b (Ok n) keeps h = (h.0, job_stays (m.jobs b.slot) (n.jobs b.slot) (keeps.slots b.slot) h.1)
 disturbs_placed m b (Err r) keeps h = tt
 
-quietly_placed : (m : Machine) (b : Block) (r : Result Machine Reason) → LineKeepsBy m (Done (quietly b r)) → Placed m b places.Load → PlacedBy places.Load (Done (quietly b r))
+quietly_placed : (m : Machine) (b : Block) (r : Result Machine Reason) → LineKeepsBy m (Done (quietly b r)) → Placed m b places.Load
+    → PlacedBy places.Load (Done (quietly b r))
 quietly_placed m b (Ok n) keeps h = (h.0, job_stays (m.jobs b.slot) (n.jobs b.slot) (keeps.slots b.slot) h.1)
 quietly_placed m b (Err r) keeps h = tt
 
@@ -81,7 +84,8 @@ has_last : (n : Names) (ws : List ℕ) (fs : List File) → has_file n (fs ++ re
 has_last n ws [] = rw (same_refl n) refl
 has_last n ws (g ∷ gs) = first_has (same_names n g.names) g (file_named n (gs ++ record { names = n; words = ws } ∷ [])) (has_last n ws gs)
 
-file_placed : (m : Machine) (b : Block) (n : Names) (there room : Bool) → PlacedBy places.File (Done (quietly (record b { file = n }) (with_file_made_if m n there room)))
+file_placed : (m : Machine) (b : Block) (n : Names) (there room : Bool)
+    → PlacedBy places.File (Done (quietly (record b { file = n }) (with_file_made_if m n there room)))
 file_placed m b n true room = tt
 file_placed m b n false true = has_last n [] m.files
 file_placed m b n false false = tt
@@ -99,7 +103,8 @@ names_stay false f w = refl
 has_changed : (n k : Names) (w : ℕ) (fs : List File) → has_file n (with_changed k (longer w) fs) ≡ has_file n fs
 has_changed n k w [] = refl
 has_changed n k w (f ∷ fs) =
-    some_first (same_names n (changed_if (same_names k f.names) f (longer w f)).names) (same_names n f.names) (changed_if (same_names k f.names) f (longer w f)) f
+    some_first (same_names n (changed_if (same_names k f.names) f (longer w f)).names) (same_names n f.names)
+    (changed_if (same_names k f.names) f (longer w f)) f
     (file_named n (with_changed k (longer w) fs)) (file_named n fs) (ap (same_names n) (names_stay (same_names k f.names) f w)) (has_changed n k w fs)
 
 abbrev HasBy : Names → Machine → Result Machine Reason → Type 0
@@ -126,7 +131,8 @@ words_has : (m : Machine) (n : Names) (ws : List ℕ) → HasBy n m (with_words_
 words_has m n [] = refl
 words_has m n (w ∷ ws) = go (with_word_added m n w) (added_has m n w) (λ k. words_has k n ws)
   where
-    go : (r : Result Machine Reason) → HasBy n m r → ((k : Machine) → HasBy n k (with_words_added k n ws)) → HasBy n m (and_then r (λ k. with_words_added k n ws))
+    go : (r : Result Machine Reason) → HasBy n m r → ((k : Machine) → HasBy n k (with_words_added k n ws))
+        → HasBy n m (and_then r (λ k. with_words_added k n ws))
     go (Ok k) a h = has_further n m k (with_words_added k n ws) a (h k)
     go (Err r) a h = tt
 

@@ -19,11 +19,11 @@ use Rattle.its_frame.specs.declared.decision.Decision.{Decision}
 use Rattle.its_frame.specs.declared.decision.Decision.TheVariants.{Waits, Goes, Ends, Gone}
 use Rattle.its_frame.specs.declared.decision.Held.{Held}
 use Rattle.its_jobs.specs.Table.{job_at}
-use Rattle.its_plain.specs.Arguments.{input, store_of, stores_of, debts, with_new_values}
-use Rattle.its_plain.specs.Decode.{ask}
-use Rattle.its_plain.specs.CallStep.{Transition, decision, deposited}
-use Rattle.its_plain.specs.Change.{effect, effects}
-use Rattle.its_plain.specs.Footprint.{Stands}
+use Rattle.its_plain.specs.Call.Arguments.{input, store_of, stores_of, debts, with_new_values}
+use Rattle.its_plain.specs.Call.Decode.{ask}
+use Rattle.its_plain.specs.Call.Step.{Transition, decision, deposited}
+use Rattle.its_plain.specs.Machine.Change.{effect, effects}
+use Rattle.its_plain.specs.Call.Footprint.{Stands}
 use Rattle.its_plain.specs.Machine.{Whole, Machine, core_of}
 use Rattle.its_stepped.specs.Address.{Addressed}
 use Rattle.its_stepped.specs.Commit.{effects_on}
@@ -34,19 +34,19 @@ use Rattle.its_stepped.specs.Forest.{Forest}
 use Rattle.its_stepped.specs.Sound.{Stored}
 use Rattle.its_stepped.specs.State.{State}
 use Rattle.its_stepped.specs.Tick.{reserves}
-use Rattle.its_stepped.proofs.AddressLaws.{LeavesAddress, decision_leaves}
-use Rattle.its_stepped.proofs.DecodingLaws.{decoding}
-use Rattle.its_stepped.proofs.FrameLaws.{stored_one}
-use Rattle.its_stepped.proofs.GivenLaws.{decision_duty}
-use Rattle.its_stepped.proofs.OwnLaws.{spared, job_kept}
-use Rattle.its_stepped.proofs.UnwindLaws.{most_few}
-use Rattle.its_machine.specs.Can.{HasJob}
+use Rattle.its_stepped.proofs.Keeping.AddressLaws.{LeavesAddress, decision_leaves}
+use Rattle.its_stepped.proofs.Frame.DecodingLaws.{decoding}
+use Rattle.its_stepped.proofs.Frame.FrameLaws.{stored_one}
+use Rattle.its_stepped.proofs.Duties.GivenLaws.{decision_duty}
+use Rattle.its_stepped.proofs.Frame.OwnLaws.{spared, job_kept}
+use Rattle.its_stepped.proofs.Unwinding.UnwindLaws.{most_few}
+use Rattle.its_shared.specs.Can.{HasJob}
 use Rattle.its_direct.specs.Plain.{machine_of, Tidy}
 use Rattle.its_direct.specs.Ready.{HeldFits, held_in, GoesOn, core_behind, CanCarryOut}
 use Rattle.its_direct.specs.Steps.{CallsAt}
 use Rattle.its_direct.specs.declared.plain.Plain.{Plain}
-use Rattle.its_machine.proofs.CanLaws.{Beside, nothing, all_can, DecisionCan}
-use Rattle.its_machine.proofs.CallCanLaws.{Grants, decision_can}
+use Rattle.its_shared.proofs.CanLaws.{Beside, nothing, all_can, DecisionCan}
+use Rattle.its_shared.proofs.CallCanLaws.{Grants, decision_can}
 use Rattle.its_direct.proofs.CallingLaws.{page_for, beginning, nobody, calling, all_alike}
 use Rattle.its_direct.proofs.UserLaws.{own_is, nobody_is}
 
@@ -88,7 +88,8 @@ owes_many a n e =
 
 -- a part of a call
 held_goes : (c : Core) (a : Ask) (vs : List ℕ) (h : Option Held) (olds : List Store) → length (debts (with_new_values a vs) (length vs)) ≡ length vs
-    → IfSome h (λ b. duties.HeldFits c olds (length vs) b) → IfSome h (λ b. has_size (input (with_new_values a vs) 1) ≡ true) → IfSome h (HeldFits c (with_new_values a vs))
+    → IfSome h (λ b. duties.HeldFits c olds (length vs) b) → IfSome h (λ b. has_size (input (with_new_values a vs) 1) ≡ true)
+    → IfSome h (HeldFits c (with_new_values a vs))
 held_goes c a vs None olds read f size = tt
 held_goes c a vs (Some b) olds read f size = record {
   many = (let n = owes_many (with_new_values a vs) (length vs) read in let two = f.two in omega arith);
@@ -97,12 +98,14 @@ held_goes c a vs (Some b) olds read f size = record {
   size = size;
 }
 
-goes_on : (v : State) (j : ℕ) (q : Whole) (s : Site) (a : Ask) (n : ℕ) (cs : List Change) (h : Option Held) (vs : List ℕ) → Going v j q s a n cs h vs → GoesOn q.core a h vs
+goes_on : (v : State) (j : ℕ) (q : Whole) (s : Site) (a : Ask) (n : ℕ) (cs : List Change) (h : Option Held) (vs : List ℕ)
+    → Going v j q s a n cs h vs → GoesOn q.core a h vs
 goes_on v j q s a n cs h vs g = record {
   few = (let l = g.debts.few in let most = most_few (with_new_values a vs) in omega arith);
   held = held_goes q.core a vs h (debts a n) g.debts.read g.held g.size;
   read = g.debts.read;
-  debts = held_fault q.core (with_new_values a vs) h (debts (with_new_values a vs) (length vs)) (none_refused q.core (debts (with_new_values a vs) (length vs)) g.debts.stored);
+  debts = held_fault q.core (with_new_values a vs) h (debts (with_new_values a vs) (length vs))
+      (none_refused q.core (debts (with_new_values a vs) (length vs)) g.debts.stored);
 }
 
 -- the caller's job after the changes
@@ -129,12 +132,14 @@ module _ (m : Machine) (r : Option ℕ) (j : ℕ) (q : Whole) (cs : List Change)
   ]
 
 -- a decision that does its duty
-ready_by : (m : Machine) (r : Option ℕ) (j : ℕ) (q : Whole) (s : Site) (a : Ask) (d : Decision) → m.jobs j ≡ Some q → DecisionCan free d j m → Duty (beginning m nobody r) j q s a 0 d → LeavesAddress d
+ready_by : (m : Machine) (r : Option ℕ) (j : ℕ) (q : Whole) (s : Site) (a : Ask) (d : Decision) → m.jobs j ≡ Some q → DecisionCan free d j m
+    → Duty (beginning m nobody r) j q s a 0 d → LeavesAddress d
     → CanCarryOut m j a d
 ready_by m r j q s a (Waits w) here can duty leaves = tt
 ready_by m r j q s a (Goes cs h vs) here can duty leaves = (
   record { can = all_can free cs.items j m can; job = spared_has m r j q cs.items here duty.spare },
-  subst (λ (c : Core). GoesOn c a h vs.items) (sym (spared_core m r j q cs.items here duty.spare)) (goes_on (beginning m nobody r) j q s a 0 cs.items h vs.items duty),
+  subst (λ (c : Core). GoesOn c a h vs.items) (sym (spared_core m r j q cs.items here duty.spare))
+      (goes_on (beginning m nobody r) j q s a 0 cs.items h vs.items duty),
 )
 ready_by m r j q s a (Ends cs ss e) here can duty leaves = (
   record { can = all_can free cs.items j m can; job = ends_has m r j q cs.items here ss.items duty },
@@ -146,15 +151,18 @@ ready_by m r j q s a (Gone cs) here can duty leaves = all_can nothing cs.items j
 console_few : (m : Machine) (j : ℕ) (q : Whole) → m.jobs j ≡ Some q → Consoled m → IfSome q.job.console (λ c. c < 8)
 console_few m j q here c = subst (λ (o : Option Whole). IfSome o (λ p. IfSome p.job.console (λ c. c < 8))) here (c.each j)
 
-pub ready : (m : Machine) (j : ℕ) (q : Whole) (s : Site) (a : Ask) → Forest m → Consoled m → m.jobs j ≡ Some q → q.job.pc < 2 ^ 18 → Stands q.core q.job s a → CanCarryOut m j a (decision m j q a)
+pub ready : (m : Machine) (j : ℕ) (q : Whole) (s : Site) (a : Ask) → Forest m → Consoled m → m.jobs j ≡ Some q → q.job.pc < 2 ^ 18
+    → Stands q.core q.job s a → CanCarryOut m j a (decision m j q a)
 ready m j q s a forest consoled here placed st =
     let r = page_for (reserves a) in
     ready_by m r j q s a (decision m j q a) here (decision_can free m j q a forest here (granted q a) (console_few m j q here consoled))
-    (decision_duty decoding m (beginning m nobody r) j q s a 0 (calling m j q s a nobody forest here st tt (λ k h. refl) (λ k h. refl))) (decision_leaves m j q a placed)
+    (decision_duty decoding m (beginning m nobody r) j q s a 0 (calling m j q s a nobody forest here st tt (λ k h. refl) (λ k h. refl)))
+    (decision_leaves m j q a placed)
 
 -- what a step decides on the second machine, at the call to which its step comes, can be carried
 -- out
-placed_at : (p : Plain) (k : ℕ) (o : Option Job) → job_at p.jobs k ≡ o → IfSome o (λ i. i.pc < 2 ^ 18) → IfSome ((machine_of p).jobs k) (λ q. q.job.pc < 2 ^ 18)
+placed_at : (p : Plain) (k : ℕ) (o : Option Job) → job_at p.jobs k ≡ o → IfSome o (λ i. i.pc < 2 ^ 18)
+    → IfSome ((machine_of p).jobs k) (λ q. q.job.pc < 2 ^ 18)
 placed_at p k (Some i) e h = subst (λ (w : Option Whole). IfSome w (λ q. q.job.pc < 2 ^ 18)) (sym (own_is p k i e)) h
 placed_at p k None e h = subst (λ (w : Option Whole). IfSome w (λ q. q.job.pc < 2 ^ 18)) (sym (nobody_is p k e)) tt
 

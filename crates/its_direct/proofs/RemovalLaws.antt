@@ -14,18 +14,18 @@ use Rattle.its_files.specs.Files.{Store, directory}
 use Rattle.its_jobs.specs.Table.{job_at, superior_at, in_tree, IsTree, Without}
 use Rattle.its_jobs.proofs.TreeLaws.{past_none}
 use Rattle.its_pipes.specs.Pipes.{piped}
-use Rattle.its_plain.specs.Change.{channel_in, ends_after_removal, in_job, job_after_removal, on_slot, holder_after_removal, after_removal, after_shut, superiors, symbols_after_removal}
+use Rattle.its_plain.specs.Machine.Change.{channel_in, ends_after_removal, in_job, job_after_removal, on_slot, holder_after_removal, after_removal, after_shut, superiors, symbols_after_removal}
 use Rattle.its_plain.specs.Machine.{Machine, Shut, Symbol, Whole}
-use Rattle.its_plain.specs.OperatorClock.{clock_end}
-use Rattle.its_plain.specs.Own.{on_channel}
+use Rattle.its_plain.specs.Operator.Clock.{clock_end}
+use Rattle.its_plain.specs.Machine.Own.{on_channel}
 use Rattle.its_plain.proofs.MachineLaws.{machine_is}
-use Rattle.its_machine.specs.Across.{channel_by, channel_at, channel_left, Across}
-use Rattle.its_machine.specs.Can.{chan_in}
-use Rattle.its_machine.specs.Parts.{alarm_at, bare, chan_of, console_at, holder_at, raw_at, raw_of, symbols_at}
-use Rattle.its_machine.proofs.AcrossLaws.{across_alike}
-use Rattle.its_machine.proofs.CoreLaws.{same_clear}
-use Rattle.its_machine.proofs.LeftLaws.{left_alike, left_chan, raw_superior, shut_here, shut_there}
-use Rattle.its_machine.proofs.PartLaws.{on_slot_here, on_slot_other}
+use Rattle.its_shared.specs.Across.{channel_by, channel_at, channel_left, Across}
+use Rattle.its_shared.specs.Can.{chan_in}
+use Rattle.its_shared.specs.Parts.{alarm_at, bare, chan_of, console_at, holder_at, raw_at, raw_of, symbols_at}
+use Rattle.its_shared.proofs.AcrossLaws.{across_alike}
+use Rattle.its_shared.proofs.CoreLaws.{same_clear}
+use Rattle.its_shared.proofs.LeftLaws.{left_alike, left_chan, raw_superior, shut_here, shut_there}
+use Rattle.its_shared.proofs.PartLaws.{on_slot_here, on_slot_other}
 use Rattle.its_direct.specs.Clock.{AlarmBecomes}
 use Rattle.its_direct.specs.Effects.{Becomes}
 use Rattle.its_direct.specs.Lines.{SymbolsBecome}
@@ -46,7 +46,8 @@ superiors_are p t = λ i k. raw_superior p.files p.core p.jobs p.alarms.items k 
 pub all_start : (p : Plain) (s : ℕ) → Closes p p s 0
 all_start p s = record { jobs = λ k ne. refl; rest = refl; superiors = refl; place = refl; touched = refl; closed = λ i l. absurd (omega arith) }
 
-pub all_next : (old now new : Plain) (s n : ℕ) → Closes old now s n → Becomes now new (in_job (machine_of now) s (on_channel n (λ c. Shut))) → new.jobs.superiors ≡ now.jobs.superiors → Closes old new s (n + 1)
+pub all_next : (old now new : Plain) (s n : ℕ) → Closes old now s n → Becomes now new (in_job (machine_of now) s (on_channel n (λ c. Shut)))
+    → new.jobs.superiors ≡ now.jobs.superiors → Closes old new s (n + 1)
 all_next old now new s n h b sup = record {
   jobs = λ k ne. ap (λ (m : Machine). m.jobs k) b.machine ∙ on_slot_other (machine_of now).jobs s k (on_channel n (λ c. Shut)) ne ∙ h.jobs k ne;
   rest = b.machine
@@ -65,13 +66,21 @@ all_next old now new s n h b sup = record {
 }
 
 pub all_end : (old now : Plain) (s n : ℕ) → 16 ≤ n → Closes old now s n → Closes old now s 16
-all_end old now s n le h = record { jobs = h.jobs; rest = h.rest; superiors = h.superiors; place = h.place; touched = h.touched; closed = λ i l. h.closed i (omega arith) }
+all_end old now s n le h = record {
+  jobs = h.jobs;
+  rest = h.rest;
+  superiors = h.superiors;
+  place = h.place;
+  touched = h.touched;
+  closed = λ i l. h.closed i (omega arith);
+}
 
 -- and those of all jobs of a tree
 pub tree_start : (gone : ℕ → Bool) (p : Plain) → ClosesTree gone p p 0
 tree_start gone p = record { jobs = λ k g. refl; rest = refl; superiors = refl; place = refl; touched = refl; closed = λ k i l. absurd (omega arith) }
 
-tree_more : (gone : ℕ → Bool) (old now new : Plain) (n : ℕ) → gone n ≡ true → ClosesTree gone old now n → Closes now new n 16 → ClosesTree gone old new (n + 1)
+tree_more : (gone : ℕ → Bool) (old now new : Plain) (n : ℕ) → gone n ≡ true → ClosesTree gone old now n → Closes now new n 16
+    → ClosesTree gone old new (n + 1)
 tree_more gone old now new n g h b = record {
   jobs = λ k f. b.jobs k (λ e. both_ways (gone k) f (ap gone e ∙ g)) ∙ h.jobs k f;
   rest = b.rest ∙ ap (λ (m : Machine). record m { jobs = (machine_of new).jobs }) h.rest;
@@ -87,11 +96,14 @@ tree_more gone old now new n g h b = record {
 along : (gone : ℕ → Bool) (old now : Plain) (r n : ℕ) → ClosesTree gone old now n → in_tree (superior_at now.jobs) r n ≡ in_tree (superior_at old.jobs) r n
 along gone old now r n h = ap (λ (us : List (Option ℕ)). in_tree (λ k. slice_index_or us k None) r n) h.superiors
 
-pub tree_gone : (old now new : Plain) (r n : ℕ) (b : Bool) → b ≡ in_tree (superior_at now.jobs) r n → b ≡ true → ClosesTree (in_tree (superior_at old.jobs) r) old now n → Closes now new n 16
+pub tree_gone : (old now new : Plain) (r n : ℕ) (b : Bool) → b ≡ in_tree (superior_at now.jobs) r n → b ≡ true
+    → ClosesTree (in_tree (superior_at old.jobs) r) old now n → Closes now new n 16
     → ClosesTree (in_tree (superior_at old.jobs) r) old new (n + 1)
-tree_gone old now new r n b is is_so h c = tree_more (in_tree (superior_at old.jobs) r) old now new n (sym (along (in_tree (superior_at old.jobs) r) old now r n h) ∙ sym is ∙ is_so) h c
+tree_gone old now new r n b is is_so h c = tree_more (in_tree (superior_at old.jobs) r) old now new n
+    (sym (along (in_tree (superior_at old.jobs) r) old now r n h) ∙ sym is ∙ is_so) h c
 
-pub tree_kept : (old now : Plain) (r n : ℕ) (b : Bool) → b ≡ in_tree (superior_at now.jobs) r n → b ≡ false → ClosesTree (in_tree (superior_at old.jobs) r) old now n
+pub tree_kept : (old now : Plain) (r n : ℕ) (b : Bool) → b ≡ in_tree (superior_at now.jobs) r n → b ≡ false
+    → ClosesTree (in_tree (superior_at old.jobs) r) old now n
     → ClosesTree (in_tree (superior_at old.jobs) r) old now (n + 1)
 tree_kept old now r n b is is_not h = record {
   jobs = h.jobs;
@@ -100,13 +112,21 @@ tree_kept old now r n b is is_not h = record {
   place = h.place;
   touched = h.touched;
   closed = λ k i l f m. elim (cases_eq k n) [
-    | inl e ↦ absurd (both_ways (in_tree (superior_at old.jobs) r k) (ap (in_tree (superior_at old.jobs) r) e ∙ sym (along (in_tree (superior_at old.jobs) r) old now r n h) ∙ sym is ∙ is_not) f)
+    | inl e ↦ absurd (both_ways (in_tree (superior_at old.jobs) r k)
+        (ap (in_tree (superior_at old.jobs) r) e ∙ sym (along (in_tree (superior_at old.jobs) r) old now r n h) ∙ sym is ∙ is_not) f)
     | inr ne ↦ h.closed k i (omega arith) f m
   ];
 }
 
 pub tree_end : (gone : ℕ → Bool) (old now : Plain) (n : ℕ) → slots ≤ n → ClosesTree gone old now n → ClosesTree gone old now slots
-tree_end gone old now n le h = record { jobs = h.jobs; rest = h.rest; superiors = h.superiors; place = h.place; touched = h.touched; closed = λ k i l f m. h.closed k i (omega arith) f m }
+tree_end gone old now n le h = record {
+  jobs = h.jobs;
+  rest = h.rest;
+  superiors = h.superiors;
+  place = h.place;
+  touched = h.touched;
+  closed = λ k i l f m. h.closed k i (omega arith) f m;
+}
 
 -- the slot of a job that is to go
 by_gone : {X : Type 0} (b : Bool) (x y : X) → b ≡ true → x ≡ (if b then x else y)
@@ -129,16 +149,19 @@ bares_sweep gone old new s g b = record {
   shares = b.shares;
 }
 
-pub sweeps_gone : (old new : Plain) (r s : ℕ) (b : Bool) → b ≡ in_tree (superior_at old.jobs) r s → b ≡ true → Bares old new s → Sweeps (in_tree (superior_at old.jobs) r) old new s
+pub sweeps_gone : (old new : Plain) (r s : ℕ) (b : Bool) → b ≡ in_tree (superior_at old.jobs) r s → b ≡ true → Bares old new s
+    → Sweeps (in_tree (superior_at old.jobs) r) old new s
 sweeps_gone old new r s b is is_so h = bares_sweep (in_tree (superior_at old.jobs) r) old new s (sym is ∙ is_so) h
 
 -- what is left of an equation of contents, if cores, jobs, alarms and symbols are those of a new
 -- machine
 shared : (new : Plain) {p q : Contents} → p ≡ q
-    → record p { core = new.core; jobs = new.jobs; alarms = new.alarms; symbols = new.symbols } ≡ record q { core = new.core; jobs = new.jobs; alarms = new.alarms; symbols = new.symbols }
+    → record p { core = new.core; jobs = new.jobs; alarms = new.alarms; symbols = new.symbols } ≡ record q
+    { core = new.core; jobs = new.jobs; alarms = new.alarms; symbols = new.symbols }
 shared new e = λ t. record (e t) { core = new.core; jobs = new.jobs; alarms = new.alarms; symbols = new.symbols }
 
-pub bares_is : (old one two new : Plain) (s : ℕ) → Only (core_at old.core) (core_at one.core) s no_core → one.core.reserved ≡ old.core.reserved → one.jobs ≡ old.jobs → Aside old one
+pub bares_is : (old one two new : Plain) (s : ℕ) → Only (core_at old.core) (core_at one.core) s no_core
+    → one.core.reserved ≡ old.core.reserved → one.jobs ≡ old.jobs → Aside old one
     → AlarmBecomes one two s None → SymbolsBecome two new s [] → Bares old new s
 bares_is old one two new s core reserved jobs aside a b =
     let cores : new.core ≡ one.core = core_as b.rest ∙ core_as a.rest in
@@ -149,7 +172,11 @@ bares_is old one two new s core reserved jobs aside a b =
         here = ap (λ l. alarm_at l.items s) (alarms_as b.rest) ∙ a.alarms.here;
         others = λ k ne. ap (λ l. alarm_at l.items k) (alarms_as b.rest) ∙ a.alarms.others k ne ∙ ap (λ l. alarm_at l.items k) (alarms_as aside.is);
       };
-      symbols = record { here = b.symbols.here; others = λ k ne. b.symbols.others k ne ∙ ap (λ l. symbols_at l.items k) (symbols_as a.rest ∙ symbols_as aside.is) };
+      symbols = record {
+        here = b.symbols.here;
+        others = λ k ne. b.symbols.others k ne
+            ∙ ap (λ l. symbols_at l.items k) (symbols_as a.rest ∙ symbols_as aside.is);
+      };
       jobs = same;
       shares = record {
         superiors = ap (λ t. t.superiors) same;
@@ -160,7 +187,8 @@ bares_is old one two new s core reserved jobs aside a b =
 
 -- the slot of one that stays
 one_sweep : (gone : ℕ → Bool) (old new : Plain) (s : ℕ) (i : Job) (cs : List Channel) → job_at old.jobs s ≡ Some i → gone s ≡ false
-    → ((n : ℕ) → slice_index_or cs n Closed ≡ channel_left gone (slice_index_or i.channels n Closed)) → JobBecomes old new s (record i { channels = cs }) → Sweeps gone old new s
+    → ((n : ℕ) → slice_index_or cs n Closed ≡ channel_left gone (slice_index_or i.channels n Closed))
+    → JobBecomes old new s (record i { channels = cs }) → Sweeps gone old new s
 one_sweep gone old new s i cs had f turned b = record {
   here = record {
     core = b.core.here ∙ by_kept (gone s) no_core (core_at old.core s) f;
@@ -184,8 +212,10 @@ one_sweep gone old new s i cs had f turned b = record {
   };
 }
 
-pub left_sweep : (old new : Plain) (r s : ℕ) (o : Option Job) (i : Job) (cs : List Channel) → o ≡ job_at old.jobs s → o ≡ Some i → in_tree (superior_at old.jobs) r s ≡ false
-    → ((n : ℕ) → slice_index_or cs n Closed ≡ channel_left (in_tree (superior_at old.jobs) r) (slice_index_or i.channels n Closed)) → JobBecomes old new s (record i { channels = cs })
+pub left_sweep : (old new : Plain) (r s : ℕ) (o : Option Job) (i : Job) (cs : List Channel) → o ≡ job_at old.jobs s → o ≡ Some i
+    → in_tree (superior_at old.jobs) r s ≡ false
+    → ((n : ℕ) → slice_index_or cs n Closed ≡ channel_left (in_tree (superior_at old.jobs) r) (slice_index_or i.channels n Closed))
+    → JobBecomes old new s (record i { channels = cs })
     → Sweeps (in_tree (superior_at old.jobs) r) old new s
 left_sweep old new r s o i cs is some f turned b = one_sweep (in_tree (superior_at old.jobs) r) old new s i cs (sym is ∙ some) f turned b
 
@@ -204,7 +234,8 @@ none_sweep gone p s none f = record {
   shares = record { superiors = refl; reserved = λ k. refl; rest = refl };
 }
 
-pub empty_sweep : (p : Plain) (r s : ℕ) (o : Option Job) → o ≡ job_at p.jobs s → o ≡ None → in_tree (superior_at p.jobs) r s ≡ false → Sweeps (in_tree (superior_at p.jobs) r) p p s
+pub empty_sweep : (p : Plain) (r s : ℕ) (o : Option Job) → o ≡ job_at p.jobs s → o ≡ None → in_tree (superior_at p.jobs) r s ≡ false
+    → Sweeps (in_tree (superior_at p.jobs) r) p p s
 empty_sweep p r s o is none f = none_sweep (in_tree (superior_at p.jobs) r) p s (sym is ∙ none) f
 
 -- slot after slot
@@ -253,7 +284,8 @@ swept_more gone old now new n h b = record {
   shares = shares_then old now new h.shares b.shares;
 }
 
-pub swept_next : (old now new : Plain) (r n : ℕ) → Swept (in_tree (superior_at old.jobs) r) old now n → Sweeps (in_tree (superior_at now.jobs) r) now new n → Swept (in_tree (superior_at old.jobs) r) old new (n + 1)
+pub swept_next : (old now new : Plain) (r n : ℕ) → Swept (in_tree (superior_at old.jobs) r) old now n
+    → Sweeps (in_tree (superior_at now.jobs) r) now new n → Swept (in_tree (superior_at old.jobs) r) old new (n + 1)
 swept_next old now new r n h b = swept_more (in_tree (superior_at old.jobs) r) old now new n h
     (subst (λ (us : List (Option ℕ)). Sweeps (in_tree (λ k. slice_index_or us k None) r) now new n) h.shares.superiors b)
 
@@ -261,10 +293,18 @@ pub swept_end : (gone : ℕ → Bool) (old now : Plain) (n : ℕ) → slots ≤ 
 swept_end gone old now n le h ge = let e : n ≡ slots = omega arith in subst (Swept gone old now) e h
 
 -- what is left of the jobs that stay
-raw_left : (x : Store) (c : Core) (u : Option ℕ) (a : Option (ℕ × ℕ)) (gone : ℕ → Bool) (i j : Option Job) → Leaves gone i j → raw_of x c u a j ≡ option_map (after_shut gone) (raw_of x c u a i)
+raw_left : (x : Store) (c : Core) (u : Option ℕ) (a : Option (ℕ × ℕ)) (gone : ℕ → Bool) (i j : Option Job) → Leaves gone i j
+    → raw_of x c u a j ≡ option_map (after_shut gone) (raw_of x c u a i)
 raw_left x c u a gone (Some i) (Some j) h =
     let b : bare j ≡ bare i = let e = h.bare in cc in
-    λ t. Some (record { core = c; job = b t; superior = u; channels = λ n. (ap (chan_of x) (h.chans n) ∙ left_chan x gone (slice_index_or i.channels n Closed)) t; alarm = a })
+    λ t. Some (record {
+      core = c;
+      job = b t;
+      superior = u;
+      channels = λ n.
+          (ap (chan_of x) (h.chans n) ∙ left_chan x gone (slice_index_or i.channels n Closed)) t;
+      alarm = a;
+    })
 raw_left x c u a gone None None h = refl
 raw_left x c u a gone (Some i) None h = let e = h.bare in cc
 raw_left x c u a gone None (Some j) h = let e = h.bare in cc
@@ -306,7 +346,8 @@ module _ (old mid new : Plain) (r : ℕ) (low : r < slots) (tree : IsTree old.jo
           core = kept.core ∙ by_kept (in_tree (superior_at old.jobs) r k) no_core (core_at old.core k) f;
           alarm = kept.alarm ∙ by_kept (in_tree (superior_at old.jobs) r k) None (alarm_at old.alarms.items k) f;
           symbols = kept.symbols ∙ by_kept (in_tree (superior_at old.jobs) r k) [] (symbols_at old.symbols.items k) f;
-          job = λ g. subst (Leaves (in_tree (superior_at old.jobs) r) (job_at old.jobs k)) (sym kept.job) (subst (λ (o : Option Job). Leaves (in_tree (superior_at old.jobs) r) o o) (sym none) (no_leave (in_tree (superior_at old.jobs) r)));
+          job = λ g. subst (Leaves (in_tree (superior_at old.jobs) r) (job_at old.jobs k)) (sym kept.job)
+              (subst (λ (o : Option Job). Leaves (in_tree (superior_at old.jobs) r) o o) (sym none) (no_leave (in_tree (superior_at old.jobs) r)));
         }
   ]
 
@@ -334,13 +375,15 @@ module _ (old mid new : Plain) (r : ℕ) (low : r < slots) (tree : IsTree old.jo
   files_new = files_as b.rest ∙ files_as b.swept.shares.rest
 
   new_raw : (k : ℕ) (x : Bool) → in_tree (superior_at old.jobs) r k ≡ x
-      → raw_at new.files new.core new.jobs new.alarms.items k ≡ job_after_removal (in_tree (superior_at old.jobs) r) x (raw_at old.files old.core old.jobs old.alarms.items k)
+      → raw_at new.files new.core new.jobs new.alarms.items k ≡ job_after_removal (in_tree (superior_at old.jobs) r) x
+      (raw_at old.files old.core old.jobs old.alarms.items k)
   new_raw k true g = ap (raw_of new.files (core_at new.core k) (superior_at new.jobs k) (alarm_at new.alarms.items k)) (job_gone k g)
   new_raw k false f =
       let core = core_new k ∙ sym (by_kept (in_tree (superior_at old.jobs) r k) no_core (core_at old.core k) f) in
       let alarm = alarm_new k ∙ sym (by_kept (in_tree (superior_at old.jobs) r k) None (alarm_at old.alarms.items k) f) in
       (λ t. raw_of (files_new t) (core t) (superior_stays k f t) (alarm t) (job_stays k f t))
-      ∙ raw_left old.files (core_at old.core k) (superior_at old.jobs k) (alarm_at old.alarms.items k) (in_tree (superior_at old.jobs) r) (job_at old.jobs k) (job_at mid.jobs k) ((slot_swept k).job f)
+      ∙ raw_left old.files (core_at old.core k) (superior_at old.jobs k) (alarm_at old.alarms.items k) (in_tree (superior_at old.jobs) r)
+      (job_at old.jobs k) (job_at mid.jobs k) ((slot_swept k).job f)
 
   holders_new : (c : ℕ) → holder_at new.holders c ≡ holder_after_removal (in_tree (superior_at old.jobs) r) (superior_at old.jobs r) (holder_at old.holders c)
   holders_new c =
@@ -354,10 +397,16 @@ module _ (old mid new : Plain) (r : ℕ) (low : r < slots) (tree : IsTree old.jo
   unfolding machine_of after_removal
   stripped_machine = machine_is _ _ (λ k. new_raw k (in_tree (superior_at old.jobs) r k) refl)
       (λ k. ap (λ l. console_at l.items k) (consoles_as b.rest ∙ consoles_as b.swept.shares.rest)) holders_new (ap directory files_new)
-      (clock_as b.rest ∙ clock_as b.swept.shares.rest) (version_as b.rest ∙ version_as b.swept.shares.rest) (λ k. symbols_new k ∙ symbols_if (in_tree (superior_at old.jobs) r k) (symbols_at old.symbols.items k)) links_new
+      (clock_as b.rest ∙ clock_as b.swept.shares.rest) (version_as b.rest ∙ version_as b.swept.shares.rest)
+      (λ k. symbols_new k ∙ symbols_if (in_tree (superior_at old.jobs) r k) (symbols_at old.symbols.items k)) links_new
 
   pub stripped_row : Becomes old new (after_removal (superior_at old.jobs) r (machine_of old))
-  stripped_row = record { machine = stripped_machine; place = place_as b.rest ∙ place_as b.swept.shares.rest; touched = touched_as b.rest ∙ (touched_as b.swept.shares.rest) }
+  stripped_row = record {
+    machine = stripped_machine;
+    place = place_as b.rest ∙ place_as b.swept.shares.rest;
+    touched = touched_as b.rest
+        ∙ (touched_as b.swept.shares.rest);
+  }
 
   channels_new : (k n : ℕ) → channel_at new.jobs k n ≡ channel_left (in_tree (superior_at old.jobs) r) (channel_at old.jobs k n)
   channels_new k n = elim (cases_Bool (in_tree (superior_at old.jobs) r k)) [
@@ -372,7 +421,9 @@ module _ (old mid new : Plain) (r : ℕ) (low : r < slots) (tree : IsTree old.jo
   stripped_tidy = record {
     unreserved = λ k. ap (λ c. clear_at c k) (core_as b.rest) ∙ b.swept.shares.reserved k ∙ tidy.unreserved k;
     unmarked = ap (λ (x : Store). x.mark) files_new ∙ tidy.unmarked;
-    across = subst (λ (x : Store). Across x new.jobs) (sym files_new) (across_alike old.files old.jobs new.jobs tidy.across (λ k n. left_alike (in_tree (superior_at old.jobs) r) (channel_at old.jobs k n) (channel_at new.jobs k n) (channels_new k n)));
+    across = subst (λ (x : Store). Across x new.jobs) (sym files_new)
+        (across_alike old.files old.jobs new.jobs tidy.across
+        (λ k n. left_alike (in_tree (superior_at old.jobs) r) (channel_at old.jobs k n) (channel_at new.jobs k n) (channels_new k n)));
     blank = λ k h. elim (cases_Bool (in_tree (superior_at old.jobs) r k)) [
       | inl g ↦ core_new k ∙ sym (by_gone (in_tree (superior_at old.jobs) r k) no_core (core_at old.core k) g)
       | inr f ↦ core_new k ∙ sym (by_kept (in_tree (superior_at old.jobs) r k) no_core (core_at old.core k) f) ∙ tidy.blank k (none_new k f h)
@@ -397,7 +448,8 @@ left_along : (gone : ℕ → Bool) (b : Bool) (o p : Option Whole) → (b ≡ fa
 left_along gone true o p h = refl
 left_along gone false o p h = ap (option_map (after_shut gone)) (h refl)
 
-removed_along : (sup : ℕ → Option ℕ) (r : ℕ) (m n : Machine) → n ≡ record m { jobs = n.jobs } → ((k : ℕ) → in_tree sup r k ≡ false → n.jobs k ≡ m.jobs k) → after_removal sup r n ≡ after_removal sup r m
+removed_along : (sup : ℕ → Option ℕ) (r : ℕ) (m n : Machine) → n ≡ record m { jobs = n.jobs }
+    → ((k : ℕ) → in_tree sup r k ≡ false → n.jobs k ≡ m.jobs k) → after_removal sup r n ≡ after_removal sup r m
 unfolding after_removal
 removed_along sup r m n rest kept =
     ap (after_removal sup r) rest
@@ -408,7 +460,8 @@ removed_along sup r m n rest kept =
       links = λ l. ends_after_removal (in_tree sup r) (m.links l);
     })
 
-module _ (old mid : Plain) (r : ℕ) (low : r < slots) (tree : IsTree old.jobs.jobs old.jobs.superiors) (c : ClosesTree (in_tree (superior_at old.jobs) r) old mid slots) where
+module _ (old mid : Plain) (r : ℕ) (low : r < slots) (tree : IsTree old.jobs.jobs old.jobs.superiors)
+    (c : ClosesTree (in_tree (superior_at old.jobs) r) old mid slots) where
   along_tree : superior_at mid.jobs ≡ superior_at old.jobs
   along_tree = λ t k. slice_index_or (c.superiors t) k None
 
@@ -427,7 +480,8 @@ module _ (old mid : Plain) (r : ℕ) (low : r < slots) (tree : IsTree old.jobs.j
         | inr past ↦ absurd (both_ways (in_tree (superior_at old.jobs) r k) (past_none old.jobs.superiors r k tree.superior_count low past) here)
       ]
 
-  pub removed_row : (new : Plain) → Becomes mid new (after_removal (superior_at mid.jobs) r (machine_of mid)) → Becomes old new (after_removal (superiors (machine_of old)) r (machine_of old))
+  pub removed_row : (new : Plain) → Becomes mid new (after_removal (superior_at mid.jobs) r (machine_of mid))
+      → Becomes old new (after_removal (superiors (machine_of old)) r (machine_of old))
   removed_row new b = record {
     machine = b.machine ∙ ap (λ (sup : ℕ → Option ℕ). after_removal sup r (machine_of mid)) along_tree
         ∙ removed_along (superior_at old.jobs) r (machine_of old) (machine_of mid) c.rest c.jobs

@@ -12,8 +12,8 @@ use Rattle.its_word.proofs.PageLaws.{page_of-with_page, page_of-with_page_other,
 use Rattle.its_core.specs.Cores.{mark_of}
 use Rattle.its_plain.specs.Machine.{Whole, Machine, changed, with_job, mapped, core_of}
 use Rattle.its_plain.specs.Operator.{and_then}
-use Rattle.its_plain.specs.OperatorJobs.{with_core, with_stored_in, with_stored, with_word_loaded_of, with_word_loaded, with_words_stored, is_barred, any_barred}
-use Rattle.its_machine.proofs.PartLaws.{changed_only}
+use Rattle.its_plain.specs.Operator.Jobs.{with_core, with_stored_in, with_stored, with_word_loaded_of, with_word_loaded, with_words_stored, is_barred, any_barred}
+use Rattle.its_shared.proofs.PartLaws.{changed_only}
 use Rattle.its_direct.specs.Lines.{one_unless, pages_absent, pages_made_if, pages_made}
 
 -- a line is obeyed if what it needs is at most what there can be, or it is refused as Full if it
@@ -62,7 +62,8 @@ counting_starts c first n =
     let z : 0 + pages_absent c first n ≡ pages_absent c first n = omega arith in
     record { rest = ap (λ i. 0 + pages_absent c i (n - 0)) e ∙ ap (λ i. 0 + pages_absent c first i) f ∙ z; few = omega arith }
 
-counted_more : (c : Core) (first n k : ℕ) → k < n → pages_absent c (first + k) (n - k) ≡ one_unless (is_there c (first + k)) + pages_absent c (first + (k + 1)) (n - (k + 1))
+counted_more : (c : Core) (first n k : ℕ) → k < n → pages_absent c (first + k) (n - k) ≡ one_unless (is_there c (first + k)) + pages_absent
+    c (first + (k + 1)) (n - (k + 1))
 counted_more c first n k l =
     let e : first + k + 1 ≡ first + (k + 1) = omega arith in
     let f : n - k - 1 ≡ n - (k + 1) = omega arith in
@@ -77,7 +78,8 @@ counting_there c first n k x h l t =
     let b = h.few in
     record { rest = omega arith; few = omega arith }
 
-pub counting_absent : (c : Core) (first n k x : ℕ) → Counting c first n k x → k < n → is_some (page_of c (first + k)) ≡ false → Counting c first n (k + 1) (x + 1)
+pub counting_absent : (c : Core) (first n k x : ℕ) → Counting c first n k x → k < n → is_some (page_of c (first + k)) ≡ false
+    → Counting c first n (k + 1) (x + 1)
 counting_absent c first n k x h l t =
     let e = counted_more c first n k l in
     let f : one_unless (is_there c (first + k)) ≡ 1 = ap one_unless t in
@@ -112,7 +114,8 @@ pub made_accs : (c : Core) (a n last : ℕ) → 1 ≤ n → last ≡ a + n - 1 �
 made_accs c a zero last some is l = absurd (omega arith)
 made_accs c a (suc n) last some is l = made_few c a n (omega arith)
 
-pub made_on_pages : (c : Core) (a n last : ℕ) → 1 ≤ n → last ≡ a + n - 1 → 16 ≤ last → pages_made c a n ≡ pages_absent c (a / 1024) (last / 1024 + 1 - a / 1024)
+pub made_on_pages : (c : Core) (a n last : ℕ) → 1 ≤ n → last ≡ a + n - 1 → 16 ≤ last
+    → pages_made c a n ≡ pages_absent c (a / 1024) (last / 1024 + 1 - a / 1024)
 made_on_pages c a zero last some is l = absurd (omega arith)
 made_on_pages c a (suc n) last some is l =
     let e : a + n ≡ last = omega arith in
@@ -174,7 +177,11 @@ pub record AreaReady (c : Core) (a n : ℕ) : Type 0 where
   pub places : length c.pages ≡ 256
 
 ready_less : (c : Core) (a n : ℕ) → AreaReady c a (suc n) → AreaReady c (a + 1) n
-ready_less c a n h = record { can = λ x lo hi. h.can x (omega arith) (omega arith); word = λ x lo hi. h.word x (omega arith) (omega arith); places = h.places }
+ready_less c a n h = record {
+  can = λ x lo hi. h.can x (omega arith) (omega arith);
+  word = λ x lo hi. h.word x (omega arith) (omega arith);
+  places = h.places;
+}
 
 some_page : (p : Option Page) (i w : ℕ) → is_some (page_stored p i w) ≡ is_some p
 some_page (Some p) i w = refl
@@ -257,17 +264,22 @@ module _ (m : Machine) (s : ℕ) (q : Whole) (is : m.jobs s ≡ Some q) (slot : 
   mapped_with d =
       ap (λ o. mapped (with_core_of m s q d) + pages_present (core_of o)) (sym is)
       ∙ pages_mapped-only (λ k. core_of (m.jobs k)) (λ k. core_of (changed m.jobs s (Some (record q { core = d })) k)) s d
-      (record { here = ap core_of (changed_only m.jobs s (Some (record q { core = d }))).here; others = λ k ne. ap core_of ((changed_only m.jobs s (Some (record q { core = d }))).others k ne) }) slot
+      (record {
+        here = ap core_of (changed_only m.jobs s (Some (record q { core = d }))).here;
+        others = λ k ne. ap core_of ((changed_only m.jobs s (Some (record q { core = d }))).others k ne);
+      }) slot
 
   mapped_stored : (a w : ℕ) → mapped (with_core_of m s q (store q.core a w)) ≡ mapped m
   mapped_stored a w = let e = mapped_with (store q.core a w) in let f = pages_present-store q.core a w in omega arith
 
-  mapped_paged : (a k w : ℕ) → length q.core.pages ≡ 256 → k < 256 → page_of q.core k ≡ None → mapped (with_core_of m s q (store (paged q.core k) a w)) ≡ mapped m + 1
+  mapped_paged : (a k w : ℕ) → length q.core.pages ≡ 256 → k < 256 → page_of q.core k ≡ None
+      → mapped (with_core_of m s q (store (paged q.core k) a w)) ≡ mapped m + 1
   unfolding paged
   mapped_paged a k w places few none =
       let e = mapped_with (store (paged q.core k) a w) in
       let f = pages_present-store (paged q.core k) a w in
-      let g : pages_present (paged q.core k) + one_if {X = Page} None ≡ pages_present q.core + 1 = sym (ap (λ o. pages_present (paged q.core k) + one_if o) none) ∙ pages_present-with_page q.core k (Some zero_page) (omega arith) in
+      let g : pages_present (paged q.core k) + one_if {X = Page} None ≡ pages_present q.core + 1 =
+      sym (ap (λ o. pages_present (paged q.core k) + one_if o) none) ∙ pages_present-with_page q.core k (Some zero_page) (omega arith) in
       omega arith
 
   -- the result of a word
@@ -277,7 +289,8 @@ module _ (m : Machine) (s : ℕ) (q : Whole) (is : m.jobs s ≡ Some q) (slot : 
       ap (with_word_loaded_of m s a w) is
       ∙ ap (λ b. with_core m s q (with_stored_in q.core a w b (is_some (word_at q.core a)) (nat_lt (mapped m) most_pages))) t
 
-  loaded_absent : (a w : ℕ) → can_store q.core a ≡ false → is_some (word_at q.core a) ≡ false → with_word_loaded m s a w ≡ with_core m s q (with_stored_in q.core a w false false (nat_lt (mapped m) most_pages))
+  loaded_absent : (a w : ℕ) → can_store q.core a ≡ false → is_some (word_at q.core a) ≡ false
+      → with_word_loaded m s a w ≡ with_core m s q (with_stored_in q.core a w false false (nat_lt (mapped m) most_pages))
   unfolding with_word_loaded with_stored
   loaded_absent a w f g =
       ap (with_word_loaded_of m s a w) is
@@ -331,7 +344,8 @@ module _ (m : Machine) (s : ℕ) (q : Whole) (is : m.jobs s ≡ Some q) (slot : 
           none_of (Some p) h = cc
           none_of None h = refl
 
-      one_more : (d : Core) → is_there d (a / 1024) ≡ true → ((j : ℕ) → j ≢ a / 1024 → is_there d j ≡ is_there q.core j) → pages_made q.core a (suc n) ≡ 1 + pages_made d (a + 1) n
+      one_more : (d : Core) → is_there d (a / 1024) ≡ true → ((j : ℕ) → j ≢ a / 1024 → is_there d j ≡ is_there q.core j)
+          → pages_made q.core a (suc n) ≡ 1 + pages_made d (a + 1) n
       one_more d here others = made_page q.core d a n past here others ∙ ap (λ o. one_unless (is_some o) + pages_made d (a + 1) n) absent
 
       made : Core
@@ -356,7 +370,8 @@ module _ (m : Machine) (s : ℕ) (q : Whole) (is : m.jobs s ≡ Some q) (slot : 
           record {
             core = store made a w;
             loaded = is_absent ∙ ap (λ b. with_core m s q (with_stored_in q.core a w false false b)) (lt-ltb (mapped m) most_pages room);
-            ready = ready_stored made (a + 1) a n w (ready_paged q.core (a / 1024) ready.places (omega arith) (a + 1) n (omega arith) (ready_less q.core a n ready));
+            ready = ready_stored made (a + 1) a n w (ready_paged q.core (a / 1024) ready.places (omega arith) (a + 1) n (omega arith)
+                (ready_less q.core a n ready));
             sum = omega arith;
             few = omega arith;
           }
@@ -376,16 +391,20 @@ module _ (m : Machine) (s : ℕ) (q : Whole) (is : m.jobs s ≡ Some q) (slot : 
     ]
 
 -- the words one by one
-pub room_of : (s a : ℕ) (ws : List ℕ) (m : Machine) (q : Whole) → m.jobs s ≡ Some q → s < slots → AreaReady q.core a (length ws) → a + length ws ≤ 2 ^ 18 → mapped m ≤ most_pages
+pub room_of : (s a : ℕ) (ws : List ℕ) (m : Machine) (q : Whole) → m.jobs s ≡ Some q → s < slots → AreaReady q.core a (length ws)
+    → a + length ws ≤ 2 ^ 18 → mapped m ≤ most_pages
     → Within most_pages (mapped m + pages_made q.core a (length ws)) (with_words_stored m s a ws)
 room_of s a [] m q is slot ready end few = let e = made_none q.core a in omega arith
 room_of s a (w ∷ ws) m q is slot ready end few = elim (word_step m s q is slot a w (length ws) ready few (omega arith)) [
   | inl g ↦
       let n = with_core_of m s q g.core in
-      let rest = room_of s (a + 1) ws n (record q { core = g.core }) ((changed_only m.jobs s (Some (record q { core = g.core }))).here) slot g.ready (omega arith) g.few in
-      subst (Within most_pages (mapped m + pages_made q.core a (suc (length ws)))) (sym (ap (λ r. and_then r (λ k. with_words_stored k s (a + 1) ws)) g.loaded))
+      let rest = room_of s (a + 1) ws n (record q { core = g.core }) ((changed_only m.jobs s (Some (record q { core = g.core }))).here) slot
+      g.ready (omega arith) g.few in
+      subst (Within most_pages (mapped m + pages_made q.core a (suc (length ws))))
+      (sym (ap (λ r. and_then r (λ k. with_words_stored k s (a + 1) ws)) g.loaded))
       (subst (λ k. Within most_pages k (with_words_stored n s (a + 1) ws)) g.sum rest)
-  | inr t ↦ subst (Within most_pages (mapped m + pages_made q.core a (suc (length ws)))) (sym (ap (λ r. and_then r (λ k. with_words_stored k s (a + 1) ws)) t.loaded)) (refl, t.many)
+  | inr t ↦ subst (Within most_pages (mapped m + pages_made q.core a (suc (length ws))))
+      (sym (ap (λ r. and_then r (λ k. with_words_stored k s (a + 1) ws)) t.loaded)) (refl, t.many)
 ]
 
 -- a core of which each word is there, and of which these words are on no read-only page
@@ -421,4 +440,8 @@ can_has c x whole free = by_word (is_some (word_at c x)) (can_store c x) free (w
     by_word false false h f = refl
 
 pub ready_whole : (c : Core) (a n : ℕ) → IsWhole c → any_barred c a n ≡ false → AreaReady c a n
-ready_whole c a n whole free = record { can = λ x lo hi. can_has c x whole (spared c a n x free lo hi); word = λ x lo hi. word_has c x whole; places = whole.pages }
+ready_whole c a n whole free = record {
+  can = λ x lo hi. can_has c x whole (spared c a n x free lo hi);
+  word = λ x lo hi. word_has c x whole;
+  places = whole.pages;
+}

@@ -4,23 +4,23 @@ use Rattle.std.proofs.Common.{arith, ap, sym, subst, ◌∙◌, inl, inr}
 use Rattle.std.proofs.lemmas.Bool.{cases_eq, and_right}
 use Rattle.its_word.specs.Core.{Core}
 use Rattle.its_records.specs.declared.jobs.Job.{Job}
-use Rattle.its_plain.specs.CallStep.{quiet_step, with_core_and_job, with_fault, step, transition}
-use Rattle.its_plain.specs.Change.{in_job, on_slot}
-use Rattle.its_plain.specs.Interrupt.{deliverable}
-use Rattle.its_plain.specs.Job.{bit_of, with_pending}
+use Rattle.its_plain.specs.Call.Step.{quiet_step, with_core_and_job, with_fault, step, transition}
+use Rattle.its_plain.specs.Machine.Change.{in_job, on_slot}
+use Rattle.its_plain.specs.Unit.Interrupt.{deliverable}
+use Rattle.its_plain.specs.Machine.Registers.{bit_of, with_pending}
 use Rattle.its_plain.specs.Machine.{Whole, Machine}
 use Rattle.its_plain.specs.Unit.{Outcome, Changed, Faulted, Called, unit}
 use Rattle.its_plain.proofs.MachineLaws.{machine_is}
 use Rattle.its_plain.proofs.StepLaws.{step_by, transition_unit}
 use Rattle.its_plain.proofs.UnitLaws.{unit_keeps}
-use Rattle.its_machine.specs.Parts.{bare}
-use Rattle.its_machine.proofs.BareLaws.{bare_outcome, deliverable_bare, unit_bare}
-use Rattle.its_machine.proofs.PartLaws.{on_slot_here, on_slot_other}
+use Rattle.its_shared.specs.Parts.{bare}
+use Rattle.its_shared.proofs.BareLaws.{bare_outcome, deliverable_bare, unit_bare}
+use Rattle.its_shared.proofs.PartLaws.{on_slot_here, on_slot_other}
 use Rattle.pdp_exec.proofs.SeriesLaws.{no_units, units_keep}
 use Rattle.pdp_exec.specs.Units.{Left, after_outcome, after_unit, after_units, left, unit_unless}
 use Rattle.its_core.specs.Cores.{core_at}
 use Rattle.its_jobs.specs.Table.{job_at, superior_at}
-use Rattle.its_machine.specs.Parts.{alarm_at}
+use Rattle.its_shared.specs.Parts.{alarm_at}
 use Rattle.its_direct.specs.Plain.{machine_of, is_touched, no_slots, Tidy, SlotBecomes, CoreBecomes, JobBecomes}
 use Rattle.its_direct.specs.Events.{Kept, SpotFits}
 use Rattle.its_direct.specs.Series.{Series, is_due, unit_due}
@@ -31,9 +31,9 @@ use Rattle.its_stepped.specs.Consoled.{Consoled}
 use Rattle.its_stepped.specs.Forest.{Forest}
 use Rattle.its_direct.specs.declared.plain.Plain.{Plain}
 use Rattle.its_direct.specs.declared.plain.Spot.TheVariants as spots
-use Rattle.its_stepped.proofs.FitLaws.{forest_steps}
-use Rattle.its_stepped.proofs.AlarmLaws.{step_alarmed}
-use Rattle.its_stepped.proofs.ConsoledLaws.{step_consoled}
+use Rattle.its_stepped.proofs.Duties.FitLaws.{forest_steps}
+use Rattle.its_stepped.proofs.Keeping.AlarmLaws.{step_alarmed}
+use Rattle.its_stepped.proofs.Keeping.ConsoledLaws.{step_consoled}
 use Rattle.its_direct.proofs.ActLaws.{twice}
 use Rattle.its_direct.proofs.SlotLaws.{put_then, slot_machine, slot_tidy, touched_machine, touched_tidy}
 use Rattle.its_direct.proofs.TouchLaws.{or_none, slot_some}
@@ -97,7 +97,8 @@ module _ (m : Machine) (j : ℕ) (q : Whole) (l : Left) (r : Runs m j q l) (quie
       subst (OneMore m j) is (record {
         is =
             transition_unit m j q (bare_outcome (Faulted f)) r.had runs_here quiet_here (unit_here (Faulted f) u)
-            ∙ ap (λ n. Some (quiet_step n)) (written_alike m j q (with_fault f) (with_left (left l.core (with_pending l.job (bit_of f)))) r.had (fault_here f));
+            ∙ ap (λ n. Some (quiet_step n)) (written_alike m j q (with_fault f) (with_left (left l.core (with_pending l.job (bit_of f))))
+            r.had (fault_here f));
         going = r.going;
       })
     where
@@ -127,15 +128,18 @@ then_series n m j q l r runs rest (Some k) is e =
     (p, one.is, slot_some m.jobs j (with_left k), subst (Series n p j) (twice m j (with_left k) (with_left r)) more)
 then_series n m j q l r runs rest None is e = let z = no_units n in absurd cc
 
-pub units_series : (n : ℕ) (m : Machine) (j : ℕ) (q : Whole) (l r : Left) → Runs m j q l → after_units n (Some l) ≡ Some r → Series n m j (in_job m j (with_left r))
+pub units_series : (n : ℕ) (m : Machine) (j : ℕ) (q : Whole) (l r : Left) → Runs m j q l → after_units n (Some l) ≡ Some r
+    → Series n m j (in_job m j (with_left r))
 units_series zero m j q l r runs e =
     let is : l ≡ r = cc in
     subst (λ (k : Left). in_job m j (with_left k) ≡ m) is (written_same m j q (with_left l) runs.had (own_here m j q l runs))
 units_series (suc n) m j q l r runs e = then_series n m j q l r runs (λ p w k h u. units_series n p j w k r h u) (after_unit (Some l)) refl e
 
 -- the units of a slot's job are made, on its core and its registers
-module _ (old mid put new : Plain) (s n : ℕ) (i k : Job) (c : Core) (had : job_at old.jobs s ≡ Some i) (running : i.stopped ≡ false) (a : CoreBecomes old mid s c)
-    (b : JobBecomes mid put s k) (e : new ≡ record put { touched = no_slots }) (units : after_units n (Some (left (core_at old.core s) i)) ≡ Some (left c k)) where
+module _ (old mid put new : Plain) (s n : ℕ) (i k : Job) (c : Core) (had : job_at old.jobs s ≡ Some i) (running : i.stopped ≡ false)
+    (a : CoreBecomes old mid s c)
+    (b : JobBecomes mid put s k) (e : new ≡ record put { touched = no_slots })
+    (units : after_units n (Some (left (core_at old.core s) i)) ≡ Some (left c k)) where
   both : SlotBecomes old put s c (Some k)
   both = put_then old mid put s c k a b
 
@@ -144,11 +148,13 @@ module _ (old mid put new : Plain) (s n : ℕ) (i k : Job) (c : Core) (had : job
 
   pub series_machine : machine_of new ≡ in_job (machine_of old) s (with_left (left c k))
   series_machine = touched_machine put new no_slots e
-      ∙ slot_machine old put s c i k (with_left (left c k)) both had (becomes_raw old.files (core_at old.core s) c (superior_at old.jobs s) (alarm_at old.alarms.items s) i k channels_kept)
+      ∙ slot_machine old put s c i k (with_left (left c k)) both had
+      (becomes_raw old.files (core_at old.core s) c (superior_at old.jobs s) (alarm_at old.alarms.items s) i k channels_kept)
 
   pub series_made : Series n (machine_of old) s (machine_of new)
   series_made = subst (Series n (machine_of old) s) (sym series_machine)
-      (units_series n (machine_of old) s (own_of old s i) (left (core_at old.core s) i) (left c k) (record { had = own_is old s i had; core = refl; job = refl; going = running }) units)
+      (units_series n (machine_of old) s (own_of old s i) (left (core_at old.core s) i) (left c k)
+      (record { had = own_is old s i had; core = refl; job = refl; going = running }) units)
 
   pub series_tidy : k.pc < 2 ^ 18 → Tidy old → Tidy new
   series_tidy placed tidy = touched_tidy put new no_slots e (slot_tidy old put s c i k both had channels_kept placed tidy)
@@ -160,7 +166,8 @@ module _ (old mid put new : Plain) (s n : ℕ) (i k : Job) (c : Core) (had : job
   series_place = ap (λ (p : Plain). p.place) e ∙ place_as both.aside.is
 
 -- one of them is the step of the job
-pub one_stepped : (old new : Plain) (s n : ℕ) → Series n (machine_of old) s (machine_of new) → n ≡ 1 → ((k : ℕ) → is_some ((machine_of new).jobs k) ≡ is_some ((machine_of old).jobs k))
+pub one_stepped : (old new : Plain) (s n : ℕ) → Series n (machine_of old) s (machine_of new) → n ≡ 1
+    → ((k : ℕ) → is_some ((machine_of new).jobs k) ≡ is_some ((machine_of old).jobs k))
     → (n ≢ 0 → (k : ℕ) → is_touched new k ≡ false) → new.place ≡ old.place → SteppedBy old new (transition (machine_of old) s)
 one_stepped old new s n made one jobs touched place =
     let h : Series 1 (machine_of old) s (machine_of new) = subst (λ k. Series k (machine_of old) s (machine_of new)) one made in
@@ -193,16 +200,27 @@ record Holds (m : Machine) : Type 0 where
   consoled : Consoled m
 
 holds_on : (m n : Machine) (j : ℕ) → Holds m → step m j ≡ Some n → Holds n
-holds_on m n j h e = record { forest = forest_steps m n j h.forest e; alarmed = step_alarmed m n j h.forest h.alarmed e; consoled = step_consoled m n j h.consoled e }
+holds_on m n j h e = record {
+  forest = forest_steps m n j h.forest e;
+  alarmed = step_alarmed m n j h.forest h.alarmed e;
+  consoled = step_consoled m n j h.consoled e;
+}
 
 holds_after : (j k : ℕ) (m o : Machine) → Series k m j o → Holds m → Holds o
 holds_after j zero m o e h = subst Holds (sym e) h
 holds_after j (suc k) m o s h = holds_after j k s.0 o s.3 (holds_on m s.0 j h (step_by m j (Some (quiet_step s.0)) s.1))
 
-pub series_kept : (old new : Plain) (s k : ℕ) → old.place ≡ spots.Plain → Kept old → Series k (machine_of old) s (machine_of new) → new.place ≡ old.place → Tidy new → Kept new
+pub series_kept : (old new : Plain) (s k : ℕ) → old.place ≡ spots.Plain → Kept old → Series k (machine_of old) s (machine_of new)
+    → new.place ≡ old.place → Tidy new → Kept new
 series_kept old new s k outside kept made place tidy =
     let h = holds_after s k (machine_of old) (machine_of new) made (record { forest = kept.forest; alarmed = kept.alarmed; consoled = kept.consoled }) in
-    record { tidy = tidy; forest = h.forest; alarmed = h.alarmed; consoled = h.consoled; placed = subst (SpotFits (machine_of new)) (sym (place ∙ outside)) tt }
+    record {
+      tidy = tidy;
+      forest = h.forest;
+      alarmed = h.alarmed;
+      consoled = h.consoled;
+      placed = subst (SpotFits (machine_of new)) (sym (place ∙ outside)) tt;
+    }
 
 -- if no other unit can be made, none is due
 outcome_none : (o : Outcome) (c : Core) (i : Job) → after_outcome o c i ≡ None → after_outcome (bare_outcome o) c (bare i) ≡ None
@@ -218,7 +236,8 @@ none_bare false c i d e =
 due_none : (q : Whole) → after_unit (Some (left q.core q.job)) ≡ None → is_due (Some q) ≡ false
 due_none q e = ap (λ o. not q.job.stopped && is_some o) e ∙ and_right (not q.job.stopped) false refl
 
-pub due_spent : (p : Plain) (s : ℕ) (i : Job) → job_at p.jobs s ≡ Some i → after_unit (Some (left (core_at p.core s) i)) ≡ None → unit_due (machine_of p) s ≡ false
+pub due_spent : (p : Plain) (s : ℕ) (i : Job) → job_at p.jobs s ≡ Some i → after_unit (Some (left (core_at p.core s) i)) ≡ None
+    → unit_due (machine_of p) s ≡ false
 unfolding unit_due
 due_spent p s i had none = ap is_due (own_is p s i had) ∙ due_none (own_of p s i) (none_bare (deliverable i) (core_at p.core s) i refl none)
 
@@ -228,9 +247,12 @@ due_absent p s o is none = ap is_due (nobody_is p s (sym is ∙ none))
 
 pub due_stopped : (p : Plain) (s : ℕ) (i : Job) (o : Option Job) → o ≡ job_at p.jobs s → o ≡ Some i → i.stopped ≡ true → unit_due (machine_of p) s ≡ false
 unfolding unit_due
-due_stopped p s i o is some stopped = ap is_due (own_is p s i (sym is ∙ some)) ∙ ap (λ b. not b && is_some (after_unit (Some (left (core_at p.core s) (bare i))))) stopped
+due_stopped p s i o is some stopped = ap is_due (own_is p s i (sym is ∙ some))
+    ∙ ap (λ b. not b && is_some (after_unit (Some (left (core_at p.core s) (bare i))))) stopped
 
 -- the core and the registers that the units leave
-pub due_left : (old mid put new : Plain) (s : ℕ) (k : Job) (c : Core) → CoreBecomes old mid s c → JobBecomes mid put s k → new ≡ record put { touched = no_slots } → after_unit (Some (left c k)) ≡ None → unit_due (machine_of new) s ≡ false
+pub due_left : (old mid put new : Plain) (s : ℕ) (k : Job) (c : Core) → CoreBecomes old mid s c → JobBecomes mid put s k
+    → new ≡ record put { touched = no_slots } → after_unit (Some (left c k)) ≡ None → unit_due (machine_of new) s ≡ false
 due_left old mid put new s k c a b e none =
-    ap (λ m. unit_due m s) (touched_machine put new no_slots e) ∙ due_spent put s k b.job.here (ap (λ (d : Core). after_unit (Some (left d k))) (b.core.here ∙ a.core.here) ∙ none)
+    ap (λ m. unit_due m s) (touched_machine put new no_slots e)
+    ∙ due_spent put s k b.job.here (ap (λ (d : Core). after_unit (Some (left d k))) (b.core.here ∙ a.core.here) ∙ none)

@@ -14,15 +14,15 @@ use Rattle.its_core.specs.Cores.{Cores, core_at, clear_at}
 use Rattle.its_files.specs.Files.{Store, directory}
 use Rattle.its_jobs.specs.Table.{job_at, superior_at}
 use Rattle.its_pipes.specs.Pipes.{piped}
-use Rattle.its_plain.specs.Change.{in_job}
+use Rattle.its_plain.specs.Machine.Change.{in_job}
 use Rattle.its_plain.specs.Machine.{Whole}
-use Rattle.its_plain.specs.OperatorClock.{clock_end}
+use Rattle.its_plain.specs.Operator.Clock.{clock_end}
 use Rattle.its_plain.proofs.MachineLaws.{machine_is}
-use Rattle.its_machine.specs.Across.{channel_by, channel_at, Across}
-use Rattle.its_machine.specs.Parts.{alarm_at, console_at, holder_at, symbols_at, raw_of, raw_at}
-use Rattle.its_machine.proofs.AcrossLaws.{across_table}
-use Rattle.its_machine.proofs.CoreLaws.{same_clear}
-use Rattle.its_machine.proofs.PartLaws.{raw_job, raw_some, slot_at}
+use Rattle.its_shared.specs.Across.{channel_by, channel_at, Across}
+use Rattle.its_shared.specs.Parts.{alarm_at, console_at, holder_at, symbols_at, raw_of, raw_at}
+use Rattle.its_shared.proofs.AcrossLaws.{across_table}
+use Rattle.its_shared.proofs.CoreLaws.{same_clear}
+use Rattle.its_shared.proofs.PartLaws.{raw_job, raw_some, slot_at}
 use Rattle.its_direct.specs.Plain.{machine_of, Tidy, Aside, SlotBecomes, CoreBecomes, JobBecomes}
 use Rattle.its_direct.specs.declared.plain.Plain.{Plain}
 use Rattle.its_direct.proofs.ContentsLaws.{consoles_as, holders_as, files_as, clock_as, alarms_as, version_as, symbols_as, pipes_as}
@@ -70,13 +70,15 @@ put_then old mid new s c j a b = record {
 -- the machine after it
 module _ (old new : Plain) (s : ℕ) (c : Core) (j : Option Job) (b : SlotBecomes old new s c j) where
   raw_other : (k : ℕ) → k ≢ s → raw_at new.files new.core new.jobs new.alarms.items k ≡ raw_at old.files old.core old.jobs old.alarms.items k
-  raw_other k ne = λ t. raw_of (b.aside.is t).files (b.core.others k ne t) (slice_index_or (b.superiors t) k None) (alarm_at (b.aside.is t).alarms.items k) (b.job.others k ne t)
+  raw_other k ne = λ t. raw_of (b.aside.is t).files (b.core.others k ne t) (slice_index_or (b.superiors t) k None)
+      (alarm_at (b.aside.is t).alarms.items k) (b.job.others k ne t)
 
   raw_here : raw_at new.files new.core new.jobs new.alarms.items s ≡ raw_of old.files c (superior_at old.jobs s) (alarm_at old.alarms.items s) j
   raw_here = λ t. raw_of (b.aside.is t).files (b.core.here t) (slice_index_or (b.superiors t) s None) (alarm_at (b.aside.is t).alarms.items s) (b.job.here t)
 
 pub slot_machine : (old new : Plain) (s : ℕ) (c : Core) (i k : Job) (h : Whole → Whole) → SlotBecomes old new s c (Some k) → job_at old.jobs s ≡ Some i
-    → h (raw_job old.files (core_at old.core s) i (superior_at old.jobs s) (alarm_at old.alarms.items s)) ≡ raw_job old.files c k (superior_at old.jobs s) (alarm_at old.alarms.items s)
+    → h (raw_job old.files (core_at old.core s) i (superior_at old.jobs s) (alarm_at old.alarms.items s)) ≡ raw_job old.files c k
+    (superior_at old.jobs s) (alarm_at old.alarms.items s)
     → machine_of new ≡ in_job (machine_of old) s h
 unfolding machine_of
 slot_machine old new s c i k h b had e = machine_is _ _
@@ -84,7 +86,8 @@ slot_machine old new s c i k h b had e = machine_is _ _
     (raw_here old new s c (Some k) b ∙ ap Some (sym e) ∙ sym (ap (option_map h) (raw_some old.files old.core old.jobs old.alarms.items s i had)))
     (raw_other old new s c (Some k) b))
     (λ x. ap (λ l. console_at l.items x) (consoles_as b.aside.is)) (λ x. ap (λ l. holder_at l x) (holders_as b.aside.is)) (ap directory (files_as b.aside.is))
-    (clock_as b.aside.is) (version_as b.aside.is) (λ x. ap (λ l. symbols_at l.items x) (symbols_as b.aside.is)) (λ x. ap (λ l. piped l x) (pipes_as b.aside.is))
+    (clock_as b.aside.is) (version_as b.aside.is) (λ x. ap (λ l. symbols_at l.items x) (symbols_as b.aside.is))
+    (λ x. ap (λ l. piped l x) (pipes_as b.aside.is))
 
 -- the PC of a job is an address
 abbrev pub IsPlaced : Option Job → Type 0
@@ -94,7 +97,8 @@ pub placed_at : (p : Plain) (s : ℕ) (o : Option Job) (j : Job) → o ≡ job_a
 placed_at p s o j is some tidy = subst IsPlaced (sym is ∙ some) (tidy.addressed s)
 
 -- what holds of that machine, if the job keeps its channels
-pub slot_tidy : (old new : Plain) (s : ℕ) (c : Core) (i k : Job) → SlotBecomes old new s c (Some k) → job_at old.jobs s ≡ Some i → k.channels ≡ i.channels → k.pc < 2 ^ 18 → Tidy old → Tidy new
+pub slot_tidy : (old new : Plain) (s : ℕ) (c : Core) (i k : Job) → SlotBecomes old new s c (Some k) → job_at old.jobs s ≡ Some i
+    → k.channels ≡ i.channels → k.pc < 2 ^ 18 → Tidy old → Tidy new
 slot_tidy old new s c i k b had same placed tidy = record {
   unreserved = λ n. b.reserved.each n ∙ tidy.unreserved n;
   unmarked = ap (λ (x : Store). x.mark) (files_as b.aside.is) ∙ tidy.unmarked;
@@ -121,18 +125,22 @@ slot_tidy old new s c i k b had same placed tidy = record {
     ]
 
 -- a core alone is written, of a slot that has a job
-pub core_machine : (old new : Plain) (s : ℕ) (c : Core) (i : Job) → CoreBecomes old new s c → job_at old.jobs s ≡ Some i → machine_of new ≡ in_job (machine_of old) s (λ q. record q { core = c })
+pub core_machine : (old new : Plain) (s : ℕ) (c : Core) (i : Job) → CoreBecomes old new s c → job_at old.jobs s ≡ Some i
+    → machine_of new ≡ in_job (machine_of old) s (λ q. record q { core = c })
 core_machine old new s c i b had = slot_machine old new s c i i (λ q. record q { core = c }) (subst (SlotBecomes old new s c) had b) had refl
 
 pub core_tidy : (old new : Plain) (s : ℕ) (c : Core) (i : Job) → CoreBecomes old new s c → job_at old.jobs s ≡ Some i → Tidy old → Tidy new
-core_tidy old new s c i b had tidy = slot_tidy old new s c i i (subst (SlotBecomes old new s c) had b) had refl (placed_at old s (job_at old.jobs s) i refl had tidy) tidy
+core_tidy old new s c i b had tidy = slot_tidy old new s c i i (subst (SlotBecomes old new s c) had b) had refl
+    (placed_at old s (job_at old.jobs s) i refl had tidy) tidy
 
 -- a core that is put back as it was: a fact of the type holds in one way
 pub numbers_are : {v : ℕ} (a b : (1 ≤ v) × (v ≤ 2)) → a ≡ b
 numbers_are a b = λ t. (le_prop a.0 b.0 t, le_prop a.1 b.1 t)
 
-pub core_back : (p : Plain) (x : Cores) (count : vec_len p.consoles ≡ 8) (places : vec_len p.alarms ≡ slots) (named : vec_len p.symbols ≡ slots) (limit : p.jobs.limit ≡ limit_of p.version)
-    (number : (1 ≤ p.version) × (p.version ≤ 2)) → x ≡ p.core → record p { core = x; consoles_count = count; alarm_places = places; lists = named; limited = limit; numbered = number } ≡ p
+pub core_back : (p : Plain) (x : Cores) (count : vec_len p.consoles ≡ 8) (places : vec_len p.alarms ≡ slots)
+    (named : vec_len p.symbols ≡ slots) (limit : p.jobs.limit ≡ limit_of p.version)
+    (number : (1 ≤ p.version) × (p.version ≤ 2)) → x ≡ p.core
+    → record p { core = x; consoles_count = count; alarm_places = places; lists = named; limited = limit; numbered = number } ≡ p
 core_back p x count places named limit number e =
     (λ t. record p {
       core = x;

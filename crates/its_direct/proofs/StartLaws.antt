@@ -8,20 +8,23 @@ use Rattle.its_files.specs.Files.{Store, directory, no_files}
 use Rattle.its_jobs.specs.Table.{superior_at, NoJobs}
 use Rattle.its_pipes.specs.Pipes.{piped}
 use Rattle.its_plain.specs.Machine.{no_machine}
-use Rattle.its_plain.specs.OperatorClock.{clock_end}
+use Rattle.its_plain.specs.Operator.Clock.{clock_end}
 use Rattle.its_plain.proofs.MachineLaws.{machine_is}
-use Rattle.its_machine.specs.Across.{Across}
-use Rattle.its_machine.specs.Parts.{alarm_at, console_at, holder_at, symbols_at, raw_of}
-use Rattle.its_machine.proofs.AcrossLaws.{no_across}
+use Rattle.its_shared.specs.Across.{Across}
+use Rattle.its_shared.specs.Parts.{alarm_at, console_at, holder_at, symbols_at, raw_of}
+use Rattle.its_shared.proofs.AcrossLaws.{no_across}
 use Rattle.its_direct.specs.Plain.{machine_of, Tidy}
 use Rattle.its_direct.specs.declared.plain.Plain.{Plain}
 
 -- the machine that is opened is that of the start
-pub open_machine : (p : Plain) → IsEmpty p.core → NoJobs p.jobs → ((c : ℕ) → console_at p.consoles.items c ≡ quiet_console) → ((c : ℕ) → holder_at p.holders c ≡ None)
-    → p.files ≡ no_files → p.clock ≡ 0 → p.version ≡ 1 → ((k : ℕ) → symbols_at p.symbols.items k ≡ []) → ((l : ℕ) → piped p.pipes l ≡ None) → machine_of p ≡ no_machine
+pub open_machine : (p : Plain) → IsEmpty p.core → NoJobs p.jobs → ((c : ℕ) → console_at p.consoles.items c ≡ quiet_console)
+    → ((c : ℕ) → holder_at p.holders c ≡ None)
+    → p.files ≡ no_files → p.clock ≡ 0 → p.version ≡ 1 → ((k : ℕ) → symbols_at p.symbols.items k ≡ []) → ((l : ℕ) → piped p.pipes l ≡ None)
+    → machine_of p ≡ no_machine
 unfolding machine_of no_machine
 open_machine p e n consoles holders files c v symbols links =
-    machine_is _ _ (λ k. ap (raw_of p.files (core_at p.core k) (superior_at p.jobs k) (alarm_at p.alarms.items k)) (n.jobs k)) consoles holders (ap directory files) c v symbols links
+    machine_is _ _ (λ k. ap (raw_of p.files (core_at p.core k) (superior_at p.jobs k) (alarm_at p.alarms.items k)) (n.jobs k)) consoles
+    holders (ap directory files) c v symbols links
 
 pub open_tidy : (p : Plain) → IsEmpty p.core → NoJobs p.jobs → p.files ≡ no_files → p.clock ≡ 0 → ((k : ℕ) → alarm_at p.alarms.items k ≡ None)
     → ((k : ℕ) → symbols_at p.symbols.items k ≡ []) → Tidy p

@@ -11,14 +11,14 @@ use Rattle.its_frame.specs.declared.change.Change.TheVariants as changes
 use Rattle.its_frame.specs.declared.decision.Decision.{Decision}
 use Rattle.its_frame.specs.declared.decision.Decision.TheVariants.{Waits, Goes, Ends, Gone}
 use Rattle.its_frame.specs.declared.frame.Frame.{Frame}
-use Rattle.its_plain.specs.Decode.{ask}
-use Rattle.its_plain.specs.CallStep.{Transition, acted, among, with_core_and_job, by_ask, by_delivery, by_unit, decision, after_end, with_fault, informs, after_moves, transition, transition_of, unless_stopped}
-use Rattle.its_plain.specs.Change.{effect, effects, is_gone, after_removal, superiors}
-use Rattle.its_plain.specs.Decide.{reach}
-use Rattle.its_plain.specs.Footprint.{Stands}
-use Rattle.its_plain.specs.Interrupt.{deliverable, delivered}
+use Rattle.its_plain.specs.Call.Decode.{ask}
+use Rattle.its_plain.specs.Call.Step.{Transition, acted, among, with_core_and_job, by_ask, by_delivery, by_unit, decision, after_end, with_fault, informs, after_moves, transition, transition_of, unless_stopped}
+use Rattle.its_plain.specs.Machine.Change.{effect, effects, is_gone, after_removal, superiors}
+use Rattle.its_plain.specs.Call.Decide.{reach}
+use Rattle.its_plain.specs.Call.Footprint.{Stands}
+use Rattle.its_plain.specs.Unit.Interrupt.{deliverable, delivered}
 use Rattle.its_plain.specs.Machine.{Machine, Whole}
-use Rattle.its_plain.specs.Own.{after_leave}
+use Rattle.its_plain.specs.Machine.Own.{after_leave}
 use Rattle.its_plain.specs.Unit.{Called, Changed, Faulted, Outcome, unit}
 use Rattle.its_plain.proofs.StepLaws.{AllOf}
 use Rattle.its_stepped.specs.Commit.{effect_on, effects_on}
@@ -27,9 +27,9 @@ use Rattle.its_stepped.specs.Forest.{Forest}
 use Rattle.its_stepped.specs.Quiet.{AllQuiet, IsStill, Quiet}
 use Rattle.its_stepped.specs.State.{State, entered}
 use Rattle.its_stepped.specs.Tick.{reserves}
-use Rattle.its_stepped.proofs.DecodingLaws.{decoding}
-use Rattle.its_stepped.proofs.ForestLaws.{left_some}
-use Rattle.its_stepped.proofs.GivenLaws.{decision_duty}
+use Rattle.its_stepped.proofs.Frame.DecodingLaws.{decoding}
+use Rattle.its_stepped.proofs.Keeping.ForestLaws.{left_some}
+use Rattle.its_stepped.proofs.Duties.GivenLaws.{decision_duty}
 use Rattle.its_direct.proofs.CallingLaws.{all_alike, beginning, calling, page_for}
 use Rattle.its_direct.proofs.TouchLaws.{slot_some}
 
@@ -110,7 +110,8 @@ module _ (m : Machine) (j k : ℕ) (s : Site) (a : Ask) (ks : List ℕ) (r : Opt
   abbrev crowded : State
   crowded = beginning m (crowd m ks s) r
 
-  changes_keep : (cs : List Change) → AllQuiet cs j crowded → is_some (m.jobs k) ≡ true → k ≢ j → among k ks ≡ false → is_some ((effects cs j m).jobs k) ≡ true
+  changes_keep : (cs : List Change) → AllQuiet cs j crowded → is_some (m.jobs k) ≡ true → k ≢ j → among k ks ≡ false
+      → is_some ((effects cs j m).jobs k) ≡ true
   changes_keep cs quiet some ne apart =
       ap (λ (jobs : ℕ → Option Whole). is_some (jobs k)) (sym (all_alike cs j crowded m refl))
       ∙ stays cs j k crowded (entered s) quiet ne (record { job = some; frame = crowd_some s (among k ks) (m.jobs k) apart some })
@@ -118,8 +119,10 @@ module _ (m : Machine) (j k : ℕ) (s : Site) (a : Ask) (ks : List ℕ) (r : Opt
   acted_keeps : (q : Whole) (d : Decision) → Duty crowded j q s a 0 d → AllOf (Keeps m j k) (acted m j a ks d)
   unfolding acted
   acted_keeps q (Waits x) duty = tt
-  acted_keeps q (Goes cs h vs) duty = λ some ne apart. slot_some (effects cs.items j m).jobs j (after_moves a h vs.items) k ∙ changes_keep cs.items duty.quiet some ne apart
-  acted_keeps q (Ends cs ss e) duty = λ some ne apart. slot_some (effects cs.items j m).jobs j (after_end ss.items (after_leave e)) k ∙ changes_keep cs.items duty.quiet some ne apart
+  acted_keeps q (Goes cs h vs) duty = λ some ne apart. slot_some (effects cs.items j m).jobs j (after_moves a h vs.items) k
+      ∙ changes_keep cs.items duty.quiet some ne apart
+  acted_keeps q (Ends cs ss e) duty = λ some ne apart. slot_some (effects cs.items j m).jobs j (after_end ss.items (after_leave e)) k
+      ∙ changes_keep cs.items duty.quiet some ne apart
   acted_keeps q (Gone cs) duty = λ some ne apart. changes_keep (changes.Remove j ∷ cs.items) duty.quiet some ne apart
 
 call_keeps : (m : Machine) (j k : ℕ) (q : Whole) (s : Site) (a : Ask) → Forest m → m.jobs j ≡ Some q → Stands q.core q.job s a
@@ -164,11 +167,13 @@ slot_keeps m j k (Some q) forest here = running_keeps m j k q forest here q.job.
 slot_keeps m j k None forest here = tt
 
 -- a job stays if the step does not disturb it and it is not the one that takes the step
-pub step_keeps : (m : Machine) (j k : ℕ) (t : Transition) → Forest m → transition m j ≡ Some t → is_some (m.jobs k) ≡ true → k ≢ j → among k t.disturbs ≡ false → is_some (t.machine.jobs k) ≡ true
+pub step_keeps : (m : Machine) (j k : ℕ) (t : Transition) → Forest m → transition m j ≡ Some t → is_some (m.jobs k) ≡ true → k ≢ j
+    → among k t.disturbs ≡ false → is_some (t.machine.jobs k) ≡ true
 unfolding transition
 step_keeps m j k t forest e = subst (AllOf (Keeps m j k)) e (slot_keeps m j k (m.jobs j) forest refl)
 
-pub step_loses : (m : Machine) (j : ℕ) (t : Transition) → Forest m → transition m j ≡ Some t → (k : ℕ) → t.machine.jobs k ≡ None → (m.jobs k ≡ None) ⊎ ((k ≡ j) ⊎ (among k t.disturbs ≡ true))
+pub step_loses : (m : Machine) (j : ℕ) (t : Transition) → Forest m → transition m j ≡ Some t → (k : ℕ) → t.machine.jobs k ≡ None
+    → (m.jobs k ≡ None) ⊎ ((k ≡ j) ⊎ (among k t.disturbs ≡ true))
 step_loses m j t forest e k none = elim (cases_Bool (is_some (m.jobs k))) [
   | inl some ↦ elim (cases_eq k j) [
     | inl same ↦ inr (inl same)

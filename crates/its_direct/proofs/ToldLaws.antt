@@ -8,18 +8,18 @@ use Rattle.its_session.specs.Events.{place_after}
 use Rattle.its_session.specs.Fits.{EventFits}
 use Rattle.its_plain.specs.Machine.{Whole, Machine, no_machine}
 use Rattle.its_plain.specs.Operator.{Block, no_block, Does, Refuses, Ticks, Quits}
-use Rattle.its_plain.specs.OperatorLines.{Lined, Done, Peeks, lined}
+use Rattle.its_plain.specs.Operator.Lines.{Lined, Done, Peeks, lined}
 use Rattle.its_plain.proofs.CallLineLaws.{SlotKept, Stays, Made, LineKeepsBy, line_keeps}
 use Rattle.its_stepped.specs.Alarmed.{Alarmed}
 use Rattle.its_stepped.specs.Consoled.{Consoled}
 use Rattle.its_stepped.specs.Forest.{Forest}
-use Rattle.its_stepped.proofs.AlarmLaws.{alarmed_starts, line_alarmed}
-use Rattle.its_stepped.proofs.ConsoledLaws.{consoled_starts}
-use Rattle.its_stepped.proofs.ForestLaws.{forest_starts}
-use Rattle.its_stepped.proofs.WrittenLaws.{line_forest}
+use Rattle.its_stepped.proofs.Keeping.AlarmLaws.{alarmed_starts, line_alarmed}
+use Rattle.its_stepped.proofs.Keeping.ConsoledLaws.{consoled_starts}
+use Rattle.its_stepped.proofs.Keeping.ForestLaws.{forest_starts}
+use Rattle.its_stepped.proofs.Running.WrittenLaws.{line_forest}
 use Rattle.its_direct.specs.Events.{SpotFits, Kept, MayStand, spot_place, Speaks, Obeys, Told, JobsStay}
 use Rattle.its_direct.specs.Plain.{machine_of, Tidy}
-use Rattle.its_direct.specs.declared.events.Answer.{Answer}
+use Rattle.its_direct.specs.declared.lines.events.Answer.{Answer}
 use Rattle.its_direct.specs.declared.plain.Plain.{Plain}
 use Rattle.its_direct.specs.declared.plain.Spot.{Spot}
 use Rattle.its_direct.specs.declared.plain.Spot.TheVariants as spots
@@ -51,8 +51,9 @@ speaks_at (spots.Load s) = refl
 speaks_at (spots.File names) = refl
 
 -- what an event leaves that was obeyed
-obeyed_kept : (e : Event) (a : Answer) (old new : Plain) (b : Block) (l : Lined) → EventFits 2 e → MayStand (spot_place old.place) e → Speaks old.place b → spot_place new.place ≡ place_after (spot_place old.place) e
-    → lined (machine_of old) b e ≡ l → Obeys e a old new l → Kept old → Tidy new → Kept new
+obeyed_kept : (e : Event) (a : Answer) (old new : Plain) (b : Block) (l : Lined) → EventFits 2 e → MayStand (spot_place old.place) e
+    → Speaks old.place b → spot_place new.place ≡ place_after (spot_place old.place) e
+    → lined (machine_of old) b e ≡ l → Obeys a old new l → Kept old → Tidy new → Kept new
 obeyed_kept e a old new b (Done (Does n out touched c)) ranged stands speaks leads is o kept tidy = record {
   tidy = tidy;
   forest = subst Forest (sym o.0) (line_forest (machine_of old) n b c e out touched kept.forest is);
@@ -81,23 +82,27 @@ slot_stays (Some q) (Some r) kept e = cc
 slot_stays (Some q) None (Stays h) e = cc
 slot_stays (Some q) None (Made u j console none is) e = cc
 
-obeyed_jobs : (e : Event) (a : Answer) (old new : Plain) (b : Block) (l : Lined) → lined (machine_of old) b e ≡ l → Obeys e a old new l → JobsStay old new
+obeyed_jobs : (e : Event) (a : Answer) (old new : Plain) (b : Block) (l : Lined) → lined (machine_of old) b e ≡ l → Obeys a old new l → JobsStay old new
 obeyed_jobs e a old new b (Done (Does n out touched c)) is o k h =
-    slot_stays ((machine_of old).jobs k) (n.jobs k) ((subst (LineKeepsBy (machine_of old)) is (line_keeps (machine_of old) b e)).slots k) (sym (ap (λ (m : Machine). m.jobs k) o.0) ∙ h)
+    slot_stays ((machine_of old).jobs k) (n.jobs k) ((subst (LineKeepsBy (machine_of old)) is (line_keeps (machine_of old) b e)).slots k)
+    (sym (ap (λ (m : Machine). m.jobs k) o.0) ∙ h)
 obeyed_jobs e a old new b (Peeks s) is o k h = sym (ap (λ (m : Machine). m.jobs k) o.0) ∙ h
 obeyed_jobs e a old new b _ is o k h = absurd o
 
 -- what holds after an event, obeyed or refused
-pub told_kept : (e : Event) (old new : Plain) (r : Result Answer Refusal) → EventFits 2 e → MayStand (spot_place old.place) e → Told e old new r → OnErr r (new ≡ old) → Tidy new → Kept old → Kept new
+pub told_kept : (e : Event) (old new : Plain) (r : Result Answer Refusal) → EventFits 2 e → MayStand (spot_place old.place) e
+    → Told e old new r → OnErr r (new ≡ old) → Tidy new → Kept old → Kept new
 told_kept e old new (Ok a) ranged stands told same tidy kept =
     let o = told (block_at old.place) (speaks_at old.place) in
     obeyed_kept e a old new (block_at old.place) o.comes ranged stands (speaks_at old.place) o.leads o.is o.obeys kept tidy
 told_kept e old new (Err z) ranged stands told same tidy kept = subst Kept (sym same) kept
 
-pub told_place : (e : Event) (old new : Plain) (r : Result Answer Refusal) → Told e old new r → IfOk r (λ a. spot_place new.place ≡ place_after (spot_place old.place) e)
+pub told_place : (e : Event) (old new : Plain) (r : Result Answer Refusal) → Told e old new r
+    → IfOk r (λ a. spot_place new.place ≡ place_after (spot_place old.place) e)
 told_place e old new (Ok a) told = (told (block_at old.place) (speaks_at old.place)).leads
 told_place e old new (Err z) told = tt
 
 pub told_jobs : (e : Event) (old new : Plain) (r : Result Answer Refusal) → Told e old new r → OnErr r (new ≡ old) → JobsStay old new
-told_jobs e old new (Ok a) told same = let o = told (block_at old.place) (speaks_at old.place) in obeyed_jobs e a old new (block_at old.place) o.comes o.is o.obeys
+told_jobs e old new (Ok a) told same = let o = told (block_at old.place) (speaks_at old.place) in obeyed_jobs e a old new
+    (block_at old.place) o.comes o.is o.obeys
 told_jobs e old new (Err z) told same = λ k h. sym (ap (λ (p : Plain). (machine_of p).jobs k) same) ∙ h

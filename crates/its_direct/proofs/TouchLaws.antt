@@ -3,12 +3,12 @@ use Rattle.std.specs.Prelude.{◌≡◌, ◌≢◌, ◌<◌, ◌||◌, ℕ, zero
 use Rattle.std.proofs.Common.{ap, sym, ◌∙◌, inl, inr, arith}
 use Rattle.std.proofs.lemmas.Bool.{cases_eq, eq-eqb, ne_eqb}
 use Rattle.std.proofs.lemmas.List.{get_or-set_same, get_or-set_other, length-replicate}
-use Rattle.its_plain.specs.CallStep.{is_made}
+use Rattle.its_plain.specs.Call.Step.{is_made}
 use Rattle.its_word.specs.Limits.{slots}
-use Rattle.its_plain.specs.Change.{in_job, on_slot}
-use Rattle.its_plain.specs.Footprint.{among}
+use Rattle.its_plain.specs.Machine.Change.{in_job, on_slot}
+use Rattle.its_plain.specs.Call.Footprint.{among}
 use Rattle.its_plain.specs.Machine.{Whole, Machine}
-use Rattle.its_machine.proofs.PartLaws.{on_slot_here, on_slot_other}
+use Rattle.its_shared.proofs.PartLaws.{on_slot_here, on_slot_other}
 use Rattle.its_direct.specs.Plain.{no_slots}
 
 -- a job that is changed is not made, and no other is
@@ -43,15 +43,17 @@ pub none_touched : (ts : List Bool) → ts ≡ no_slots → (k : ℕ) → slice_
 unfolding no_slots
 none_touched ts e k = ap (λ (xs : List Bool). slice_index_or xs k false) e ∙ copies slots k
 
-pub one_touched : (new old : List Bool) (s : ℕ) → s < slots → new ≡ slice_set old s true → old ≡ no_slots → (k : ℕ) → slice_index_or new k false ≡ among k (s ∷ [])
+pub one_touched : (new old : List Bool) (s : ℕ) → s < slots → new ≡ slice_set old s true → old ≡ no_slots → (k : ℕ)
+    → slice_index_or new k false ≡ among k (s ∷ [])
 unfolding no_slots
-one_touched new old s l e none k = ap (λ (xs : List Bool). slice_index_or xs k false) (e ∙ ap (λ (xs : List Bool). slice_set xs s true) none) ∙ elim (cases_eq k s) [
-  | inl is ↦
-      ap (λ (n : ℕ). slice_index_or (slice_set (replicate slots false) s true) n false) is
-      ∙ get_or-set_same (replicate slots false) s true false (let n = length-replicate slots false in omega arith)
-      ∙ sym (ap (λ (n : ℕ). among n (s ∷ [])) is ∙ here s)
-  | inr ne ↦ get_or-set_other (replicate slots false) s k true false ne ∙ copies slots k ∙ sym (other s k (λ f. ne (sym f)))
-]
+one_touched new old s l e none k = ap (λ (xs : List Bool). slice_index_or xs k false)
+    (e ∙ ap (λ (xs : List Bool). slice_set xs s true) none) ∙ elim (cases_eq k s) [
+      | inl is ↦
+          ap (λ (n : ℕ). slice_index_or (slice_set (replicate slots false) s true) n false) is
+          ∙ get_or-set_same (replicate slots false) s true false (let n = length-replicate slots false in omega arith)
+          ∙ sym (ap (λ (n : ℕ). among n (s ∷ [])) is ∙ here s)
+      | inr ne ↦ get_or-set_other (replicate slots false) s k true false ne ∙ copies slots k ∙ sym (other s k (λ f. ne (sym f)))
+    ]
   where
     here : (s : ℕ) → among s (s ∷ []) ≡ true
     here s = rw (eq-eqb s s refl) refl
@@ -67,6 +69,7 @@ pub or_none : (b : Bool) (m n : Machine) (k : ℕ) → is_some (n.jobs k) ≡ is
 or_none b m n k h = or_false b (is_made m n k) (none_made m n k h)
 
 -- the marks of a step that makes no job
-pub step_touched : (ts : List Bool) (m n : Machine) (ks : List ℕ) → ((k : ℕ) → slice_index_or ts k false ≡ among k ks) → ((k : ℕ) → is_some (n.jobs k) ≡ is_some (m.jobs k))
+pub step_touched : (ts : List Bool) (m n : Machine) (ks : List ℕ) → ((k : ℕ) → slice_index_or ts k false ≡ among k ks)
+    → ((k : ℕ) → is_some (n.jobs k) ≡ is_some (m.jobs k))
     → (k : ℕ) → slice_index_or ts k false ≡ (among k ks || is_made m n k)
 step_touched ts m n ks each same k = each k ∙ or_false (among k ks) (is_made m n k) (none_made m n k (same k))

@@ -17,21 +17,21 @@ use Rattle.its_frame.specs.declared.decision.Wait.TheVariants.{Input}
 use Rattle.its_frame.specs.declared.name.CallName.TheVariants.{Iot}
 use Rattle.its_frame.proofs.NameLaws.{named}
 use Rattle.its_jobs.specs.Table.{job_at}
-use Rattle.its_plain.specs.CallBasic.{channel_at}
-use Rattle.its_plain.specs.CallDevice.{iot_call, iot_on}
-use Rattle.its_plain.specs.CallStep.{acted, decision, transition}
-use Rattle.its_plain.specs.CallTty.{is_empty, is_other}
-use Rattle.its_plain.specs.Decide.{decided, decided_by, reach, target}
-use Rattle.its_plain.specs.Decode.{ask, ask_by, iot_ask}
-use Rattle.its_plain.specs.Interrupt.{deliverable}
+use Rattle.its_plain.specs.Call.Basic.{channel_at}
+use Rattle.its_plain.specs.Call.Device.{iot_call, iot_on}
+use Rattle.its_plain.specs.Call.Step.{acted, decision, transition}
+use Rattle.its_plain.specs.Call.Tty.{is_empty, is_other}
+use Rattle.its_plain.specs.Call.Decide.{decided, decided_by, reach, target}
+use Rattle.its_plain.specs.Call.Decode.{ask, ask_by, iot_ask}
+use Rattle.its_plain.specs.Unit.Interrupt.{deliverable}
 use Rattle.its_plain.specs.Machine.{TtyIn}
-use Rattle.its_plain.specs.Tests.{◌⇒◌, first}
+use Rattle.its_plain.specs.Call.Tests.{◌⇒◌, first}
 use Rattle.its_plain.specs.Unit.{Called, unit}
-use Rattle.its_plain.specs.View.{View, view}
+use Rattle.its_plain.specs.Machine.View.{View, view}
 use Rattle.its_plain.proofs.StepLaws.{transition_called}
-use Rattle.its_machine.specs.Called.{bar_of, channel_under}
-use Rattle.its_machine.specs.Parts.{chan_of}
-use Rattle.its_machine.proofs.NumberLaws.{under}
+use Rattle.its_shared.specs.Called.{bar_of, channel_under}
+use Rattle.its_shared.specs.Parts.{chan_of}
+use Rattle.its_shared.proofs.NumberLaws.{under}
 use Rattle.pdp_exec.specs.Near.{near_site}
 use Rattle.pdp_exec.specs.declared.near.Near.{Near}
 use Rattle.its_direct.specs.Plain.{machine_of}
@@ -47,7 +47,8 @@ can_by true = refl
 can_by false = refl
 
 pub stores : (c : Core) (a w : ℕ) (b : Bool) → word_at c a ≡ Some w → b ≡ can_store c a → b ≡ is_none (bar_of c a)
-stores c a w b has is = is ∙ can_by (can_store c a) ∙ sym (ap (λ (o : Option ℕ). is_none (if not (is_some o) then Some Mpv else (if not (can_store c a) then Some Wro else None))) has)
+stores c a w b has is = is ∙ can_by (can_store c a) ∙ sym (ap
+    (λ (o : Option ℕ). is_none (if not (is_some o) then Some Mpv else (if not (can_store c a) then Some Wro else None))) has)
 
 pub stores_not : (c : Core) (a : ℕ) → word_at c a ≡ None → false ≡ is_none (bar_of c a)
 stores_not c a none = sym (ap (λ (o : Option ℕ). is_none (if not (is_some o) then Some Mpv else (if not (can_store c a) then Some Wro else None))) none)
@@ -84,12 +85,14 @@ empty_is [] = refl
 empty_is (x ∷ xs) = sym (ne_eqb (length (x ∷ xs)) 0 (λ e. cc))
 
 -- the tests of a call whose word can be stored, before it waits
-first_waits : (a b w : Bool) (x y d : Decision) (r : Wait) → (if a then Some Mpv else (if b then Some Wro else None)) ≡ None → w ≡ true → first (a ⇒ x ∷ b ⇒ y ∷ w ⇒ Waits r ∷ []) d ≡ Waits r
+first_waits : (a b w : Bool) (x y d : Decision) (r : Wait) → (if a then Some Mpv else (if b then Some Wro else None)) ≡ None → w ≡ true
+    → first (a ⇒ x ∷ b ⇒ y ∷ w ⇒ Waits r ∷ []) d ≡ Waits r
 first_waits true b w x y d r h e = absurd cc
 first_waits false true w x y d r h e = absurd cc
 first_waits false false w x y d r h e = ap (λ (t : Bool). if t then Waits r else d) e
 
-waits_decided : (p : Plain) (s : ℕ) (j : Job) (x : Site) (n : ℕ) → Lacks p s j x.e n → decision (machine_of p) s (own_of p s j) (iot_ask x n) ≡ Waits (Input (unwrap_or j.console 0))
+waits_decided : (p : Plain) (s : ℕ) (j : Job) (x : Site) (n : ℕ) → Lacks p s j x.e n
+    → decision (machine_of p) s (own_of p s j) (iot_ask x n) ≡ Waits (Input (unwrap_or j.console 0))
 unfolding decision decided view iot_call iot_ask machine_of
 waits_decided p s j x n h =
     let a = iot_ask x n in
@@ -97,20 +100,25 @@ waits_decided p s j x n h =
     let on : channel_at v.own.channels n ≡ TtyIn = sym (under p.files j n) ∙ ap (chan_of p.files) h.on in
     ap (decided_by v a) (named Iot)
     ∙ ap (iot_on v x.e n) on
-    ∙ first_waits _ _ _ _ _ _ (Input (unwrap_or j.console 0)) h.clear (ap (λ (b : Bool). b || is_other s (v.holders (unwrap_or j.console 0))) (empty_is (v.consoles (unwrap_or j.console 0)).input) ∙ h.waits)
+    ∙ first_waits _ _ _ _ _ _ (Input (unwrap_or j.console 0)) h.clear
+    (ap (λ (b : Bool). b || is_other s (v.holders (unwrap_or j.console 0))) (empty_is (v.consoles (unwrap_or j.console 0)).input) ∙ h.waits)
 
-waits_by : (p : Plain) (s : ℕ) (j : Job) (x : Site) (n : ℕ) → Lacks p s j x.e n → acted (machine_of p) s (iot_ask x n) (reach (machine_of p) s (own_of p s j) (iot_ask x n)) (decision (machine_of p) s (own_of p s j) (iot_ask x n)) ≡ None
+waits_by : (p : Plain) (s : ℕ) (j : Job) (x : Site) (n : ℕ) → Lacks p s j x.e n
+    → acted (machine_of p) s (iot_ask x n) (reach (machine_of p) s (own_of p s j) (iot_ask x n))
+    (decision (machine_of p) s (own_of p s j) (iot_ask x n)) ≡ None
 unfolding acted
 waits_by p s j x n h = ap (acted (machine_of p) s (iot_ask x n) (reach (machine_of p) s (own_of p s j) (iot_ask x n))) (waits_decided p s j x n h)
 
 lacks_none : (p : Plain) (s : ℕ) (i : Job) (x : Site) (o : Option ℕ) → x.channel ≡ o → job_at p.jobs s ≡ Some i → i.stopped ≡ false → deliverable i ≡ false
     → unit (core_at p.core s) i ≡ Called x → lacks_near p s i x.e o ≡ true → transition (machine_of p) s ≡ None
 lacks_none p s i x (Some n) is had runs quiet u h =
-    transition_called (machine_of p) s (own_of p s i) x (Ok (iot_ask x n)) (own_is p s i had) runs (quiet_is p s i false quiet) (unit_is p s i (Called x) u) (asked (core_at p.core s) x n is)
+    transition_called (machine_of p) s (own_of p s i) x (Ok (iot_ask x n)) (own_is p s i had) runs (quiet_is p s i false quiet)
+    (unit_is p s i (Called x) u) (asked (core_at p.core s) x n is)
     ∙ waits_by p s i x n (lacking p s i x.e n h)
 lacks_none p s i x None is had runs quiet u h = absurd cc
 
-pub no_step : (p : Plain) (s : ℕ) (i : Job) (n : Near) → AtHand p s n → job_at p.jobs s ≡ Some i → lacks_near p s i n.e n.channel ≡ true → transition (machine_of p) s ≡ None
+pub no_step : (p : Plain) (s : ℕ) (i : Job) (n : Near) → AtHand p s n → job_at p.jobs s ≡ Some i → lacks_near p s i n.e n.channel ≡ true
+    → transition (machine_of p) s ≡ None
 no_step p s i n h had lacks =
     let o = hand_of p s n i h had in
     lacks_none p s i (near_site i.pc n) n.channel refl had o.runs o.quiet o.unit lacks

@@ -10,9 +10,9 @@ use Rattle.its_records.specs.declared.calls.Arg.{Arg}
 use Rattle.its_records.specs.declared.calls.Arg.TheVariants.{Input, Output, ErrorAt, Control}
 use Rattle.its_records.specs.declared.calls.Ask.{Ask}
 use Rattle.its_records.specs.declared.calls.Site.{Site}
-use Rattle.its_plain.specs.Decode.{input_of, output_of, error_at_of, control_of, operand_of, value_of, held_place, iot_ask, row_named, error_by, exceeds, name_of, words_of}
-use Rattle.its_plain.specs.Traced.{Traced}
-use Rattle.its_direct.specs.declared.sorting.Parts.{Parts}
+use Rattle.its_plain.specs.Call.Decode.{input_of, output_of, error_at_of, control_of, operand_of, value_of, held_place, iot_ask, row_named, error_by, exceeds, name_of, words_of}
+use Rattle.its_plain.specs.Unit.Trace.{Traced}
+use Rattle.its_direct.specs.declared.step.sorting.Parts.{Parts}
 
 -- a part of a decoding has this answer, and the places that it reads are noted after those noted
 -- before

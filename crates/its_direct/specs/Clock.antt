@@ -3,11 +3,11 @@
 use Rattle.std.specs.Prelude.{◌≡◌, ◌==◌, ◌+◌, ◌&&◌, ◌||◌, ℕ, Bool, false, Option, IfSome, Result, Ok, nat_lt}
 use Rattle.its_word.specs.Only.{Only}
 use Rattle.its_records.specs.declared.session.Reason.{Reason}
-use Rattle.its_plain.specs.Alarm.{is_due}
+use Rattle.its_plain.specs.Machine.Alarm.{is_due}
 use Rattle.its_plain.specs.Machine.{Machine}
-use Rattle.its_plain.specs.OperatorClock.{due, after_alarm_if}
+use Rattle.its_plain.specs.Operator.Clock.{due, after_alarm_if}
 use Rattle.its_stepped.specs.Alarmed.{Periodic}
-use Rattle.its_machine.specs.Parts.{alarm_at}
+use Rattle.its_shared.specs.Parts.{alarm_at}
 use Rattle.its_direct.specs.Contents.{contents}
 use Rattle.its_direct.specs.Plain.{machine_of, is_touched}
 use Rattle.its_direct.specs.declared.plain.Plain.{Plain}

@@ -8,7 +8,7 @@ use Rattle.its_core.specs.Cores.{core_at, clear_at}
 use Rattle.its_files.specs.Files.{Store}
 use Rattle.its_pipes.specs.Pipes.{piped}
 use Rattle.its_plain.specs.Machine.{Pipe, Machine}
-use Rattle.its_machine.specs.Channels.{OnlyChannel}
+use Rattle.its_shared.specs.Channels.{OnlyChannel}
 use Rattle.its_direct.specs.Contents.{contents}
 use Rattle.its_direct.specs.Plain.{machine_of, Tidy}
 use Rattle.its_direct.specs.declared.plain.Plain.{Plain}

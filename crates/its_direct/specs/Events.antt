@@ -1,7 +1,8 @@
 -- The effect of an event on the second machine: the operator's line exactly.
 -- No promise rests on this.
-use Rattle.std.specs.Prelude.{◌≡◌, ◌<◌, ℕ, false, None, List, [], ◌∷◌, Result, Ok, Err, is_some, true}
-use Rattle.its_plain.specs.CallFile.{has_file}
+use Rattle.std.specs.Prelude.{◌≡◌, ◌<◌, ◌≤◌, ◌^◌, ℕ, false, None, List, [], ◌∷◌, length, Result, Ok, Err, is_some, true}
+use Rattle.its_files.specs.Files.{entry_at, is_file, words_at}
+use Rattle.its_plain.specs.Call.File.{has_file}
 use Rattle.its_plain.specs.Machine.{Machine}
 use Rattle.its_word.specs.Limits.{slots}
 use Rattle.its_records.specs.declared.session.Event.{Event}
@@ -17,14 +18,15 @@ use Rattle.its_stepped.specs.Alarmed.{Alarmed}
 use Rattle.its_stepped.specs.Consoled.{Consoled}
 use Rattle.its_stepped.specs.Forest.{Forest}
 use Rattle.its_plain.specs.Operator.{Block, Does, Refuses}
-use Rattle.its_plain.specs.OperatorLines.{Lined, Done, Peeks, lined}
+use Rattle.its_plain.specs.Operator.Files.{files_in, listing, shown_lines}
+use Rattle.its_plain.specs.Operator.Lines.{Lined, Done, Peeks, lined}
 use Rattle.its_direct.specs.Plain.{machine_of, is_touched, Tidy}
 use Rattle.its_records.specs.Refusals.{reason_of}
 use Rattle.its_direct.specs.declared.plain.Plain.{Plain}
 use Rattle.its_direct.specs.declared.plain.Spot.{Spot}
 use Rattle.its_direct.specs.declared.plain.Spot.TheVariants as spots
-use Rattle.its_direct.specs.declared.events.Answer.{Answer}
-use Rattle.its_direct.specs.declared.events.Answer.TheVariants.{Nothing, Slot, Dropped, Drained}
+use Rattle.its_direct.specs.declared.lines.events.Answer.{Answer}
+use Rattle.its_direct.specs.declared.lines.events.Answer.TheVariants as answers
 
 -- a LOAD block is that of a job of the machine, in a slot that there is, and a FILE block that of a
 -- file
@@ -68,33 +70,42 @@ MayStand place events.Nothing = Unit {0}
 MayStand place (events.Version v) = place ≡ places.Plain
 MayStand place e = place ≡ event_place e
 
--- what an answer says of the lines that are shown; what EXAM, LIST, STATE, DIR and SHOW show is
--- read from the machine
-abbrev pub Says : Event → Answer → List Line → Type 0
-Says (events.Load u j c) (Slot s) out = out ≡ printed.Loaded s ∷ []
-Says (events.TypeIn c bytes) (Dropped n) out = out ≡ printed.Typed c n ∷ []
-Says (events.Drain c n) (Drained bytes) out = out ≡ printed.Drained c bytes.items ∷ []
-Says (events.Exam s a n) Nothing out = Unit {0}
-Says (events.List s a n) Nothing out = Unit {0}
-Says (events.State s) Nothing out = Unit {0}
-Says (events.Dir d) Nothing out = Unit {0}
-Says (events.Show d x y) Nothing out = Unit {0}
-Says (events.Load u j c) _ out = ⊥
-Says (events.TypeIn c bytes) _ out = ⊥
-Says (events.Drain c n) _ out = ⊥
-Says e Nothing out = out ≡ []
-Says e _ out = ⊥
+-- the lines that an answer shows; files are read from the machine
+abbrev pub lines_of : Answer → Plain → List Line
+lines_of answers.Nothing p = []
+lines_of (answers.Loaded s) p = printed.Loaded s ∷ []
+lines_of (answers.Typed c n) p = printed.Typed c n ∷ []
+lines_of (answers.Drained c bytes) p = printed.Drained c bytes.items ∷ []
+lines_of (answers.Words s a words) p = printed.Words s a words.items ∷ []
+lines_of (answers.Listed s a words) p = printed.listed s a words.items
+lines_of (answers.State v s show) p = printed.State v s show ∷ []
+lines_of answers.Peeked p = []
+lines_of (answers.Files d) p = listing d (files_in d (machine_of p).files)
+lines_of (answers.File id d x y) p = shown_lines d x y (words_at p.files id)
+
+-- words that are listed are one or more, and begin at an address; a file that is shown exists. So
+-- only Nothing and Peeked show no line
+abbrev pub CanShow : Answer → Plain → Type 0
+CanShow (answers.Listed s a words) p = (a < 2 ^ 18) × (1 ≤ length words.items)
+CanShow (answers.File id d x y) p = is_file (entry_at p.files id) ≡ true
+CanShow a p = Unit {0}
+
+-- these are the lines that an answer shows; of a line of PEEK this machine says nothing
+abbrev pub Says : Answer → Plain → List Line → Type 0
+Says answers.Peeked p out = ⊥
+Says a p out = out ≡ lines_of a p
 
 -- an event that was performed had this result
-abbrev pub Obeys : Event → Answer → Plain → Plain → Lined → Type 0
-Obeys e a old new (Done (Does n out disturbs after)) = (machine_of new ≡ n) × ((k : ℕ) → is_touched new k ≡ disturbs k) × Speaks new.place after × Says e a out
-Obeys e a old new (Peeks s) = (machine_of new ≡ machine_of old) × ((k : ℕ) → is_touched new k ≡ false) × (new.place ≡ old.place) × (a ≡ Nothing)
-Obeys e a old new _ = ⊥
+abbrev pub Obeys : Answer → Plain → Plain → Lined → Type 0
+Obeys a old new (Done (Does n out disturbs after)) =
+    (machine_of new ≡ n) × ((k : ℕ) → is_touched new k ≡ disturbs k) × Speaks new.place after × Says a new out × CanShow a new
+Obeys a old new (Peeks s) = (machine_of new ≡ machine_of old) × ((k : ℕ) → is_touched new k ≡ false) × (new.place ≡ old.place) × (a ≡ answers.Peeked)
+Obeys a old new _ = ⊥
 
 pub record Obeyed (e : Event) (a : Answer) (old new : Plain) (b : Block) : Type 0 where
   pub comes : Lined
   pub is : lined (machine_of old) b e ≡ comes
-  pub obeys : Obeys e a old new comes
+  pub obeys : Obeys a old new comes
   pub leads : spot_place new.place ≡ place_after (spot_place old.place) e
 
 -- an event was obeyed, or it was refused
@@ -108,5 +119,5 @@ JobsStay old new = (k : ℕ) → (machine_of new).jobs k ≡ None → (machine_o
 
 -- a line without an answer
 abbrev pub answered : Result (Unit {0}) Refusal → Result Answer Refusal
-answered (Ok u) = Ok Nothing
+answered (Ok u) = Ok answers.Nothing
 answered (Err z) = Err z

@@ -1,16 +1,16 @@
 -- The effect of a line of the operator on the second machine.
 -- No promise rests on this.
-use Rattle.std.specs.Prelude.{◌≡◌, ℕ, zero, suc, ◌+◌, ◌-◌, ◌/◌, Bool, true, false, List, IsOk, is_some, nat_lt, Result, Ok, slice_set}
+use Rattle.std.specs.Prelude.{◌≡◌, ℕ, zero, suc, ◌+◌, ◌-◌, ◌/◌, Bool, true, false, List, is_some, nat_lt, Result, Ok, slice_set}
 use Rattle.its_word.specs.Core.{Core, page_of}
 use Rattle.its_word.specs.Only.{Only, Same}
 use Rattle.its_records.specs.declared.jobs.Job.{Job}
 use Rattle.its_records.specs.declared.session.Reason.{Reason}
 use Rattle.its_jobs.specs.Table.{job_at}
-use Rattle.its_plain.specs.Change.{in_job}
+use Rattle.its_plain.specs.Machine.Change.{in_job}
 use Rattle.its_plain.specs.Machine.{Console, Symbol, Machine}
 use Rattle.its_plain.specs.Operator.{nobody, only}
-pub use Rattle.its_machine.specs.Refusals.{refusal_of}
-use Rattle.its_machine.specs.Parts.{bare, console_at, symbols_at}
+pub use Rattle.its_shared.specs.Refusals.{refusal_of}
+use Rattle.its_shared.specs.Parts.{bare, console_at, symbols_at}
 use Rattle.its_direct.specs.Contents.{contents}
 use Rattle.its_direct.specs.Plain.{machine_of, is_touched, no_slots}
 use Rattle.its_direct.specs.declared.plain.Plain.{Plain}
@@ -23,13 +23,6 @@ one_slot s = slice_set no_slots s true
 -- a line that changes the machine, and touches slot s
 pub record Operates (old new : Plain) (s : ℕ) (r : Result Machine Reason) : Type 0 where
   pub is : r ≡ Ok (machine_of new)
-  pub touched : (k : ℕ) → is_touched new k ≡ only s k
-  pub place : new.place ≡ old.place
-
--- a line that shows something of the machine, and touches slot s
-pub record Looks {X : Type 0} (old new : Plain) (s : ℕ) (r : Result X Reason) : Type 0 where
-  pub shown : IsOk r
-  pub machine : machine_of new ≡ machine_of old
   pub touched : (k : ℕ) → is_touched new k ≡ only s k
   pub place : new.place ≡ old.place
 

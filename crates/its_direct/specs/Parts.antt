@@ -9,10 +9,10 @@ use Rattle.its_records.specs.declared.calls.Site.{Site}
 use Rattle.its_records.specs.declared.jobs.Job.{Job}
 use Rattle.its_frame.specs.Calls.{call_named, is_siot}
 use Rattle.its_frame.specs.declared.decision.Decision.{Decision}
-use Rattle.its_plain.specs.CallStep.{Transition, decision, is_made, transition}
-use Rattle.its_plain.specs.Decide.{reach}
-use Rattle.its_plain.specs.Footprint.{Stands}
-use Rattle.its_plain.specs.Interrupt.{deliverable}
+use Rattle.its_plain.specs.Call.Step.{Transition, decision, is_made, transition}
+use Rattle.its_plain.specs.Call.Decide.{reach}
+use Rattle.its_plain.specs.Call.Footprint.{Stands}
+use Rattle.its_plain.specs.Unit.Interrupt.{deliverable}
 use Rattle.its_plain.specs.Machine.{Machine, Whole}
 use Rattle.its_direct.specs.Plain.{machine_of}
 use Rattle.its_direct.specs.declared.plain.Plain.{Plain}

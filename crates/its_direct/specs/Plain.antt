@@ -8,9 +8,9 @@ use Rattle.its_records.specs.declared.jobs.Job.{Job}
 use Rattle.its_core.specs.Cores.{core_at, clear_at}
 use Rattle.its_jobs.specs.Table.{job_at}
 use Rattle.its_plain.specs.Machine.{Machine}
-use Rattle.its_plain.specs.OperatorClock.{clock_end}
-use Rattle.its_machine.specs.Across.{Across}
-use Rattle.its_machine.specs.Parts.{alarm_at, symbols_at, raw_machine}
+use Rattle.its_plain.specs.Operator.Clock.{clock_end}
+use Rattle.its_shared.specs.Across.{Across}
+use Rattle.its_shared.specs.Parts.{alarm_at, symbols_at, raw_machine}
 use Rattle.its_direct.specs.Contents.{contents}
 use Rattle.its_direct.specs.declared.plain.Plain.{Plain}
 

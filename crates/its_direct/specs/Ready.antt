@@ -11,11 +11,11 @@ use Rattle.its_frame.specs.declared.change.Change.TheVariants.{Remove}
 use Rattle.its_frame.specs.declared.decision.Decision.{Decision}
 use Rattle.its_frame.specs.declared.decision.Decision.TheVariants.{Waits, Goes, Ends, Gone}
 use Rattle.its_frame.specs.declared.decision.Held.{Held}
-use Rattle.its_plain.specs.Arguments.{input, debts, with_new_values}
-use Rattle.its_plain.specs.CallStep.{deposited}
-use Rattle.its_plain.specs.Change.{effect, effects}
+use Rattle.its_plain.specs.Call.Arguments.{input, debts, with_new_values}
+use Rattle.its_plain.specs.Call.Step.{deposited}
+use Rattle.its_plain.specs.Machine.Change.{effect, effects}
 use Rattle.its_plain.specs.Machine.{Machine, core_of}
-use Rattle.its_machine.specs.Can.{CanMakeAll, HasJob}
+use Rattle.its_shared.specs.Can.{CanMakeAll, HasJob}
 
 -- a byte that a call holds can be stored: its word can be written, and its pointer, input 1 of the
 -- call with its new values, shows a byte of some size

@@ -7,9 +7,9 @@ use Rattle.its_records.specs.declared.jobs.Job.{Job}
 use Rattle.its_core.specs.Cores.{core_at, clear_at}
 use Rattle.its_jobs.specs.Table.{job_at}
 use Rattle.its_plain.specs.Machine.{Shut}
-use Rattle.its_machine.specs.Across.{channel_by, channel_left}
-use Rattle.its_machine.specs.Can.{chan_in}
-use Rattle.its_machine.specs.Parts.{alarm_at, bare, symbols_at}
+use Rattle.its_shared.specs.Across.{channel_by, channel_left}
+use Rattle.its_shared.specs.Can.{chan_in}
+use Rattle.its_shared.specs.Parts.{alarm_at, bare, symbols_at}
 use Rattle.its_direct.specs.Contents.{contents}
 use Rattle.its_direct.specs.Plain.{machine_of}
 use Rattle.its_direct.specs.declared.plain.Plain.{Plain}

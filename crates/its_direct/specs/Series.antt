@@ -1,7 +1,7 @@
 -- Steps of one job, one after another, that are its own alone.
 -- No promise rests on this.
 use Rattle.std.specs.Prelude.{◌≡◌, ◌&&◌, ℕ, zero, suc, Bool, false, not, Option, Some, None, is_some}
-use Rattle.its_plain.specs.CallStep.{quiet_step, transition}
+use Rattle.its_plain.specs.Call.Step.{quiet_step, transition}
 use Rattle.its_plain.specs.Machine.{Whole, Machine}
 use Rattle.pdp_exec.specs.Units.{after_unit, left}
 

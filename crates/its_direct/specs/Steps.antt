@@ -10,17 +10,17 @@ use Rattle.its_frame.specs.declared.change.Change.{Change}
 use Rattle.its_frame.specs.declared.change.Change.TheVariants.{Make}
 use Rattle.its_frame.specs.declared.decision.Decision.{Decision}
 use Rattle.its_frame.specs.declared.decision.Decision.TheVariants.{Waits, Goes, Ends, Gone}
-use Rattle.its_plain.specs.Decode.{ask}
-use Rattle.its_plain.specs.CallStep.{Transition, among, is_made, by_ask}
+use Rattle.its_plain.specs.Call.Decode.{ask}
+use Rattle.its_plain.specs.Call.Step.{Transition, among, is_made, by_ask}
 use Rattle.its_plain.specs.Machine.{Whole, Machine}
 use Rattle.its_plain.specs.Unit.{Called, unit}
-use Rattle.its_machine.specs.Parts.{alarm_at, bare, chans_of}
+use Rattle.its_shared.specs.Parts.{alarm_at, bare, chans_of}
 use Rattle.its_decide.specs.declared.caller.Seen.{Seen}
 use Rattle.its_direct.specs.Effects.{Becomes}
 use Rattle.its_direct.specs.Plain.{machine_of, is_touched}
 use Rattle.its_direct.specs.declared.plain.Plain.{Plain}
-use Rattle.its_direct.specs.declared.users.Begun.{Begun}
-use Rattle.its_direct.specs.declared.users.Begun.TheVariants.{Still, Stepped, Calls}
+use Rattle.its_direct.specs.declared.step.user_mode.Begun.{Begun}
+use Rattle.its_direct.specs.declared.step.user_mode.Begun.TheVariants.{Still, Stepped, Calls}
 
 -- a step from a machine disturbs the job of slot k, which is not its own, or makes it
 abbrev pub touches : Machine → Transition → ℕ → Bool

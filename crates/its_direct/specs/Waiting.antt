@@ -7,11 +7,11 @@ use Rattle.its_records.specs.declared.jobs.Channel.TheVariants.{TtyIn}
 use Rattle.its_records.specs.declared.jobs.Job.{Job}
 use Rattle.its_core.specs.Cores.{core_at}
 use Rattle.its_jobs.specs.Table.{job_at}
-use Rattle.its_plain.specs.CallTty.{is_other}
-use Rattle.its_plain.specs.Interrupt.{deliverable}
+use Rattle.its_plain.specs.Call.Tty.{is_other}
+use Rattle.its_plain.specs.Unit.Interrupt.{deliverable}
 use Rattle.its_plain.specs.Unit.{Called, unit}
-use Rattle.its_machine.specs.Called.{bar_of, channel_under}
-use Rattle.its_machine.specs.Parts.{console_at, holder_at}
+use Rattle.its_shared.specs.Called.{bar_of, channel_under}
+use Rattle.its_shared.specs.Parts.{console_at, holder_at}
 use Rattle.pdp_exec.specs.Near.{near_call, near_site}
 use Rattle.pdp_exec.specs.declared.near.Near.{Near}
 use Rattle.its_direct.specs.declared.plain.Plain.{Plain}

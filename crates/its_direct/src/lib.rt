@@ -22,13 +22,13 @@
 //! - What holds between steps and lines is kept (`kept`).
 //!
 //! Definitions: `Plain.machine_of` is the machine of its parts, by
-//! `its_machine/specs/Parts.raw_machine`. `Tidy` is what holds of it at any time, and `Events.Kept`
-//! what holds between two steps or lines. `Plain::step` is `CallStep.transition` of a job, with the
-//! slots that it touches marked (`Steps.Makes`); `Plain::event` is `OperatorLines.lined`
+//! `its_shared/specs/Parts.raw_machine`. `Tidy` is what holds of it at any time, and `Events.Kept`
+//! what holds between two steps or lines. `Plain::step` is `Call.Step.transition` of a job, with
+//! the slots that it touches marked (`Steps.Makes`); `Plain::event` is `Operator.Lines.lined`
 //! (`Events.Told`). `Plain::begin` performs the step if that is a delivery or a unit; for a call it
 //! gives the site (`Steps.StepBegins`). A line has the effect of the operator's definition
-//! (`Lines.Operates`, `Lines.Looks`, `Lines.Loads`), and refuses exactly if the definition does,
-//! with nothing changed.
+//! (`Lines.Operates`, `Lines.Loads`), and refuses exactly if the definition does, with nothing
+//! changed. Its answer says what is shown (`Events.lines_of`).
 //!
 //! In `its_direct` an `a/` line is tested for room before its first word is stored: the absent
 //! pages from that of its first word to that of its last are counted. The words of a FILE block are
@@ -38,7 +38,7 @@
 //! A call's changes are made there at once: a close performs all its parts; a new page is reserved,
 //! cleared and mapped in one piece; and a job goes with its channels, pages, alarm, symbols and
 //! consoles. That a decision can be carried out (there is room for a page, the channel of a close
-//! is on a draft, ..) is what the decision promises (`its_machine/specs/Can`), so no change has an
+//! is on a draft, ..) is what the decision promises (`its_shared/specs/Can`), so no change has an
 //! error of its own.
 //!
 //! What one step or line touches is marked in the machine itself (`touched`): the jobs that it
@@ -52,52 +52,31 @@
 
 // The files:
 // - `plain.rt`: the machine (`Plain`) and its beginning
-// - `steps.rt`: the step of a job
-// - `users.rt`, `in_place.rt`: user mode: a delivery or a unit, also in place
-// - `series.rt`: units one after another
-// - `asking.rt`, `sorting.rt`: a call decoded in one pass
-// - `stepping.rt`: a decision carried out
-// - `effects.rt`, `effects_files.rt`, `effects_links.rt`: each change of a call
-// - `removal.rt`: the removal of a tree of jobs
-// - `parts.rt`, `moved.rt`: parts of one SIOT, one after another
-// - `waiting.rt`: an `.IOT` that waits for its console, found without a decoding
-// - `events.rt`: an event of a session
-// - `loading.rt`, `words.rt`: LOAD and its words
-// - `lines.rt`: GO, STOP, CONT, INT, EXAM, LIST, STATE and DEPOSIT
-// - `settings.rt`: VERSION, RO, SYM and PEEK
-// - `consoles.rt`: TYPE and DRAIN
-// - `files.rt`: FILE with its words and EOF
-// - `clock.rt`: CLOCK
-// - `directory.rt`: DIR and SHOW
-// - `shown.rt`: what a line shows
-mod asking;
-mod clock;
-mod consoles;
-mod directory;
-mod effects;
-mod effects_files;
-mod effects_links;
-mod events;
-mod files;
-mod in_place;
+// - `step/steps.rt`: the step of a job
+// - `step/user_mode.rt`, `step/in_place.rt`: user mode: a delivery or a unit, also in place
+// - `step/series.rt`: units one after another
+// - `step/asking.rt`, `step/sorting.rt`: a call decoded in one pass
+// - `step/stepping.rt`: a decision carried out
+// - `changes/effects.rt`, `changes/files.rt`, `changes/links.rt`: each change of a call
+// - `changes/removal.rt`: the removal of a tree of jobs
+// - `step/parts.rt`, `step/moved.rt`: parts of one SIOT, one after another
+// - `step/waiting.rt`: an `.IOT` that waits for its console, found without a decoding
+// - `lines/events.rt`: an event of a session
+// - `lines/loading.rt`, `lines/words.rt`: LOAD and its words
+// - `lines/job_lines.rt`: GO, STOP, CONT, INT and DEPOSIT
+// - `lines/settings.rt`: VERSION, RO, SYM and PEEK
+// - `lines/consoles.rt`: TYPE and DRAIN
+// - `lines/files.rt`: FILE with its words and EOF
+// - `lines/clock.rt`: CLOCK
+// - `lines/shown.rt`: what EXAM, LIST and STATE show
+// - `lines/directory.rt`: what DIR and SHOW show
+mod changes;
 mod lines;
-mod loading;
-mod moved;
-mod parts;
 mod plain;
-mod removal;
-mod series;
-mod settings;
-mod shown;
-mod sorting;
-mod stepping;
-mod steps;
-mod users;
-mod waiting;
-mod words;
+mod step;
 
-pub use events::Answer;
 pub use its_records::Refusal;
 pub use its_word::NoMemory;
+pub use lines::events::Answer;
 pub use plain::{Plain, Spot};
-pub use users::Begun;
+pub use step::user_mode::Begun;

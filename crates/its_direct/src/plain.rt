@@ -7,14 +7,11 @@ use its_console::Console;
 use its_core::Core;
 use its_files::Files;
 use its_jobs::Jobs;
-use its_machine::{SymbolTable, no_alarms, no_symbols, quiet_consoles};
 use its_pipes::Pipes;
 use its_records::Job;
-use its_word::{NoMemory, SLOTS, Slot, Word};
+use its_shared::{SymbolTable, no_alarms, no_symbols, quiet_consoles};
+use its_word::{CONSOLES, NoMemory, SLOTS, Slot, Word};
 use std::alloc::Global;
-
-/// How many consoles there are.
-const CONSOLES: usize = 8;
 
 /// The place of a line of a session: outside any block; in the LOAD block of the job of a slot; or
 /// in the FILE block of the file with a directory and two names.

@@ -13,8 +13,10 @@ count-at x (y ∷ ys) (suc i) e = let r = count-at x ys i e in omega arith
 once_at : (x : ℕ) (xs : List ℕ) (i j : ℕ) → slice_get xs i ≡ Some x → slice_get xs j ≡ Some x → count x xs ≤ 1 → i ≡ j
 once_at x [] i j e f h = cc
 once_at x (y ∷ ys) zero zero e f h = refl
-once_at x (y ∷ ys) zero (suc j) e f h = let k : y ≡ x = cc in let s = ap (λ z. hit x z) k in let t = hit_same x in let r = count-at x ys j f in absurd (omega arith)
-once_at x (y ∷ ys) (suc i) zero e f h = let k : y ≡ x = cc in let s = ap (λ z. hit x z) k in let t = hit_same x in let r = count-at x ys i e in absurd (omega arith)
+once_at x (y ∷ ys) zero (suc j) e f h = let k : y ≡ x = cc in let s = ap (λ z. hit x z) k in let t = hit_same x in let r =
+    count-at x ys j f in absurd (omega arith)
+once_at x (y ∷ ys) (suc i) zero e f h = let k : y ≡ x = cc in let s = ap (λ z. hit x z) k in let t = hit_same x in let r =
+    count-at x ys i e in absurd (omega arith)
 once_at x (y ∷ ys) (suc i) (suc j) e f h = let r = once_at x ys i j e f (omega arith) in omega arith
 
 pub record At (h g i j : ℕ) : Type 0 where
@@ -62,6 +64,8 @@ rest_first [] x e = cc
 rest_first (y ∷ ys) x e = omega arith
 
 -- what follows a block in its list
-pub next_is : (ls : List (List ℕ)) (h at next x : ℕ) (r : Option ℕ) → next ≡ suc at → slice_get (list_at ls h) at ≡ Some x → ((g : ℕ) (before after : List ℕ) → list_at ls g ≡ before ++ x ∷ after → r ≡ first after) → r ≡ slice_get (list_at ls h) next
+pub next_is : (ls : List (List ℕ)) (h at next x : ℕ) (r : Option ℕ) → next ≡ suc at → slice_get (list_at ls h) at ≡ Some x
+    → ((g : ℕ) (before after : List ℕ) → list_at ls g ≡ before ++ x ∷ after → r ≡ first after) → r ≡ slice_get (list_at ls h) next
 next_is ls h at next x r n e f =
-    f h (take at (list_at ls h)) (drop (suc at) (list_at ls h)) (behind (list_at ls h) at x e) ∙ first_drop (list_at ls h) (suc at) ∙ ap (λ k. slice_get (list_at ls h) k) (sym n)
+    f h (take at (list_at ls h)) (drop (suc at) (list_at ls h)) (behind (list_at ls h) at x e) ∙ first_drop (list_at ls h) (suc at)
+    ∙ ap (λ k. slice_get (list_at ls h) k) (sym n)

@@ -83,7 +83,8 @@ pub found_some : (es : List (Option Entry)) (names order : List ℕ) (id : ℕ) 
 found_some es names [] id h = cc
 found_some es names (k ∷ ks) id h = go (λ e. found_some es names ks id e) (same_names names (names_by (entry_in es k))) refl h
   where
-    go : (found_in es names ks ≡ Some id → Found es names ks id) → (b : Bool) → same_names names (names_by (entry_in es k)) ≡ b → found_by b k (found_in es names ks) ≡ Some id → Found es names (k ∷ ks) id
+    go : (found_in es names ks ≡ Some id → Found es names ks id) → (b : Bool) → same_names names (names_by (entry_in es k)) ≡ b
+        → found_by b k (found_in es names ks) ≡ Some id → Found es names (k ∷ ks) id
     go later true t e =
         let s : k ≡ id = cc in
         let c = ap (λ j. hit id j) s in
@@ -91,11 +92,13 @@ found_some es names (k ∷ ks) id h = go (λ e. found_some es names ks id e) (sa
         record { listed = omega arith; named = rw (← s) t }
     go later false t e = let r = later e in let l = r.listed in record { listed = omega arith; named = r.named }
 
-pub found_none : (es : List (Option Entry)) (names order : List ℕ) (id : ℕ) → found_in es names order ≡ None → 0 < count id order → same_names names (names_by (entry_in es id)) ≡ false
+pub found_none : (es : List (Option Entry)) (names order : List ℕ) (id : ℕ) → found_in es names order ≡ None → 0 < count id order
+    → same_names names (names_by (entry_in es id)) ≡ false
 found_none es names [] id h some = absurd (omega arith)
 found_none es names (k ∷ ks) id h some = go (λ e l. found_none es names ks id e l) (same_names names (names_by (entry_in es k))) refl h
   where
-    go : (found_in es names ks ≡ None → 0 < count id ks → same_names names (names_by (entry_in es id)) ≡ false) → (b : Bool) → same_names names (names_by (entry_in es k)) ≡ b → found_by b k (found_in es names ks) ≡ None → same_names names (names_by (entry_in es id)) ≡ false
+    go : (found_in es names ks ≡ None → 0 < count id ks → same_names names (names_by (entry_in es id)) ≡ false) → (b : Bool)
+        → same_names names (names_by (entry_in es k)) ≡ b → found_by b k (found_in es names ks) ≡ None → same_names names (names_by (entry_in es id)) ≡ false
     go later true t e = cc
     go later false t e = elim (cases_eq id k) [
       | inl s ↦ rw s t
@@ -106,7 +109,8 @@ pub carried : (x a y b : Option Entry) → x ≡ a → y ≡ b → same_names (n
 carried x a y b e f s = sym (ap (λ t. same_names (names_by t) (names_by y)) e ∙ ap (λ t. same_names (names_by a) (names_by t)) f) ∙ s
 
 -- a change at one number
-module _ (es : List (Option Entry)) (order : List ℕ) (mark : Option Mark) (texts : List (List ℕ)) (h : IsFiles es order mark texts) (id : ℕ) (e : Option Entry) (ks : List ℕ) (m : Option Mark) (ts : List (List ℕ)) where
+module _ (es : List (Option Entry)) (order : List ℕ) (mark : Option Mark) (texts : List (List ℕ)) (h : IsFiles es order mark texts) (id : ℕ)
+    (e : Option Entry) (ks : List ℕ) (m : Option Mark) (ts : List (List ℕ)) where
   pub record Change : Type 0 where
     pub lt : id < numbers
     pub long : length ts ≡ length texts
@@ -127,7 +131,8 @@ module _ (es : List (Option Entry)) (order : List ℕ) (mark : Option Mark) (tex
     elsewhere : (k : ℕ) → k ≢ id → entry_in (slice_set es id e) k ≡ entry_in es k
     elsewhere k ne = get_or-set_other es id k e None ne
 
-    unique : (i j : ℕ) → is_file (entry_in (slice_set es id e) i) ≡ true → is_file (entry_in (slice_set es id e) j) ≡ true → same_names (names_by (entry_in (slice_set es id e) i)) (names_by (entry_in (slice_set es id e) j)) ≡ true → i ≡ j
+    unique : (i j : ℕ) → is_file (entry_in (slice_set es id e) i) ≡ true → is_file (entry_in (slice_set es id e) j) ≡ true
+        → same_names (names_by (entry_in (slice_set es id e) i)) (names_by (entry_in (slice_set es id e) j)) ≡ true → i ≡ j
     unique i j fi fj s = elim (cases_eq i id) [
       | inl ei ↦ elim (cases_eq j id) [
         | inl ej ↦ ei ∙ sym ej
@@ -148,7 +153,8 @@ module _ (es : List (Option Entry)) (order : List ℕ) (mark : Option Mark) (tex
                 absurd (both_ways (same_names (names_by e) (names_by (entry_in es i))) f (same_sym (names_by (entry_in es i)) (names_by e) g))
             | inr nj ↦
                 let b = elsewhere j nj in
-                h.unique i j (sym (ap is_file a) ∙ fi) (sym (ap is_file b) ∙ fj) (carried (entry_in (slice_set es id e) i) (entry_in es i) (entry_in (slice_set es id e) j) (entry_in es j) a b s)
+                h.unique i j (sym (ap is_file a) ∙ fi) (sym (ap is_file b) ∙ fj)
+                (carried (entry_in (slice_set es id e) i) (entry_in es i) (entry_in (slice_set es id e) j) (entry_in es j) a b s)
           ]
     ]
 
@@ -176,7 +182,8 @@ module _ (es : List (Option Entry)) (order : List ℕ) (mark : Option Mark) (tex
           omega arith;
       unique = unique;
       bare = λ k none far. elim (cases_eq k id) [
-        | inl s ↦ ap (λ j. text_at ts j) s ∙ c.bare_here (sym at_it ∙ ap (λ j. entry_in (slice_set es id e) j) (sym s) ∙ none) (λ u. far (u ∙ ap Some (sym s)))
+        | inl s ↦ ap (λ j. text_at ts j) s ∙ c.bare_here (sym at_it ∙ ap (λ j. entry_in (slice_set es id e) j) (sym s) ∙ none)
+            (λ u. far (u ∙ ap Some (sym s)))
         | inr ne ↦ c.bare k ne (sym (elsewhere k ne) ∙ none) far
       ];
       marked = c.marked;
@@ -210,10 +217,12 @@ module _ (es : List (Option Entry)) (order : List ℕ) (mark : Option Mark) (tex
       elim few [ inl x ↦ omega arith | inr x ↦ omega arith ]
 
   -- a file that is found, and names that are not
-  pub found_file : (names : List ℕ) (id : ℕ) → found_in es names order ≡ Some id → (is_file (entry_in es id) ≡ true) × (same_names names (names_by (entry_in es id)) ≡ true)
+  pub found_file : (names : List ℕ) (id : ℕ) → found_in es names order ≡ Some id → (is_file (entry_in es id) ≡ true)
+      × (same_names names (names_by (entry_in es id)) ≡ true)
   found_file names id e = let f = found_some es names order id e in (ordered id f.listed, f.named)
 
-  pub found_fresh : (names : List ℕ) → found_in es names order ≡ None → (k : ℕ) → is_file (entry_in es k) ≡ true → same_names names (names_by (entry_in es k)) ≡ false
+  pub found_fresh : (names : List ℕ) → found_in es names order ≡ None → (k : ℕ) → is_file (entry_in es k) ≡ true
+      → same_names names (names_by (entry_in es k)) ≡ false
   found_fresh names e k f = let c = count_file k f in found_none es names order k e (omega arith)
 
   pub found_if : (names : List ℕ) (o : Option ℕ) → o ≡ found_in es names order → IfSome o (λ id. is_file (entry_in es id) ≡ true)
@@ -239,19 +248,27 @@ module _ (es : List (Option Entry)) (order : List ℕ) (mark : Option Mark) (tex
   -- what holds of the mark stays if another entry changes
   gone_stays : (id : ℕ) (e : Option Entry) (old : Option ℕ) → is_some (entry_in es id) ≡ true → Gone es old → Gone (slice_set es id e) old
   gone_stays id e None s g = tt
-  gone_stays id e (Some old) s g = (g.0, get_or-set_other es id old e None (λ same. let f : is_some (entry_in es old) ≡ true = ap (λ j. is_some (entry_in es j)) same ∙ s in let n : is_some (entry_in es old) ≡ false = ap is_some g.1 in absurd (both_ways (is_some (entry_in es old)) n f)) ∙ g.1)
+  gone_stays id e (Some old) s g = (
+    g.0,
+    get_or-set_other es id old e None
+        (λ same. let f : is_some (entry_in es old) ≡ true = ap (λ j. is_some (entry_in es j)) same
+        ∙ s in let n : is_some (entry_in es old) ≡ false = ap is_some g.1 in absurd (both_ways (is_some (entry_in es old)) n f)) ∙ g.1,
+  )
 
   -- a draft that is not marked is dropped
-  dropped_by : (id : ℕ) (p : Parts) → is_draft (entry_in es id) ≡ true → marked_draft (Some (record { owner = 0; parts = p })) ≢ Some id → Owes es p → Owes (slice_set es id None) p
+  dropped_by : (id : ℕ) (p : Parts) → is_draft (entry_in es id) ≡ true → marked_draft (Some (record { owner = 0; parts = p })) ≢ Some id
+      → Owes es p → Owes (slice_set es id None) p
   dropped_by id (Replace old draft) d ne o =
       let nf = draft_no_file (entry_in es id) d in
-      let a : entry_in (slice_set es id None) old ≡ entry_in es old = get_or-set_other es id old None None (λ s. both_ways (is_file (entry_in es old)) (ap (λ j. is_file (entry_in es j)) s ∙ nf) o.file) in
+      let a : entry_in (slice_set es id None) old ≡ entry_in es old =
+      get_or-set_other es id old None None (λ s. both_ways (is_file (entry_in es old)) (ap (λ j. is_file (entry_in es j)) s ∙ nf) o.file) in
       let b : entry_in (slice_set es id None) draft ≡ entry_in es draft = get_or-set_other es id draft None None (λ s. ne (ap Some s)) in
       record {
         file = ap is_file a ∙ o.file;
         unread = ap readers_by a ∙ o.unread;
         draft_stands = ap is_draft b ∙ o.draft_stands;
-        names = carried (entry_in es draft) (entry_in (slice_set es id None) draft) (entry_in es old) (entry_in (slice_set es id None) old) (sym b) (sym a) o.names;
+        names = carried (entry_in es draft) (entry_in (slice_set es id None) draft) (entry_in es old) (entry_in (slice_set es id None) old)
+            (sym b) (sym a) o.names;
       }
   dropped_by id (Link old draft) d ne o =
       let b : entry_in (slice_set es id None) draft ≡ entry_in es draft = get_or-set_other es id draft None None (λ s. ne (ap Some s)) in
@@ -259,8 +276,12 @@ module _ (es : List (Option Entry)) (order : List ℕ) (mark : Option Mark) (tex
         gone = gone_stays id None old (draft_stands (entry_in es id) d) o.gone;
         draft_stands = ap is_draft b ∙ o.draft_stands;
         fresh = λ k f. elim (cases_eq k id) [
-          | inl s ↦ let l = h.long in let w = within es id (draft_stands (entry_in es id) d) in let n : entry_in (slice_set es id None) k ≡ None = ap (λ j. entry_in (slice_set es id None) j) s ∙ get_or-set_same es id None None w in absurd (both_ways (is_file (entry_in (slice_set es id None) k)) (ap is_file n) f)
-          | inr nk ↦ let a : entry_in (slice_set es id None) k ≡ entry_in es k = get_or-set_other es id k None None nk in ap (λ t. same_names (names_by t) (names_by (entry_in (slice_set es id None) k))) b ∙ ap (λ t. same_names (names_by (entry_in es draft)) (names_by t)) a ∙ o.fresh k (sym (ap is_file a) ∙ f)
+          | inl s ↦ let l = h.long in let w = within es id (draft_stands (entry_in es id) d) in let n : entry_in (slice_set es id None)
+              k ≡ None = ap (λ j. entry_in (slice_set es id None) j) s
+              ∙ get_or-set_same es id None None w in absurd (both_ways (is_file (entry_in (slice_set es id None) k)) (ap is_file n) f)
+          | inr nk ↦ let a : entry_in (slice_set es id None) k ≡ entry_in es k =
+              get_or-set_other es id k None None nk in ap (λ t. same_names (names_by t) (names_by (entry_in (slice_set es id None) k))) b
+              ∙ ap (λ t. same_names (names_by (entry_in es draft)) (names_by t)) a ∙ o.fresh k (sym (ap is_file a) ∙ f)
         ];
       }
   dropped_by id (Free old) d ne o = gone_stays id None (Some old) (draft_stands (entry_in es id) d) o
@@ -269,7 +290,8 @@ module _ (es : List (Option Entry)) (order : List ℕ) (mark : Option Mark) (tex
   dropped_mark id None d ne o = tt
   dropped_mark id (Some m) d ne o = dropped_by id m.parts d ne o
 
-  pub discarded_files : (id : ℕ) (ts : List (List ℕ)) → is_draft (entry_in es id) ≡ true → marked_draft mark ≢ Some id → ts ≡ slice_set texts id [] → IsFiles (slice_set es id None) order mark ts
+  pub discarded_files : (id : ℕ) (ts : List (List ℕ)) → is_draft (entry_in es id) ≡ true → marked_draft mark ≢ Some id
+      → ts ≡ slice_set texts id [] → IsFiles (slice_set es id None) order mark ts
   discarded_files id ts d ne t =
       let w = within es id (draft_stands (entry_in es id) d) in
       let l = h.long in
@@ -288,7 +310,8 @@ module _ (es : List (Option Entry)) (order : List ℕ) (mark : Option Mark) (tex
         marked = dropped_mark id mark d ne h.marked;
       })
 
-  pub deleted_files : (id : ℕ) (ts : List (List ℕ)) (ks : List ℕ) → is_file (entry_in es id) ≡ true → mark ≡ None → ts ≡ slice_set texts id [] → ks ≡ without id order → IsFiles (slice_set es id None) ks mark ts
+  pub deleted_files : (id : ℕ) (ts : List (List ℕ)) (ks : List ℕ) → is_file (entry_in es id) ≡ true → mark ≡ None
+      → ts ≡ slice_set texts id [] → ks ≡ without id order → IsFiles (slice_set es id None) ks mark ts
   deleted_files id ts ks f none t o =
       let w = within es id (file_stands (entry_in es id) f) in
       let l = h.long in
@@ -309,7 +332,8 @@ module _ (es : List (Option Entry)) (order : List ℕ) (mark : Option Mark) (tex
       })
 
   -- a file of no words, or a draft of none
-  pub made_file : (id : ℕ) (names : List ℕ) → entry_in es id ≡ None → id < numbers → mark ≡ None → length order < 256 → found_in es names order ≡ None → IsFiles (slice_set es id (Some (File names 0))) (order ++ id ∷ []) mark texts
+  pub made_file : (id : ℕ) (names : List ℕ) → entry_in es id ≡ None → id < numbers → mark ≡ None → length order < 256
+      → found_in es names order ≡ None → IsFiles (slice_set es id (Some (File names 0))) (order ++ id ∷ []) mark texts
   made_file id names free lt none few fresh =
       let nf = none_file (entry_in es id) free in
       let lo = length-append order (id ∷ []) in
@@ -328,7 +352,8 @@ module _ (es : List (Option Entry)) (order : List ℕ) (mark : Option Mark) (tex
         marked = subst (λ m. Marked (slice_set es id (Some (File names 0))) m) (sym none) tt;
       })
 
-  pub made_draft : (id : ℕ) (names : List ℕ) → entry_in es id ≡ None → id < numbers → mark ≡ None → count_by is_draft es < most_drafts → IsFiles (slice_set es id (Some (Draft names))) order mark texts
+  pub made_draft : (id : ℕ) (names : List ℕ) → entry_in es id ≡ None → id < numbers → mark ≡ None → count_by is_draft es < most_drafts
+      → IsFiles (slice_set es id (Some (Draft names))) order mark texts
   made_draft id names free lt none few =
       let nf = none_file (entry_in es id) free in
       changed es order mark texts h id (Some (Draft names)) order mark texts (record {
@@ -346,7 +371,9 @@ module _ (es : List (Option Entry)) (order : List ℕ) (mark : Option Mark) (tex
       })
 
   -- a file with the same names and other readers, or with other names
-  pub file_changed : (id : ℕ) (names : List ℕ) (n : ℕ) → is_file (entry_in es id) ≡ true → ((k : ℕ) → k ≢ id → is_file (entry_in es k) ≡ true → same_names names (names_by (entry_in es k)) ≡ false) → Marked (slice_set es id (Some (File names n))) mark → IsFiles (slice_set es id (Some (File names n))) order mark texts
+  pub file_changed : (id : ℕ) (names : List ℕ) (n : ℕ) → is_file (entry_in es id) ≡ true
+      → ((k : ℕ) → k ≢ id → is_file (entry_in es k) ≡ true → same_names names (names_by (entry_in es k)) ≡ false)
+      → Marked (slice_set es id (Some (File names n))) mark → IsFiles (slice_set es id (Some (File names n))) order mark texts
   file_changed id names n f fresh m =
       let w = within es id (file_stands (entry_in es id) f) in
       let l = h.long in
@@ -365,16 +392,20 @@ module _ (es : List (Option Entry)) (order : List ℕ) (mark : Option Mark) (tex
       })
 
   -- its own names are no other file's
-  own_names : (id k : ℕ) → is_file (entry_in es id) ≡ true → k ≢ id → is_file (entry_in es k) ≡ true → same_names (names_by (entry_in es id)) (names_by (entry_in es k)) ≡ false
+  own_names : (id k : ℕ) → is_file (entry_in es id) ≡ true → k ≢ id → is_file (entry_in es k) ≡ true
+      → same_names (names_by (entry_in es id)) (names_by (entry_in es k)) ≡ false
   own_names id k f ne g = false_from_ne_true (same_names (names_by (entry_in es id)) (names_by (entry_in es k))) (λ s. ne (sym (h.unique id k f g s)))
 
-  pub renamed_files : (id : ℕ) (names : List ℕ) → is_file (entry_in es id) ≡ true → mark ≡ None → found_in es names order ≡ None → IsFiles (slice_set es id (Some (File names 0))) order mark texts
+  pub renamed_files : (id : ℕ) (names : List ℕ) → is_file (entry_in es id) ≡ true → mark ≡ None → found_in es names order ≡ None
+      → IsFiles (slice_set es id (Some (File names 0))) order mark texts
   renamed_files id names f none fresh =
       file_changed id names 0 f (λ k nk g. found_fresh names fresh k g) (subst (λ m. Marked (slice_set es id (Some (File names 0))) m) (sym none) tt)
 
-  pub opened_files : (id : ℕ) (names : List ℕ) (n : ℕ) → is_file (entry_in es id) ≡ true → mark ≡ None → names ≡ names_by (entry_in es id) → IsFiles (slice_set es id (Some (File names n))) order mark texts
+  pub opened_files : (id : ℕ) (names : List ℕ) (n : ℕ) → is_file (entry_in es id) ≡ true → mark ≡ None → names ≡ names_by (entry_in es id)
+      → IsFiles (slice_set es id (Some (File names n))) order mark texts
   opened_files id names n f none e =
-      file_changed id names n f (λ k nk g. ap (λ ns. same_names ns (names_by (entry_in es k))) e ∙ own_names id k f nk g) (subst (λ m. Marked (slice_set es id (Some (File names n))) m) (sym none) tt)
+      file_changed id names n f (λ k nk g. ap (λ ns. same_names ns (names_by (entry_in es k))) e ∙ own_names id k f nk g)
+      (subst (λ m. Marked (slice_set es id (Some (File names n))) m) (sym none) tt)
 
   -- a file is read less: what holds of the mark is unchanged, because none of its files or drafts
   -- is read
@@ -382,13 +413,15 @@ module _ (es : List (Option Entry)) (order : List ℕ) (mark : Option Mark) (tex
     unread_other : (k : ℕ) → readers_by (entry_in es k) ≡ 0 → entry_in (slice_set es id (Some (File names n))) k ≡ entry_in es k
     unread_other k z = get_or-set_other es id k (Some (File names n)) None (λ s. let t = ap (λ j. readers_by (entry_in es j)) s in absurd (omega arith))
 
-    names_stay : (k : ℕ) → is_file (entry_in (slice_set es id (Some (File names n))) k) ≡ true → (is_file (entry_in es k) ≡ true) × (names_by (entry_in (slice_set es id (Some (File names n))) k) ≡ names_by (entry_in es k))
+    names_stay : (k : ℕ) → is_file (entry_in (slice_set es id (Some (File names n))) k) ≡ true → (is_file (entry_in es k) ≡ true)
+        × (names_by (entry_in (slice_set es id (Some (File names n))) k) ≡ names_by (entry_in es k))
     names_stay k f = elim (cases_eq k id) [
       | inl s ↦
           let l = h.long in
           let r = reader_file (entry_in es id) read in
           let w = within es id (file_stands (entry_in es id) r) in
-          let a : entry_in (slice_set es id (Some (File names n))) k ≡ Some (File names n) = ap (λ j. entry_in (slice_set es id (Some (File names n))) j) s ∙ get_or-set_same es id (Some (File names n)) None w in
+          let a : entry_in (slice_set es id (Some (File names n))) k ≡ Some (File names n) =
+          ap (λ j. entry_in (slice_set es id (Some (File names n))) j) s ∙ get_or-set_same es id (Some (File names n)) None w in
           (ap (λ j. is_file (entry_in es j)) s ∙ r, ap names_by a ∙ e ∙ sym (ap (λ j. names_by (entry_in es j)) s))
       | inr ne ↦
           let a : entry_in (slice_set es id (Some (File names n))) k ≡ entry_in es k = get_or-set_other es id k (Some (File names n)) None ne in
@@ -403,7 +436,8 @@ module _ (es : List (Option Entry)) (order : List ℕ) (mark : Option Mark) (tex
           file = ap is_file a ∙ o.file;
           unread = ap readers_by a ∙ o.unread;
           draft_stands = ap is_draft b ∙ o.draft_stands;
-          names = carried (entry_in es draft) (entry_in (slice_set es id (Some (File names n))) draft) (entry_in es old) (entry_in (slice_set es id (Some (File names n))) old) (sym b) (sym a) o.names;
+          names = carried (entry_in es draft) (entry_in (slice_set es id (Some (File names n))) draft) (entry_in es old)
+              (entry_in (slice_set es id (Some (File names n))) old) (sym b) (sym a) o.names;
         }
     read_by (Link old draft) o =
         let b = unread_other draft (draft_unread (entry_in es draft) o.draft_stands) in
@@ -428,7 +462,8 @@ module _ (es : List (Option Entry)) (order : List ℕ) (mark : Option Mark) (tex
         file_changed id names n f (λ k nk g. ap (λ ns. same_names ns (names_by (entry_in es k))) e ∙ own_names id k f nk g) (read_mark mark h.marked)
 
   -- a close is marked
-  mark_files : (m : Mark) → mark ≡ None → unlinked_old (Some m) ≡ None → length order + to_come (Some m) ≤ 256 → Owes es m.parts → IsFiles es order (Some m) texts
+  mark_files : (m : Mark) → mark ≡ None → unlinked_old (Some m) ≡ None → length order + to_come (Some m) ≤ 256 → Owes es m.parts
+      → IsFiles es order (Some m) texts
   mark_files m none far few o = record {
     long = h.long;
     texts_long = h.texts_long;
@@ -441,7 +476,9 @@ module _ (es : List (Option Entry)) (order : List ℕ) (mark : Option Mark) (tex
     marked = o;
   }
 
-  pub replace_files : (id slot old : ℕ) (names : List ℕ) → is_draft (entry_in es id) ≡ true → mark ≡ None → names ≡ names_by (entry_in es id) → found_in es names order ≡ Some old → readers_by (entry_in es old) ≡ 0 → IsFiles es order (Some (record { owner = slot; parts = Replace old id })) texts
+  pub replace_files : (id slot old : ℕ) (names : List ℕ) → is_draft (entry_in es id) ≡ true → mark ≡ None
+      → names ≡ names_by (entry_in es id) → found_in es names order ≡ Some old → readers_by (entry_in es old) ≡ 0
+      → IsFiles es order (Some (record { owner = slot; parts = Replace old id })) texts
   replace_files id slot old names d none e found unread =
       let f = found_file names old found in
       mark_files (record { owner = slot; parts = Replace old id }) none refl (let a = h.few in omega arith) (record {
@@ -451,7 +488,8 @@ module _ (es : List (Option Entry)) (order : List ℕ) (mark : Option Mark) (tex
         names = sym (ap (λ ns. same_names ns (names_by (entry_in es old))) e) ∙ f.1;
       })
 
-  pub link_files : (id slot : ℕ) (names : List ℕ) → is_draft (entry_in es id) ≡ true → mark ≡ None → names ≡ names_by (entry_in es id) → found_in es names order ≡ None → length order < 256 → IsFiles es order (Some (record { owner = slot; parts = Link None id })) texts
+  pub link_files : (id slot : ℕ) (names : List ℕ) → is_draft (entry_in es id) ≡ true → mark ≡ None → names ≡ names_by (entry_in es id)
+      → found_in es names order ≡ None → length order < 256 → IsFiles es order (Some (record { owner = slot; parts = Link None id })) texts
   link_files id slot names d none e found few =
       mark_files (record { owner = slot; parts = Link None id }) none refl (omega arith) (record {
         gone = tt;
@@ -460,7 +498,8 @@ module _ (es : List (Option Entry)) (order : List ℕ) (mark : Option Mark) (tex
       })
 
   -- the old file is unlinked
-  pub unlinked_files : (owner old draft : ℕ) (ks : List ℕ) → mark ≡ Some (record { owner = owner; parts = Replace old draft }) → ks ≡ without old order → IsFiles (slice_set es old None) ks (Some (record { owner = owner; parts = Link (Some old) draft })) texts
+  pub unlinked_files : (owner old draft : ℕ) (ks : List ℕ) → mark ≡ Some (record { owner = owner; parts = Replace old draft })
+      → ks ≡ without old order → IsFiles (slice_set es old None) ks (Some (record { owner = owner; parts = Link (Some old) draft })) texts
   unlinked_files owner old draft ks is o =
       let r : Replaces es old draft = subst (λ m. Marked es m) is h.marked in
       let f = r.file in
@@ -469,7 +508,8 @@ module _ (es : List (Option Entry)) (order : List ℕ) (mark : Option Mark) (tex
       let lk = ap (λ xs. length xs) o in
       let ln = length-taken old in
       let one : one_if (is_file (entry_in es old)) ≡ 1 = ap (λ b. one_if b) f in
-      let apart : draft ≢ old = λ s. both_ways (is_file (entry_in es old)) (draft_no_file (entry_in es old) (sym (ap (λ j. is_draft (entry_in es j)) s) ∙ r.draft_stands)) f in
+      let apart : draft ≢ old = λ s. both_ways (is_file (entry_in es old))
+      (draft_no_file (entry_in es old) (sym (ap (λ j. is_draft (entry_in es j)) s) ∙ r.draft_stands)) f in
       let b : entry_in (slice_set es old None) draft ≡ entry_in es draft = get_or-set_other es old draft None None apart in
       let a : entry_in (slice_set es old None) old ≡ None = get_or-set_same es old None None w in
       changed es order mark texts h old None ks (Some (record { owner = owner; parts = Link (Some old) draft })) texts (record {
@@ -491,13 +531,17 @@ module _ (es : List (Option Entry)) (order : List ℕ) (mark : Option Mark) (tex
             | inr nk ↦
                 let c : entry_in (slice_set es old None) k ≡ entry_in es k = get_or-set_other es old k None None nk in
                 false_from_ne_true (same_names (names_by (entry_in (slice_set es old None) draft)) (names_by (entry_in (slice_set es old None) k)))
-                (λ s. nk (sym (h.unique old k f (sym (ap is_file c) ∙ g) (same_both (names_by (entry_in es draft)) (names_by (entry_in es old)) (names_by (entry_in es k)) r.names (carried (entry_in (slice_set es old None) draft) (entry_in es draft) (entry_in (slice_set es old None) k) (entry_in es k) b c s)))))
+                (λ s. nk (sym (h.unique old k f (sym (ap is_file c) ∙ g)
+                (same_both (names_by (entry_in es draft)) (names_by (entry_in es old)) (names_by (entry_in es k)) r.names
+                (carried (entry_in (slice_set es old None) draft) (entry_in es draft) (entry_in (slice_set es old None) k) (entry_in es k) b c s)))))
           ];
         };
       })
 
   -- the draft becomes a file
-  pub linked_files : (owner draft : ℕ) (old : Option ℕ) (names : List ℕ) (m : Option Mark) → mark ≡ Some (record { owner = owner; parts = Link old draft }) → names ≡ names_by (entry_in es draft) → m ≡ after_link old owner → IsFiles (slice_set es draft (Some (File names 0))) (order ++ draft ∷ []) m texts
+  pub linked_files : (owner draft : ℕ) (old : Option ℕ) (names : List ℕ) (m : Option Mark)
+      → mark ≡ Some (record { owner = owner; parts = Link old draft }) → names ≡ names_by (entry_in es draft) → m ≡ after_link old owner
+      → IsFiles (slice_set es draft (Some (File names 0))) (order ++ draft ∷ []) m texts
   linked_files owner draft old names m is e next =
       let r : Links_to es old draft = subst (λ x. Marked es x) is h.marked in
       let s = draft_stands (entry_in es draft) r.draft_stands in
@@ -537,7 +581,8 @@ module _ (es : List (Option Entry)) (order : List ℕ) (mark : Option Mark) (tex
           gone_stays draft (Some (File names 0)) (Some o) (draft_stands (entry_in es draft) r.draft_stands) g
 
   -- the blocks of the old file become free
-  pub freed_files : (owner old : ℕ) (ts : List (List ℕ)) → mark ≡ Some (record { owner = owner; parts = Free old }) → ts ≡ slice_set texts old [] → IsFiles es order None ts
+  pub freed_files : (owner old : ℕ) (ts : List (List ℕ)) → mark ≡ Some (record { owner = owner; parts = Free old })
+      → ts ≡ slice_set texts old [] → IsFiles es order None ts
   freed_files owner old ts is t = record {
     long = h.long;
     texts_long = ap (λ xs. length xs) t ∙ length-set texts old [] ∙ h.texts_long;
@@ -558,7 +603,8 @@ none_counted : (p : Option Entry → Bool) (n : ℕ) → p None ≡ false → co
 unfolding filled
 none_counted p n e = sum_by-replicate (λ x. cond (p x) 1 0) n None ∙ ap (λ b. n * cond b 1 0) e
 
-pub opened_store : (es : List (Option Entry)) (order : List ℕ) (texts : List (List ℕ)) → es ≡ filled numbers None → order ≡ [] → texts ≡ filled numbers [] → IsFiles es order None texts
+pub opened_store : (es : List (Option Entry)) (order : List ℕ) (texts : List (List ℕ)) → es ≡ filled numbers None → order ≡ []
+    → texts ≡ filled numbers [] → IsFiles es order None texts
 opened_store es order texts a b c =
     let at : (k : ℕ) → entry_in es k ≡ None = λ k. ap (λ xs. entry_in xs k) a ∙ get_or-filled numbers k None in
     let lo : length order ≡ 0 = ap (λ xs. length xs) b in

@@ -7,3 +7,4 @@ pub mod EntryLaws
 pub mod DirectoryLaws
 pub mod RoomLaws
 pub mod RoomBehindLaws
+pub mod ConstantLaws

@@ -17,7 +17,8 @@ push_before xs x k h =
     slice_get-get_or (xs ++ x ∷ []) k x (omega arith) ∙ ap Some (get_or_append_left xs (x ∷ []) x k h) ∙ sym (slice_get-get_or xs k x h)
 
 -- two sums that are alike at each place
-pub sum_alike : {X Y : Type 0} (f : X → ℕ) (g : Y → ℕ) (xs : List X) (ys : List Y) (d : X) (e : Y) → length xs ≡ length ys → ((k : ℕ) → k < length xs → f (slice_index_or xs k d) ≡ g (slice_index_or ys k e)) → sum_by f xs ≡ sum_by g ys
+pub sum_alike : {X Y : Type 0} (f : X → ℕ) (g : Y → ℕ) (xs : List X) (ys : List Y) (d : X) (e : Y) → length xs ≡ length ys
+    → ((k : ℕ) → k < length xs → f (slice_index_or xs k d) ≡ g (slice_index_or ys k e)) → sum_by f xs ≡ sum_by g ys
 sum_alike f g [] [] d e l h = refl
 sum_alike f g [] (y ∷ ys) d e l h = absurd (omega (arith, l))
 sum_alike f g (x ∷ xs) [] d e l h = absurd (omega (arith, l))

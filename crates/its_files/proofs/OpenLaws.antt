@@ -25,8 +25,10 @@ up_to_more k =
     let c = length_push (range_with_len 0 k) k in
     ext_get_or 0 (range_with_len 0 k ++ k ∷ []) (range_with_len 0 (k + 1)) (omega arith)
     (λ i less. elim (cases_lt i k) [
-      | inl lt ↦ get_or_append_left (range_with_len 0 k) (k ∷ []) 0 i (omega arith) ∙ get_or-range_with_len 0 k i 0 lt ∙ sym (get_or-range_with_len 0 (k + 1) i 0 (omega arith))
-      | inr ge ↦ let e : i ≡ k = omega arith in let z : k ≡ 0 + k = omega arith in rw e (get_or_push (range_with_len 0 k) k 0 k a ∙ z ∙ sym (get_or-range_with_len 0 (k + 1) k 0 (omega arith)))
+      | inl lt ↦ get_or_append_left (range_with_len 0 k) (k ∷ []) 0 i (omega arith) ∙ get_or-range_with_len 0 k i 0 lt
+          ∙ sym (get_or-range_with_len 0 (k + 1) i 0 (omega arith))
+      | inr ge ↦ let e : i ≡ k = omega arith in let z : k ≡ 0 + k =
+          omega arith in rw e (get_or_push (range_with_len 0 k) k 0 k a ∙ z ∙ sym (get_or-range_with_len 0 (k + 1) k 0 (omega arith)))
     ])
 
 pub length-up_to : (k : ℕ) → length (up_to k) ≡ k
@@ -56,7 +58,8 @@ sum-copies : (n : ℕ) → sum_by blocks_for (filled n 0) ≡ n * 0
 unfolding filled
 sum-copies n = sum_by-replicate blocks_for n 0
 
-pub opened_blocks : (words : List ℕ) (most : ℕ) (lengths lasts : List ℕ) (links : Linked) → most ≡ 262144 → lengths ≡ filled numbers 0 → lasts ≡ filled numbers 0 → links ≡ record { nodes = 2048; lists = first_has (numbers + 1) 2048 } → IsBlocks words most lengths lasts 2048 None links
+pub opened_blocks : (words : List ℕ) (most : ℕ) (lengths lasts : List ℕ) (links : Linked) → most ≡ 262144 → lengths ≡ filled numbers 0
+    → lasts ≡ filled numbers 0 → links ≡ record { nodes = 2048; lists = first_has (numbers + 1) 2048 } → IsBlocks words most lengths lasts 2048 None links
 opened_blocks words most lengths lasts links a b c e =
     let ls : links.lists ≡ first_has (numbers + 1) 2048 = ap (λ l. l.lists) e in
     record {
@@ -83,7 +86,8 @@ opened_blocks words most lengths lasts links a b c e =
           omega arith;
     }
 
-pub opened_view : (words lengths : List ℕ) (links : Linked) → lengths ≡ filled numbers 0 → links ≡ record { nodes = 2048; lists = first_has (numbers + 1) 2048 } → stored_in words links.lists lengths ≡ nothing_stored
+pub opened_view : (words lengths : List ℕ) (links : Linked) → lengths ≡ filled numbers 0
+    → links ≡ record { nodes = 2048; lists = first_has (numbers + 1) 2048 } → stored_in words links.lists lengths ≡ nothing_stored
 unfolding stored_in
 opened_view words lengths links b e =
     let c : links.lists ≡ first_has (numbers + 1) 2048 = ap (λ l. l.lists) e in
@@ -92,6 +96,7 @@ opened_view words lengths links b e =
     ext_get_or [] (table numbers f) (filled numbers []) (length-table numbers f ∙ sym (length-filled numbers []))
     (λ k less. let l = length-table numbers f in
     get_or-table numbers f k [] (omega arith)
-    ∙ nil_from_length (f k) (length-table (slice_index_or lengths k 0) (word_in words (blocks_of links.lists k)) ∙ ap (λ xs. slice_index_or xs k 0) b ∙ get_or-filled numbers k 0)
+    ∙ nil_from_length (f k) (length-table (slice_index_or lengths k 0) (word_in words (blocks_of links.lists k))
+    ∙ ap (λ xs. slice_index_or xs k 0) b ∙ get_or-filled numbers k 0)
     ∙ sym (get_or-filled numbers k [])) in
     λ i. record { texts = t i; chains = c i }

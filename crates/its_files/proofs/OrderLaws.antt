@@ -37,7 +37,8 @@ all_used (e ∷ es) h =
     let r : count_by is_some es ≡ length es = all_used es (λ k lt. h (suc k) (omega arith)) in
     sum_by-cons (λ x. cond (is_some x) 1 0) e es ∙ rw (s, r) (omega arith)
 
-pub some_free : {X : Type 0} (es : List (Option X)) (n : ℕ) → n ≤ length es → ((k : ℕ) → k < n → is_some (slice_index_or es k None) ≡ true) → count_by is_some es < length es → n < length es
+pub some_free : {X : Type 0} (es : List (Option X)) (n : ℕ) → n ≤ length es → ((k : ℕ) → k < n → is_some (slice_index_or es k None) ≡ true)
+    → count_by is_some es < length es → n < length es
 some_free es n h each few = elim (cases_lt n (length es)) [
   | inl lt ↦ lt
   | inr ge ↦ let r = all_used es (λ k lt. each k (omega arith)) in absurd (omega arith)

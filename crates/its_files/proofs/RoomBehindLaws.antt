@@ -32,7 +32,8 @@ module _ (s : Stored) (id w : ℕ) (lt : id < length s.texts) (most : blocks_use
   length_appended =
       ap (λ t. length t) (get_or-set_same s.texts id (text_at s.texts id ++ w ∷ []) [] lt) ∙ length_push (text_at s.texts id) w
 
-  used_appended : blocks_used (with_word_appended s id w) + blocks_for (length (text_at s.texts id)) ≡ blocks_used s + blocks_for (length (text_at s.texts id) + 1)
+  used_appended : blocks_used (with_word_appended s id w) + blocks_for (length (text_at s.texts id)) ≡ blocks_used s + blocks_for
+      (length (text_at s.texts id) + 1)
   used_appended =
       let b = sum_by-set (λ t. blocks_for (length t)) s.texts id (text_at s.texts id ++ w ∷ []) [] lt in
       let l = length_push (text_at s.texts id) w in

@@ -130,7 +130,8 @@ blocks_at s id = blocks_for (length (words_at s id))
 unfoldable pub blocks_in_drafts : Store → ℕ
 blocks_in_drafts s = sum_by (λ id. if_draft (entry_at s id) (blocks_at s id)) (up_to numbers)
 
-file_or_draft : (e : Option Entry) (ws : List ℕ) → blocks_for (length (words_by e ws)) ≡ one_if (is_file e) * blocks_for (length (words_by e ws)) + if_draft e (blocks_for (length (words_by e ws)))
+file_or_draft : (e : Option Entry) (ws : List ℕ) → blocks_for (length (words_by e ws)) ≡ one_if (is_file e) * blocks_for
+    (length (words_by e ws)) + if_draft e (blocks_for (length (words_by e ws)))
 file_or_draft None ws = omega arith
 file_or_draft (Some (File names readers)) ws = omega arith
 file_or_draft (Some (Draft names)) ws = omega arith
@@ -142,16 +143,20 @@ bare_words (Some e) ws h = refl
 module _ (s : Store) (whole : IsStore s) (unmarked : s.mark ≡ None) where
   -- only the numbers of files and drafts have words
   pub words_are : (id : ℕ) → text_at s.stored.texts id ≡ words_at s id
-  words_are id = bare_words (entry_at s id) (text_at s.stored.texts id) (λ e. whole.bare id e (λ u. let v : None ≡ Some id = sym (ap unlinked_old unmarked) ∙ u in cc))
+  words_are id = bare_words (entry_at s id) (text_at s.stored.texts id)
+      (λ e. whole.bare id e (λ u. let v : None ≡ Some id = sym (ap unlinked_old unmarked) ∙ u in cc))
 
   pub blocks_are : blocks_used s.stored ≡ sum_by (λ f. blocks_for (length f.words)) (directory s) + blocks_in_drafts s
   unfolding blocks_in_drafts
   blocks_are =
       let texts = sum_texts (λ t. blocks_for (length t)) s.stored.texts numbers whole.texts_long in
-      let split = sum_same (λ id. blocks_for (length (text_at s.stored.texts id))) (λ id. count id s.order * blocks_at s id + if_draft (entry_at s id) (blocks_at s id)) (up_to numbers)
-      (λ id. ap (λ ws. blocks_for (length ws)) (words_are id) ∙ file_or_draft (entry_at s id) (text_at s.stored.texts id) ∙ ap (λ n. n * blocks_at s id + if_draft (entry_at s id) (blocks_at s id)) (sym (whole.listed id))) in
+      let split = sum_same (λ id. blocks_for (length (text_at s.stored.texts id)))
+      (λ id. count id s.order * blocks_at s id + if_draft (entry_at s id) (blocks_at s id)) (up_to numbers)
+      (λ id. ap (λ ws. blocks_for (length ws)) (words_are id) ∙ file_or_draft (entry_at s id) (text_at s.stored.texts id)
+      ∙ ap (λ n. n * blocks_at s id + if_draft (entry_at s id) (blocks_at s id)) (sym (whole.listed id))) in
       let plus = sum_plus (λ id. count id s.order * blocks_at s id) (λ id. if_draft (entry_at s id) (blocks_at s id)) (up_to numbers) in
       let listed = sum_listed (blocks_at s) numbers s.order
-      (λ id some. let l = whole.long in let w = within s.entries id (file_stands (entry_at s id) (ordered s.entries s.order s.mark s.stored.texts whole id some)) in omega arith) in
+      (λ id some. let l = whole.long in let w = within s.entries id
+      (file_stands (entry_at s id) (ordered s.entries s.order s.mark s.stored.texts whole id some)) in omega arith) in
       let mapped = fold-map (λ n f. n + blocks_for (length f.words)) (file_at s) 0 s.order in
       texts ∙ split ∙ plus ∙ ap (λ n. n + blocks_in_drafts s) (listed ∙ sym mapped)

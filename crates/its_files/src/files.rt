@@ -23,6 +23,9 @@ use std::marker::Model;
 /// How many files there are at most.
 const FILES: usize = 256;
 
+/// That number in the type of `count`.
+pub const MOST_FILES: u32 = FILES as u32;
+
 /// The files in their order, the drafts, and the close that is half made. A file or a draft goes by
 /// its number, which it keeps.
 #[derive(Drop)]

@@ -59,5 +59,5 @@ mod files;
 
 pub use blocks::Full;
 pub use entry::{CloseFault, Entry, Locked, Mark, Parts, RenameFault};
-pub use files::Files;
+pub use files::{Files, MOST_FILES};
 pub use its_word::NoMemory;

@@ -117,7 +117,7 @@ pub enum Change {
     },
     /// A channel on an end of a link is closed, and the end with it. A link without an open end is
     /// gone with its words.
-    Part {
+    CloseEnd {
         channel: u8,
         link: u8,
         write: bool,

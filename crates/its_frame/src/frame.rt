@@ -1,5 +1,5 @@
 //! Frames: how far a job is inside a call, as contracts see it. The code keeps the call itself as
-//! `its_calls::Call`.
+//! `its_in_call::Call`.
 
 use arrayvec::ArrayVec;
 use its_records::{Ask, Owed, Site};
@@ -60,7 +60,7 @@ pub struct Ending {
     pub owed: ArrayVec<Owed, 4>,
 }
 
-/// How far a job is inside a call of the monitor. Contracts speak of frames; `its_calls` keeps
+/// How far a job is inside a call of the monitor. Contracts speak of frames; `its_in_call` keeps
 /// them.
 #[derive(Drop)]
 pub enum Frame {

@@ -5,7 +5,7 @@ use Rattle.std.proofs.Common.{◌∙◌, ap}
 use Rattle.its_word.specs.Word.{complement_of}
 use Rattle.its_records.specs.declared.jobs.Job.{Job}
 use Rattle.its_word.specs.Flags.{FATAL, TBL}
-use Rattle.its_plain.specs.Interrupt.{deliverable, enabled_1, enabled_2, unguarded}
+use Rattle.its_plain.specs.Unit.Interrupt.{deliverable, enabled_1, enabled_2, unguarded}
 
 -- what is left of no bits
 left : (n a b : ℕ) → n ≡ 0 → bit_and (bit_and n a) b ≡ 0

@@ -3,7 +3,7 @@ use Rattle.std.specs.Prelude.{◌≡◌, ◌<◌, ℕ, zero, suc, ◌+◌, ◌-�
 use Rattle.std.proofs.Common.{sym, ◌∙◌, ap, arith}
 use Rattle.its_word.specs.Core.{Core}
 use Rattle.its_records.specs.declared.jobs.Job.{Job}
-use Rattle.its_plain.specs.Interrupt.{entry_at, chosen, first_entry}
+use Rattle.its_plain.specs.Unit.Interrupt.{entry_at, chosen, first_entry}
 
 -- no entry is left
 pub first_entry_spent : (c : Core) (j : Job) (n a : ℕ) → n ≡ 0 → first_entry c j n a ≡ None

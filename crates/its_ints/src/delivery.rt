@@ -3,9 +3,9 @@
 ghost use Rattle.std.specs.Prelude.{◌≡◌, ◌<◌, ◌≤◌, ◌^◌, true};
 ghost use Rattle.its_word.specs.Only.{Only};
 ghost use Rattle.its_core.specs.Cores.{core_at};
-ghost use Rattle.its_plain.specs.CallBasic.{popped};
-ghost use Rattle.its_plain.specs.Job.{pc_word};
-ghost use Rattle.its_plain.specs.Interrupt.{unguarded, deliverable, pushed, at_handler, above, below, delivered, after_dismissal};
+ghost use Rattle.its_plain.specs.Call.Basic.{popped};
+ghost use Rattle.its_plain.specs.Machine.Registers.{pc_word};
+ghost use Rattle.its_plain.specs.Unit.Interrupt.{unguarded, deliverable, pushed, at_handler, above, below, delivered, after_dismissal};
 
 use super::table::{Found, TableEntry, enabled_1, enabled_2, look_up};
 use its_core::Core;
@@ -16,7 +16,7 @@ use its_word::{ADDRESSES, FATAL, Fault, Slot, Store, TBL, Word, flags_in, pc_wor
 const FIVE_LESS: u32 = 0o1000000 - 5;
 
 /// The pending fatal bits that are not enabled.
-#[tactic(auto, unfolding(its_plain::specs::Interrupt::unguarded))]
+#[tactic(auto, unfolding(its_plain::specs::Unit::Interrupt::unguarded))]
 fn unguarded(job: &Job) -> Word
     ensures { result ≡ unguarded job.now }
 {
@@ -25,7 +25,7 @@ fn unguarded(job: &Job) -> Word
 
 /// Whether an interrupt of a job can be delivered: a fatal bit is pending that is not enabled, or
 /// an enabled bit is.
-#[tactic(auto, using(crate::proofs::PendingLaws::none_pending), unfolding(its_plain::specs::Interrupt::deliverable))]
+#[tactic(auto, using(crate::proofs::PendingLaws::none_pending), unfolding(its_plain::specs::Unit::Interrupt::deliverable))]
 pub fn deliverable(job: &Job) -> bool
     ensures { result ≡ deliverable job.now }
 {
@@ -53,7 +53,7 @@ fn store(at: u32, word: Word) -> Store
 }
 
 /// The stores of a delivery, in order.
-#[tactic(auto, unfolding(its_plain::specs::Interrupt::pushed))]
+#[tactic(auto, unfolding(its_plain::specs::Unit::Interrupt::pushed))]
 fn pushes(job: &Job, found: &Found) -> [Store; 6]
     ensures { result ≡ pushed job.now found.now.entry found.now.place found.now.pointer }
 {
@@ -70,7 +70,7 @@ fn pushes(job: &Job, found: &Found) -> [Store; 6]
 }
 
 /// Takes the job to the handler of an entry.
-#[tactic(auto, unfolding(its_plain::specs::Interrupt::at_handler))]
+#[tactic(auto, unfolding(its_plain::specs::Unit::Interrupt::at_handler))]
 fn enter(job: &mut Job, entry: &TableEntry)
     ensures { job.new ≡ at_handler job.old entry.now }
 {
@@ -87,7 +87,7 @@ fn enter(job: &mut Job, entry: &TableEntry)
 /// Delivers an interrupt to a job, and says whether a fatal bit stopped the job; INF is then to be
 /// set in its superior, if it has one. A delivery that is not possible sets TBL and changes nothing
 /// else.
-#[tactic(auto, unfolding(its_plain::specs::Interrupt::delivered))]
+#[tactic(auto, unfolding(its_plain::specs::Unit::Interrupt::delivered))]
 pub fn deliver(core: &mut Core, slot: Slot, job: &mut Job) -> bool
     requires deliverable { deliverable job.old ≡ true }
     ensures core { Only (core_at core.old) (core_at core.new) slot (delivered (core_at core.old slot) job.old).core }
@@ -113,7 +113,7 @@ pub fn deliver(core: &mut Core, slot: Slot, job: &mut Job) -> bool
 
 /// The registers that DISMIS leaves a job with, from the five words that a delivery pushed below
 /// the stack pointer word at p. Mpv if one of the words is absent, else Wro if p is read only.
-#[tactic(auto, unfolding(its_plain::specs::Interrupt::after_dismissal))]
+#[tactic(auto, unfolding(its_plain::specs::Unit::Interrupt::after_dismissal))]
 pub fn dismiss(core: &Core, job: &Job, slot: Slot, p: u32) -> Result<Exit, Fault>
     ensures { result ≡ after_dismissal (core_at core.now slot) job.now p }
 {

@@ -2,7 +2,7 @@
 ghost use Rattle.std.specs.Prelude.{◌≡◌, ◌≤◌, ◌<◌, ◌+◌, ◌^◌, IfSome, MatchOption};
 ghost use Rattle.its_core.specs.Cores.{core_at};
 ghost use Rattle.its_word.specs.Stores.{first_fault};
-ghost use Rattle.its_plain.specs.Interrupt.{enabled_1, enabled_2, entry_at, meets, first_entry, entries_of, pushed, undelivered, by_stores, through_table};
+ghost use Rattle.its_plain.specs.Unit.Interrupt.{enabled_1, enabled_2, entry_at, meets, first_entry, entries_of, pushed, undelivered, by_stores, through_table};
 
 use its_core::Core;
 use its_records::Job;
@@ -21,7 +21,7 @@ pub(crate) struct TableEntry {
 }
 
 impl Model for TableEntry {
-    ghost use Rattle.its_plain.specs.Interrupt.{Entry};
+    ghost use Rattle.its_plain.specs.Unit.Interrupt.{Entry};
 
     ghost Value = { Entry };
 
@@ -68,7 +68,7 @@ impl TableEntry {
 }
 
 /// The pending bits of word 1 that are enabled.
-#[tactic(auto, unfolding(its_plain::specs::Interrupt::enabled_1))]
+#[tactic(auto, unfolding(its_plain::specs::Unit::Interrupt::enabled_1))]
 pub(crate) fn enabled_1(job: &Job) -> Word
     ensures { result ≡ enabled_1 job.now }
 {
@@ -76,7 +76,7 @@ pub(crate) fn enabled_1(job: &Job) -> Word
 }
 
 /// The pending bits of word 2 that are enabled.
-#[tactic(auto, unfolding(its_plain::specs::Interrupt::enabled_2))]
+#[tactic(auto, unfolding(its_plain::specs::Unit::Interrupt::enabled_2))]
 pub(crate) fn enabled_2(job: &Job) -> Word
     ensures { result ≡ enabled_2 job.now }
 {
@@ -84,7 +84,7 @@ pub(crate) fn enabled_2(job: &Job) -> Word
 }
 
 /// Whether an entry takes one of the enabled bits.
-#[tactic(auto, unfolding(its_plain::specs::Interrupt::meets))]
+#[tactic(auto, unfolding(its_plain::specs::Unit::Interrupt::meets))]
 fn is_met(job: &Job, entry: &TableEntry) -> bool
     ensures { result ≡ meets job.now entry.now }
 {
@@ -92,7 +92,7 @@ fn is_met(job: &Job, entry: &TableEntry) -> bool
 }
 
 /// The entry of five words from an address on; None if a word is absent.
-#[tactic(auto, unfolding(its_plain::specs::Interrupt::entry_at, its_plain::specs::Machine::words_at))]
+#[tactic(auto, unfolding(its_plain::specs::Unit::Interrupt::entry_at, its_plain::specs::Machine::words_at))]
 fn entry_at(core: &Core, slot: Slot, a: u32) -> Option<TableEntry>
     requires address { a < 2 ^ 20 }
     ensures { result ≡ entry_at (core_at core.now slot) a }
@@ -108,7 +108,7 @@ fn entry_at(core: &Core, slot: Slot, a: u32) -> Option<TableEntry>
 
 /// How many entries a table has, by the word at 42: its left half is the negated length of the
 /// table, which is 1 + 5k with k from 1 to 48.
-#[tactic(auto, unfolding(its_plain::specs::Interrupt::entries_of))]
+#[tactic(auto, unfolding(its_plain::specs::Unit::Interrupt::entries_of))]
 fn entries(word: Word) -> Option<u32>
     ensures number { result ≡ entries_of word }
     ensures most { IfSome result (λ k. k ≤ 48) }
@@ -148,7 +148,7 @@ pub(crate) struct Found {
 }
 
 /// Looks the table up; None if the delivery is not possible, whatever can be stored.
-#[tactic(auto, unfolding(its_plain::specs::Interrupt::through_table))]
+#[tactic(auto, unfolding(its_plain::specs::Unit::Interrupt::through_table))]
 pub(crate) fn look_up(core: &Core, slot: Slot, job: &Job) -> Option<Found>
     ensures outcome { MatchOption result
         (through_table (core_at core.now slot) job.now ≡ undelivered (core_at core.now slot) job.now)

@@ -18,7 +18,8 @@ pub wrote_more : (a b c : Option (List ℕ)) (bytes rest : List ℕ) (n : ℕ) �
 wrote_more a b c bytes rest n w more = record {
   wrote = w.wrote ++ take n rest;
   appended = Appends-trans a b c w.wrote (take n rest) w.appended more;
-  parts = w.parts ∙ ap (λ l. w.wrote ++ l) (sym (take-append-drop n rest) ∙ ap (λ l. take n rest ++ l) (sym (take_rest rest n))) ∙ sym (append_assoc w.wrote (take n rest) _);
+  parts = w.parts ∙ ap (λ l. w.wrote ++ l) (sym (take-append-drop n rest) ∙ ap (λ l. take n rest ++ l) (sym (take_rest rest n)))
+      ∙ sym (append_assoc w.wrote (take n rest) _);
 }
 
 -- what is left has two parts: the bytes that are given and those that stay

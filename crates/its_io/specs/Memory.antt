@@ -3,8 +3,8 @@
 use Rattle.std.specs.Prelude.{ℕ, ◌+◌, ◌-◌, ◌^◌, min, List, ◌++◌, length, take, drop}
 use Rattle.its_io.specs.Bytes.{next_fault}
 
--- a source: the bytes that are left, the number of the next call, the count of faults, how many bytes
--- a read gives at most, and the numbers of the calls that fail
+-- a source: the bytes that are left, the number of the next call, the count of faults, how many
+-- bytes a read gives at most, and the numbers of the calls that fail
 pub record SourceState : Type 0 where
   pub left : List ℕ
   pub calls : ℕ
@@ -21,8 +21,8 @@ pub record SinkState : Type 0 where
   pub room : ℕ
   pub fails : List ℕ
 
--- calls are numbered from 0 up to 2 ^ 64 - 1, the greatest number that can be named; later ones have
--- no number
+-- calls are numbered from 0 up to 2 ^ 64 - 1, the greatest number that can be named; later ones
+-- have no number
 abbrev pub next_call : ℕ → ℕ
 next_call calls = min (calls + 1) (2 ^ 64)
 

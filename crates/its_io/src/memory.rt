@@ -1,5 +1,5 @@
 //! A source and a sink over memory, whose calls fail if a test says so.
-ghost use Rattle.std.specs.Prelude.{◌≡◌, ◌≤◌, ◌<◌, ◌⊎◌, ◌↔◌, ℕ, [], ◌∷◌, ◌++◌, ◌+◌, ◌^◌, min, length, take, drop, Contains, IsTrue, IsErr, IfOk, OnErr};
+ghost use Rattle.std.specs.Prelude.{◌≡◌, ◌≤◌, ◌<◌, ◌⊎◌, ◌↔◌, ℕ, true, [], ◌∷◌, ◌++◌, ◌+◌, ◌^◌, min, length, take, drop, Contains, IsTrue, IsErr, IfOk, OnErr};
 ghost use Rattle.std.specs.declared.option.Option.TheVariants.{Some};
 ghost use Rattle.std.specs.Io.{ReadsAtMost, WritesAtMost};
 ghost use Rattle.std.specs.Io.KnownBytes.{ReadConsumes, WriteAppends};
@@ -26,7 +26,8 @@ fn call_after(call: u128) -> u128
     (call + 1).min(1 << 64)
 }
 
-/// Copies as many of the bytes from `at` on as fit, and at most `piece`, into the front of the buffer.
+/// Copies as many of the bytes from `at` on as fit, and at most `piece`, into the front of the
+/// buffer.
 #[tactic(auto, using(crate::proofs::ByteLaws::left_in_parts, crate::proofs::ByteLaws::none_left))]
 pub(crate) fn copy_from(bytes: &[u8], at: usize, piece: usize, buf: &mut [u8]) -> usize
     requires begins { at ≤ length bytes.now }
@@ -44,8 +45,8 @@ pub(crate) fn copy_from(bytes: &[u8], at: usize, piece: usize, buf: &mut [u8]) -
     count
 }
 
-/// A source over memory. It gives at most `piece` bytes a read, and its calls, numbered from 0, fail if their number
-/// was named.
+/// A source over memory. It gives at most `piece` bytes a read, and its calls, numbered from 0,
+/// fail if their number was named.
 #[derive(Drop)]
 pub struct MemSource {
     bytes: Vec<u8>,
@@ -101,6 +102,8 @@ impl Source for MemSource {
 
     ghost faults = { λ s. s.faults };
 
+    ghost readable = { λ _. true };
+
     fn read(&mut self, buf: &mut [u8]) -> Result<usize, Failed>
         ensures fails { IsErr result ↔ Contains self.old.fails self.old.calls }
         ensures count { IfOk result (λ n. n ≡ given self.old (length buf.old)) }
@@ -125,7 +128,8 @@ impl Source for MemSource {
     }
 }
 
-/// A sink over memory. It has room for `room` bytes, and its calls, numbered from 0, fail if their number was named.
+/// A sink over memory. It has room for `room` bytes, and its calls, numbered from 0, fail if their
+/// number was named.
 #[derive(Drop)]
 pub struct MemSink {
     bytes: Vec<u8>,

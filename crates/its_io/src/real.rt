@@ -1,5 +1,6 @@
-//! Standard input and output. What the system gives and takes is trusted; no contract mentions the bytes.
-ghost use Rattle.std.specs.Prelude.{◌≡◌};
+//! Standard input and output. What the system gives and takes is trusted; no contract mentions the
+//! bytes.
+ghost use Rattle.std.specs.Prelude.{◌≡◌, true};
 ghost use Rattle.std.specs.declared.option.Option.TheVariants.{None};
 
 use super::stream::{Failed, Sink, Source, next_fault};
@@ -34,6 +35,8 @@ impl Source for RealSource {
     ghost left = { λ _. None };
 
     ghost faults = { λ s. s };
+
+    ghost readable = { λ _. true };
 
     fn read(&mut self, buf: &mut [u8]) -> Result<usize, Failed> {
         match self.stdin.read(buf) {

@@ -1,5 +1,5 @@
 //! The traits of a source and a sink.
-ghost use Rattle.std.specs.Prelude.{◌≡◌, ◌≤◌, ◌<◌, ℕ, List, length, OnOk, OnErr, IfOk};
+ghost use Rattle.std.specs.Prelude.{◌≡◌, ◌≤◌, ◌<◌, ℕ, Bool, true, List, length, OnOk, OnErr, IfOk};
 ghost use Rattle.std.specs.declared.option.Option.{Option};
 ghost use Rattle.std.specs.Io.{ReadsAtMost, WritesAtMost};
 ghost use Rattle.std.specs.Io.KnownBytes.{Appends, ReadConsumes, WriteAppends};
@@ -24,12 +24,19 @@ pub trait Source {
     /// How often a read has failed, up to 2^64 - 1.
     ghost faults: { Self → ℕ };
 
+    /// Whether it may be read on. What reads any source knows this only after a read that gave
+    /// bytes. So it reads no source after its end, at which a terminal waits for more, or a
+    /// failure.
+    ghost readable: { Self → Bool };
+
     /// Writes the next bytes into the front of the buffer, and says how many. Ok(0) for a buffer
     /// that is not empty means the end. A read that fails takes none.
     fn read(&mut self, buf: &mut [u8]) -> Result<usize, Failed>
+        requires readable { readable self.old ≡ true }
         ensures bound { ReadsAtMost result buf.new }
         ensures bytes { ReadConsumes (left self.old) (left self.new) result buf.new }
-        ensures cause { HasCause (faults self.old) (faults self.new) result };
+        ensures cause { HasCause (faults self.old) (faults self.new) result }
+        ensures readable { IfOk result (λ n. 0 < n → readable self.new ≡ true) };
 }
 
 /// A sink of bytes.
@@ -49,7 +56,8 @@ pub trait Sink {
         ensures cause { HasCause (faults self.old) (faults self.new) result };
 }
 
-/// Writes all the bytes by calls of `write`. If one fails, the bytes written are the first part of the bytes.
+/// Writes all the bytes by calls of `write`. If one fails, the bytes written are the first part of
+/// the bytes.
 pub fn write_all<K: Sink>(out: &mut K, bytes: &[u8]) -> Result<(), Failed>
     ensures all { OnOk result (Appends (K.written out.old) (K.written out.new) bytes.now) }
     ensures begun { OnErr result ((wrote : List ℕ) × Wrote (K.written out.old) (K.written out.new) wrote bytes.now) }

@@ -1,3 +1,4 @@
 pub mod ClearLaws
 pub mod TreeLaws
 pub mod TableLaws
+pub mod Groups

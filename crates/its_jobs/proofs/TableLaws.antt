@@ -22,7 +22,8 @@ kept xs s k ne = get_or-set_other xs s k None None ne
 not_superior : (superiors : ℕ → Option ℕ) (s k i : ℕ) → is_below superiors s k ≡ false → k ≢ s → superiors k ≡ Some i → i ≢ s
 not_superior superiors s k i h ne e f = let below : is_below superiors s k ≡ true = below_superior superiors s k ne (e ∙ ap Some f) in cc
 
-emptied_at : (xs : List (Option ℕ)) (s k : ℕ) → s < length xs → slice_index_or (slice_set xs s None) k None ≡ (if k == s then None else slice_index_or xs k None)
+emptied_at : (xs : List (Option ℕ)) (s k : ℕ) → s < length xs
+    → slice_index_or (slice_set xs s None) k None ≡ (if k == s then None else slice_index_or xs k None)
 emptied_at xs s k h = elim (cases_eq k s) [
   | inl e ↦ rw (eq-eqb k s e, e) (emptied xs s h)
   | inr ne ↦ rw (ne_eqb k s ne) (kept xs s k ne)
@@ -53,7 +54,8 @@ removed jobs superiors s t h leaf =
         | inl e ↦ rw (e, emptied superiors s in_superiors) refl
         | inr ne ↦ kept superiors s k ne ∙ t.owned k (sym (kept jobs s k ne) ∙ f)
       ];
-      circle = circle_cut (superior_in superiors) (superior_in (slice_set superiors s None)) (λ k. k == s) (λ k. emptied_at superiors s k in_superiors) t.circle;
+      circle = circle_cut (superior_in superiors) (superior_in (slice_set superiors s None)) (λ k. k == s)
+          (λ k. emptied_at superiors s k in_superiors) t.circle;
     }
 
 -- no slot has a job if none of the places has

@@ -27,7 +27,8 @@ no_tree jobs superiors m n none = record {
 module _ (jobs : List (Option Job)) (superiors : List (Option ℕ)) (s : ℕ) (j : Job) (superior : Option ℕ) (t : IsTree jobs superiors) (in_range : s < slots)
     (free : slice_index_or jobs s None ≡ None) (fits : IfSome superior (λ i. is_some (slice_index_or jobs i None) ≡ true)) where
   not_empty : (i : ℕ) → is_some (slice_index_or jobs i None) ≡ true → i ≢ s
-  not_empty i h e = let full : is_some (slice_index_or jobs s None) ≡ true = ap (λ x. is_some (slice_index_or jobs x None)) (sym e) ∙ h in let wrong : true ≡ false = sym full ∙ ap is_some free in cc
+  not_empty i h e = let full : is_some (slice_index_or jobs s None) ≡ true = ap (λ x. is_some (slice_index_or jobs x None)) (sym e)
+      ∙ h in let wrong : true ≡ false = sym full ∙ ap is_some free in cc
 
   nobody : (k : ℕ) (o : Option ℕ) → IfSome o (λ i. is_some (slice_index_or jobs i None) ≡ true) → o ≢ Some s
   nobody k None h e = cc
@@ -42,7 +43,8 @@ module _ (jobs : List (Option Job)) (superiors : List (Option ℕ)) (s : ℕ) (j
   stays : (i : ℕ) → is_some (slice_index_or jobs i None) ≡ true → is_some (slice_index_or (slice_set jobs s (Some j)) i None) ≡ true
   stays i h = ap is_some (get_or-set_other jobs s i (Some j) None (not_empty i h)) ∙ h
 
-  stays_by : (o : Option ℕ) → IfSome o (λ i. is_some (slice_index_or jobs i None) ≡ true) → IfSome o (λ i. is_some (slice_index_or (slice_set jobs s (Some j)) i None) ≡ true)
+  stays_by : (o : Option ℕ) → IfSome o (λ i. is_some (slice_index_or jobs i None) ≡ true)
+      → IfSome o (λ i. is_some (slice_index_or (slice_set jobs s (Some j)) i None) ≡ true)
   stays_by None h = tt
   stays_by (Some i) h = stays i h
 
@@ -52,7 +54,8 @@ module _ (jobs : List (Option Job)) (superiors : List (Option ℕ)) (s : ℕ) (j
       let n = t.job_count in
       elim (cases_lt i slots) [
         | inl l ↦ l
-        | inr l ↦ absurd (let none : slice_index_or jobs i None ≡ None = get_or_past jobs i None (omega arith) in let wrong : true ≡ false = sym h ∙ ap is_some none in cc)
+        | inr l ↦ absurd (let none : slice_index_or jobs i None ≡ None = get_or_past jobs i None (omega arith) in let wrong :
+            true ≡ false = sym h ∙ ap is_some none in cc)
       ]
 
   fits_below : (o : Option ℕ) → IfSome o (λ i. is_some (slice_index_or jobs i None) ≡ true) → IfSome o (λ i. i < slots)
@@ -62,7 +65,8 @@ module _ (jobs : List (Option Job)) (superiors : List (Option ℕ)) (s : ℕ) (j
   pub made : IsTree (slice_set jobs s (Some j)) (slice_set superiors s superior)
   made =
       let here : slice_index_or (slice_set superiors s superior) s None ≡ superior = get_or-set_same superiors s superior None in_superiors in
-      let other : (k : ℕ) → k ≢ s → slice_index_or (slice_set superiors s superior) k None ≡ slice_index_or superiors k None = λ k ne. get_or-set_other superiors s k superior None ne in
+      let other : (k : ℕ) → k ≢ s → slice_index_or (slice_set superiors s superior) k None ≡ slice_index_or superiors k None =
+      λ k ne. get_or-set_other superiors s k superior None ne in
       let none : (k : ℕ) → slice_index_or superiors k None ≢ Some s = λ k. nobody k (slice_index_or superiors k None) (t.standing k) in
       let apart : superior ≢ Some s = nobody s superior fits in
       record {
@@ -75,12 +79,15 @@ module _ (jobs : List (Option Job)) (superiors : List (Option ℕ)) (s : ℕ) (j
         ];
         owned = λ k f. elim (cases_eq k s) [
           | inl e ↦ absurd (let full : slice_index_or (slice_set jobs s (Some j)) s None ≡ Some j = get_or-set_same jobs s (Some j) None in_jobs in
-              let empty : slice_index_or (slice_set jobs s (Some j)) s None ≡ None = ap (λ i. slice_index_or (slice_set jobs s (Some j)) i None) (sym e) ∙ f in cc)
+              let empty : slice_index_or (slice_set jobs s (Some j)) s None ≡ None =
+              ap (λ i. slice_index_or (slice_set jobs s (Some j)) i None) (sym e) ∙ f in cc)
           | inr ne ↦ other k ne ∙ t.owned k (sym (get_or-set_other jobs s k (Some j) None ne) ∙ f)
         ];
         circle = λ k. elim (cases_eq k s) [
-          | inl e ↦ rw (e, here) (unpassed (superior_in superiors) (superior_in (slice_set superiors s superior)) s s slots superior other none apart ∙ never (superior_in superiors) s slots superior none apart)
-          | inr ne ↦ rw (other k ne) (unpassed (superior_in superiors) (superior_in (slice_set superiors s superior)) s k slots (slice_index_or superiors k None) other none (none k) ∙ t.circle k)
+          | inl e ↦ rw (e, here) (unpassed (superior_in superiors) (superior_in (slice_set superiors s superior)) s s slots superior other
+              none apart ∙ never (superior_in superiors) s slots superior none apart)
+          | inr ne ↦ rw (other k ne) (unpassed (superior_in superiors) (superior_in (slice_set superiors s superior)) s k slots
+              (slice_index_or superiors k None) other none (none k) ∙ t.circle k)
         ];
       }
 
@@ -118,7 +125,8 @@ module _ (jobs news : List (Option Job)) (superiors rest : List (Option ℕ)) (r
       → IfSome o (λ i. is_some (slice_index_or jobs i None) ≡ true) → IfSome (if b then None else o) (λ i. is_some (slice_index_or news i None) ≡ true)
   standing_by k true o e f h = tt
   standing_by k false None e f h = tt
-  standing_by k false (Some i) e f h = ap is_some (left.each i) ∙ some_of (in_tree (superior_in superiors) r i) (slice_index_or jobs i None) (stays_too k i e f) h
+  standing_by k false (Some i) e f h = ap is_some (left.each i)
+      ∙ some_of (in_tree (superior_in superiors) r i) (slice_index_or jobs i None) (stays_too k i e f) h
 
   below_by : (b : Bool) (o : Option ℕ) → IfSome o (λ i. i < slots) → IfSome (if b then None else o) (λ i. i < slots)
   below_by true o h = tt
@@ -133,8 +141,10 @@ module _ (jobs news : List (Option Job)) (superiors rest : List (Option ℕ)) (r
     job_count = m;
     superior_count = n;
     below = λ k. rw (superiors_left.each k) (below_by (in_tree (superior_in superiors) r k) (slice_index_or superiors k None) (t.below k));
-    standing = λ k. rw (superiors_left.each k) (standing_by k (in_tree (superior_in superiors) r k) (slice_index_or superiors k None) refl refl (t.standing k));
-    owned = λ k f. superiors_left.each k ∙ owned_by (in_tree (superior_in superiors) r k) (slice_index_or jobs k None) (slice_index_or superiors k None) (t.owned k) (sym (left.each k) ∙ f);
+    standing = λ k. rw (superiors_left.each k) (standing_by k (in_tree (superior_in superiors) r k) (slice_index_or superiors k None) refl
+        refl (t.standing k));
+    owned = λ k f. superiors_left.each k ∙ owned_by (in_tree (superior_in superiors) r k) (slice_index_or jobs k None)
+        (slice_index_or superiors k None) (t.owned k) (sym (left.each k) ∙ f);
     circle = circle_cut (superior_in superiors) (superior_in rest) (in_tree (superior_in superiors) r) superiors_left.each t.circle;
   }
 

@@ -289,7 +289,7 @@ fn clear_superiors(superiors: &mut Vec<Option<Slot>>, jobs: &[Option<Job>])
 }
 
 /// The k-th slot, from 0, of those below another.
-#[tactic(auto, using(its_records::proofs::TreeLaws::rest_start, its_records::proofs::TreeLaws::nth_skip, its_records::proofs::TreeLaws::nth_here, its_records::proofs::TreeLaws::nth_next, its_records::proofs::TreeLaws::nth_end))]
+#[tactic(auto, using(crate::proofs::Groups::nth_below_laws))]
 fn nth_below(superiors: &[Option<Slot>], slot: u8, k: u32) -> Option<Slot>
     requires length { length superiors.now ≡ slots }
     ensures job { result ≡ slice_get (slots_below (λ k. slice_index_or superiors.now k None) slot) k }

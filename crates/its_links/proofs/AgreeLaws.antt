@@ -16,7 +16,8 @@ walk_set : (g : ℕ → ℕ) (n : ℕ) (lists : List (List ℕ)) (h : ℕ) (l : 
     → ((k : ℕ) → k < length lists → k ≢ h → Walk g (n + k) (list_at lists k) (n + k))
     → (k : ℕ) → k < length (slice_set lists h l) → Walk g (n + k) (list_at (slice_set lists h l) k) (n + k)
 walk_set g n lists h l lt w others k less = elim (cases_eq k h) [
-  | inl e ↦ subst (λ j. Walk g (n + j) (list_at (slice_set lists h l) j) (n + j)) (sym e) (subst (λ m. Walk g (n + h) m (n + h)) (sym (get_or-set_same lists h l [] lt)) w)
+  | inl e ↦ subst (λ j. Walk g (n + j) (list_at (slice_set lists h l) j) (n + j)) (sym e)
+      (subst (λ m. Walk g (n + h) m (n + h)) (sym (get_or-set_same lists h l [] lt)) w)
   | inr ne ↦ let s = length-set lists h l in subst (λ m. Walk g (n + k) m (n + k)) (sym (get_or-set_other lists h k l [] ne)) (others k (omega arith) ne)
 ]
 
@@ -78,18 +79,22 @@ module _ (n : ℕ) (f : ℕ → ℕ) (lists : List (List ℕ)) (a : Agrees n f l
             absurd (omega arith)
       ]
 
-  untouched : (g : ℕ → ℕ) (p q k : ℕ) → Exchanged f g p q → k < length lists → count p ((n + k) ∷ list_at lists k) ≡ 0 → count q ((n + k) ∷ list_at lists k) ≡ 0
+  untouched : (g : ℕ → ℕ) (p q k : ℕ) → Exchanged f g p q → k < length lists → count p ((n + k) ∷ list_at lists k) ≡ 0
+      → count q ((n + k) ∷ list_at lists k) ≡ 0
       → Walk g (n + k) (list_at lists k) (n + k)
   untouched g p q k x lt np nq =
       walk_same f g (n + k) (list_at lists k) (n + k) (a.walks k lt)
-      (λ y less. x.others y (λ e. let c = ap (λ z. count z ((n + k) ∷ list_at lists k)) e in omega arith) (λ e. let c = ap (λ z. count z ((n + k) ∷ list_at lists k)) e in omega arith))
+      (λ y less. x.others y (λ e. let c = ap (λ z. count z ((n + k) ∷ list_at lists k)) e in omega arith)
+      (λ e. let c = ap (λ z. count z ((n + k) ∷ list_at lists k)) e in omega arith))
 
   -- what leads to a number is the element before it
   pub last_is : (h m p : ℕ) → h < length lists → n + h < m → n ≤ m → ((r : ℕ) → r < m → f r ≡ n + h → r ≡ p) → last (n + h) (list_at lists h) ≡ p
   last_is h m p lt less le only =
-      only (last (n + h) (list_at lists h)) (last_below h m (list_at lists h) less le (λ y some. some)) (walk_last f (n + h) (list_at lists h) (n + h) (a.walks h lt))
+      only (last (n + h) (list_at lists h)) (last_below h m (list_at lists h) less le (λ y some. some))
+      (walk_last f (n + h) (list_at lists h) (n + h) (a.walks h lt))
 
-  pub before_is : (h m p x : ℕ) (xs ys : List ℕ) → h < length lists → n + h < m → n ≤ m → list_at lists h ≡ xs ++ x ∷ ys → ((r : ℕ) → r < m → f r ≡ x → r ≡ p) → last (n + h) xs ≡ p
+  pub before_is : (h m p x : ℕ) (xs ys : List ℕ) → h < length lists → n + h < m → n ≤ m → list_at lists h ≡ xs ++ x ∷ ys
+      → ((r : ℕ) → r < m → f r ≡ x → r ≡ p) → last (n + h) xs ≡ p
   before_is h m p x xs ys lt less le is only =
       only (last (n + h) xs) (last_below h m xs less le (λ y some. let c = ap (λ l. count y l) is in let d = count-append y xs (x ∷ ys) in omega arith))
       (walk_last f (n + h) xs x (walk_split f (n + h) xs x ys (n + h) (subst (λ l. Walk f (n + h) l (n + h)) is (a.walks h lt))).0)
@@ -101,7 +106,8 @@ module _ (n : ℕ) (f : ℕ → ℕ) (lists : List (List ℕ)) (a : Agrees n f l
       let c = count-append y (list_at lists h) (x ∷ []) in
       omega arith
 
-  pub pushed : (g : ℕ → ℕ) (h x : ℕ) → h < length lists → x < n → times x lists ≡ 0 → Exchanged f g (last (n + h) (list_at lists h)) x → Agrees n g (slice_set lists h (list_at lists h ++ x ∷ []))
+  pub pushed : (g : ℕ → ℕ) (h x : ℕ) → h < length lists → x < n → times x lists ≡ 0 → Exchanged f g (last (n + h) (list_at lists h)) x
+      → Agrees n g (slice_set lists h (list_at lists h ++ x ∷ []))
   pushed g h x lt less none e = record {
     walks = walk_set g n lists h (list_at lists h ++ x ∷ []) lt
         (joined f g (n + h) (list_at lists h) x [] (a.walks h lt) (a.free x less none) e (λ y.
@@ -138,7 +144,8 @@ module _ (n : ℕ) (f : ℕ → ℕ) (lists : List (List ℕ)) (a : Agrees n f l
   }
 
   -- a node that leaves a list
-  pub unlinked : (g : ℕ → ℕ) (h x : ℕ) (xs ys : List ℕ) → h < length lists → list_at lists h ≡ xs ++ x ∷ ys → Exchanged f g (last (n + h) xs) x → Agrees n g (map (without x) lists)
+  pub unlinked : (g : ℕ → ℕ) (h x : ℕ) (xs ys : List ℕ) → h < length lists → list_at lists h ≡ xs ++ x ∷ ys
+      → Exchanged f g (last (n + h) xs) x → Agrees n g (map (without x) lists)
   unlinked g h x xs ys lt is e =
       let ring = subst (λ l. Walk f (n + h) l (n + h)) is (a.walks h lt) in
       let once : (y : ℕ) → count y ((n + h) ∷ (xs ++ x ∷ ys)) ≤ 1 = λ y. let o = ring_once h y in let c = ap (λ l. count y l) is in omega arith in
@@ -184,7 +191,8 @@ module _ (n : ℕ) (f : ℕ → ℕ) (lists : List (List ℕ)) (a : Agrees n f l
       }
 
   -- one list after another
-  pub spliced_counts : (s t y : ℕ) → s < length lists → t < length lists → s ≢ t → times y (slice_set (slice_set lists t (list_at lists t ++ list_at lists s)) s []) ≡ times y lists
+  pub spliced_counts : (s t y : ℕ) → s < length lists → t < length lists → s ≢ t
+      → times y (slice_set (slice_set lists t (list_at lists t ++ list_at lists s)) s []) ≡ times y lists
   spliced_counts s t y ls lt ne =
       let u = times-set y lists t (list_at lists t ++ list_at lists s) lt in
       let l = length-set lists t (list_at lists t ++ list_at lists s) in
@@ -215,7 +223,8 @@ module _ (n : ℕ) (f : ℕ → ℕ) (lists : List (List ℕ)) (a : Agrees n f l
             let r'' = rings_apart s i (n + s) (λ q. nj (sym q)) in
             let h = hit_same (n + s) in
             walk_same g k (n + i) (list_at lists i) (n + i) (untouched g seam end i x at (omega arith) (omega arith))
-            (λ y some. z.others y (λ e. let c = ap (λ w. count w ((n + i) ∷ list_at lists i)) e in omega arith) (λ e. let c = ap (λ w. count w ((n + i) ∷ list_at lists i)) e in omega arith)))
+            (λ y some. z.others y (λ e. let c = ap (λ w. count w ((n + i) ∷ list_at lists i)) e in omega arith)
+            (λ e. let c = ap (λ w. count w ((n + i) ∷ list_at lists i)) e in omega arith)))
             (omega arith) other);
         once = λ y. let c = spliced_counts s t y ls lt ne in let o = a.once y in omega arith;
         below = λ y some. let c = spliced_counts s t y ls lt ne in a.below y (omega arith);
@@ -233,7 +242,8 @@ module _ (n : ℕ) (f : ℕ → ℕ) (lists : List (List ℕ)) (a : Agrees n f l
       walk_set_other k t s j lt w others less ne = elim (cases_eq j t) [
         | inl e ↦ subst (λ i. Walk k (n + i) (list_at (slice_set lists t (list_at lists t ++ list_at lists s)) i) (n + i)) (sym e)
             (subst (λ m. Walk k (n + t) m (n + t)) (sym (get_or-set_same lists t (list_at lists t ++ list_at lists s) [] lt)) w)
-        | inr other ↦ subst (λ m. Walk k (n + j) m (n + j)) (sym (get_or-set_other lists t j (list_at lists t ++ list_at lists s) [] other)) (others j less other ne)
+        | inr other ↦ subst (λ m. Walk k (n + j) m (n + j)) (sym (get_or-set_other lists t j (list_at lists t ++ list_at lists s) [] other))
+            (others j less other ne)
       ]
 
   -- a list holds no node twice, so what follows a node is another
@@ -254,7 +264,8 @@ module _ (n : ℕ) (f : ℕ → ℕ) (lists : List (List ℕ)) (a : Agrees n f l
       follows x p.back (n + s.head) w.1 (λ e. omega arith) (omega arith)
 
   -- what follows a node is a node exactly if a list goes on
-  pub first_is : (y : ℕ) (xs : List ℕ) (b : ℕ) (r : Option ℕ) → Walk f y xs b → n ≤ b → ((z : ℕ) → 0 < count z xs → z < n) → (f y < n → r ≡ Some (f y)) → (n ≤ f y → r ≡ None) → r ≡ first xs
+  pub first_is : (y : ℕ) (xs : List ℕ) (b : ℕ) (r : Option ℕ) → Walk f y xs b → n ≤ b → ((z : ℕ) → 0 < count z xs → z < n)
+      → (f y < n → r ≡ Some (f y)) → (n ≤ f y → r ≡ None) → r ≡ first xs
   first_is y [] b r w le below some none = none (omega arith)
   first_is y (x ∷ xs) b r w le below some none = let h = hit_same x in let l = below x (omega arith) in let e = w.0 in some (omega arith) ∙ ap Some e
 
@@ -265,7 +276,8 @@ module _ (n : ℕ) (f : ℕ → ℕ) (lists : List (List ℕ)) (a : Agrees n f l
       (λ y some. let c = count-le-times y lists h in a.below y (omega arith))
 
 -- the view of links is the lists that they agree with
-pub viewed : (n : ℕ) (next : List ℕ) (lists : List (List ℕ)) → n + length lists ≡ length next → Agrees n (link next) lists → linked_in n next ≡ record { nodes = n; lists = lists }
+pub viewed : (n : ℕ) (next : List ℕ) (lists : List (List ℕ)) → n + length lists ≡ length next → Agrees n (link next) lists
+    → linked_in n next ≡ record { nodes = n; lists = lists }
 unfolding linked_in lists_of
 viewed n next lists total a =
     let m = length next - n in

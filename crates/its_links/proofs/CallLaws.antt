@@ -43,7 +43,8 @@ pub record Closed (n : ℕ) (next : List ℕ) (v : Linked) : Type 0 where
   pub view : linked_in n next ≡ v
   pub invariant : IsLinks n next
 
-pub close_links : (n : ℕ) (next : List ℕ) (k : ℕ) (lists : List (List ℕ)) → k ≡ n → n + length lists ≡ length next → length next < 2 ^ 32 → Agrees n (link next) lists → Closed n next (record { nodes = k; lists = lists })
+pub close_links : (n : ℕ) (next : List ℕ) (k : ℕ) (lists : List (List ℕ)) → k ≡ n → n + length lists ≡ length next → length next < 2 ^ 32
+    → Agrees n (link next) lists → Closed n next (record { nodes = k; lists = lists })
 close_links n next k lists e total fits a =
     let v = viewed n next lists total a in
     record {
@@ -58,7 +59,8 @@ opened_alone n m fits =
     close_links n (alone (n + m)) n (no_lists m) refl (omega arith) (omega arith) (none n m)
 
 module _ (n : ℕ) (next : List ℕ) (v : Linked) (o : Opened n next v) where
-  pub push_closed : (more : List ℕ) (h x p : ℕ) → h < length v.lists → x < v.nodes → times x v.lists ≡ 0 → ((r : ℕ) → r < length next → link next r ≡ n + h → r ≡ p) → length more ≡ length next
+  pub push_closed : (more : List ℕ) (h x p : ℕ) → h < length v.lists → x < v.nodes → times x v.lists ≡ 0
+      → ((r : ℕ) → r < length next → link next r ≡ n + h → r ≡ p) → length more ≡ length next
       → Exchanged (link next) (link more) p x → Closed n more (record { nodes = v.nodes; lists = slice_set v.lists h (list_at v.lists h ++ x ∷ []) })
   push_closed more h x p lt less apart only same e =
       let t = o.total in
@@ -82,9 +84,12 @@ module _ (n : ℕ) (next : List ℕ) (v : Linked) (o : Opened n next v) where
       close_links n more v.nodes (map (without x) v.lists) o.nodes (omega arith) (omega arith)
       (unlinked n (link next) v.lists o.agrees (link more) s.head x c.front c.back at c.is (subst (λ q. Exchanged (link next) (link more) q x) (sym is) e))
 
-  pub splice_closed : (more last_links : List ℕ) (s t p q : ℕ) → s < length v.lists → t < length v.lists → s ≢ t → ((r : ℕ) → r < length next → link next r ≡ n + t → r ≡ p)
-      → ((r : ℕ) → r < length next → link next r ≡ n + s → r ≡ q) → length more ≡ length next → Exchanged (link next) (link more) p q → length last_links ≡ length more
-      → Exchanged (link more) (link last_links) p (n + s) → Closed n last_links (record { nodes = v.nodes; lists = slice_set (slice_set v.lists t (list_at v.lists t ++ list_at v.lists s)) s [] })
+  pub splice_closed : (more last_links : List ℕ) (s t p q : ℕ) → s < length v.lists → t < length v.lists → s ≢ t
+      → ((r : ℕ) → r < length next → link next r ≡ n + t → r ≡ p)
+      → ((r : ℕ) → r < length next → link next r ≡ n + s → r ≡ q) → length more ≡ length next → Exchanged (link next) (link more) p q
+      → length last_links ≡ length more
+      → Exchanged (link more) (link last_links) p (n + s) → Closed n last_links
+      (record { nodes = v.nodes; lists = slice_set (slice_set v.lists t (list_at v.lists t ++ list_at v.lists s)) s [] })
   splice_closed more last_links s t p q ls lt ne only_t only_s same e same_again again =
       let total = o.total in
       let f = o.fits in
@@ -94,18 +99,21 @@ module _ (n : ℕ) (next : List ℕ) (v : Linked) (o : Opened n next v) where
       let are = last_is n (link next) v.lists o.agrees s (length next) q ls (omega arith) (omega arith) only_s in
       close_links n last_links v.nodes (slice_set (slice_set v.lists t (list_at v.lists t ++ list_at v.lists s)) s []) o.nodes (omega arith) (omega arith)
       (spliced n (link next) v.lists o.agrees (link more) (link last_links) s t ls lt ne
-      (subst (λ a. Exchanged (link next) (link more) a (last (n + s) (list_at v.lists s))) (sym is) (subst (λ b. Exchanged (link next) (link more) p b) (sym are) e))
+      (subst (λ a. Exchanged (link next) (link more) a (last (n + s) (list_at v.lists s))) (sym is)
+      (subst (λ b. Exchanged (link next) (link more) p b) (sym are) e))
       (subst (λ a. Exchanged (link more) (link last_links) a (n + s)) (sym is) again))
 
   pub node_below : (x : ℕ) → 0 < times x v.lists → x < v.nodes
   node_below x some = let b = o.agrees.below x some in let k = o.nodes in omega arith
 
-  pub front_is : (h : ℕ) (r : Option ℕ) → h < length v.lists → (link next (n + h) < n → r ≡ Some (link next (n + h))) → (n ≤ link next (n + h) → r ≡ None) → r ≡ first (list_at v.lists h)
+  pub front_is : (h : ℕ) (r : Option ℕ) → h < length v.lists → (link next (n + h) < n → r ≡ Some (link next (n + h)))
+      → (n ≤ link next (n + h) → r ≡ None) → r ≡ first (list_at v.lists h)
   front_is h r lt some none =
       first_is n (link next) v.lists o.agrees (n + h) (list_at v.lists h) (n + h) r (o.agrees.walks h lt) (omega arith)
       (λ z in_it. let c = count-le-times z v.lists h in o.agrees.below z (omega arith)) some none
 
-  pub next_is : (h x : ℕ) (before after : List ℕ) (r : Option ℕ) → list_at v.lists h ≡ before ++ x ∷ after → (link next x < n → r ≡ Some (link next x)) → (n ≤ link next x → r ≡ None) → r ≡ first after
+  pub next_is : (h x : ℕ) (before after : List ℕ) (r : Option ℕ) → list_at v.lists h ≡ before ++ x ∷ after
+      → (link next x < n → r ≡ Some (link next x)) → (n ≤ link next x → r ≡ None) → r ≡ first after
   next_is h x before after r is some none =
       let hs = hit_same x in
       elim (cases_lt h (length v.lists)) [
@@ -140,7 +148,8 @@ if_first P xs r e each = subst (λ o. IfSome o P) (sym e) (go xs each)
     go (y ∷ ys) h = h y refl
 
 -- to take the first node out of its list is to take it out of all
-pub first_out : (ls : List (List ℕ)) (h x : ℕ) → h < length ls → first (list_at ls h) ≡ Some x → times x ls ≡ 1 → map (without x) ls ≡ slice_set ls h (rest (list_at ls h))
+pub first_out : (ls : List (List ℕ)) (h x : ℕ) → h < length ls → first (list_at ls h) ≡ Some x → times x ls ≡ 1
+    → map (without x) ls ≡ slice_set ls h (rest (list_at ls h))
 first_out ls h x lt e once =
     let c = count-le-times x ls h in
     let hs = hit_same x in

@@ -52,7 +52,8 @@ stands x (l ∷ ls) h = elim (cases_lt 0 (count x l)) [
   | inr ge ↦ let r = stands x ls (omega arith) in record { head = suc r.head; within = let w = r.within in omega arith; here = r.here }
 ]
 
-pub times-set : (x : ℕ) (ls : List (List ℕ)) (h : ℕ) (l : List ℕ) → h < length ls → times x (slice_set ls h l) + count x (list_at ls h) ≡ times x ls + count x l
+pub times-set : (x : ℕ) (ls : List (List ℕ)) (h : ℕ) (l : List ℕ) → h < length ls
+    → times x (slice_set ls h l) + count x (list_at ls h) ≡ times x ls + count x l
 times-set x [] h l lt = absurd (omega arith)
 times-set x (k ∷ ks) zero l lt = omega arith
 times-set x (k ∷ ks) (suc h) l lt = let r = times-set x ks h l (omega arith) in omega arith
@@ -123,7 +124,8 @@ times-without_other x z [] ne = refl
 times-without_other x z (l ∷ ls) ne = let a = count-without_other x z l ne in let r = times-without_other x z ls ne in omega arith
 
 -- if only one list has a node, to take it out of all is to take it out of that one
-pub without_one : (x : ℕ) (ls : List (List ℕ)) (h : ℕ) → h < length ls → ((k : ℕ) → k ≢ h → count x (list_at ls k) ≡ 0) → map (without x) ls ≡ slice_set ls h (without x (list_at ls h))
+pub without_one : (x : ℕ) (ls : List (List ℕ)) (h : ℕ) → h < length ls → ((k : ℕ) → k ≢ h → count x (list_at ls k) ≡ 0)
+    → map (without x) ls ≡ slice_set ls h (without x (list_at ls h))
 without_one x ls h lt others =
     let l = without x (list_at ls h) in
     let a = length-map ls (without x) in

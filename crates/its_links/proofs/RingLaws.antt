@@ -105,12 +105,14 @@ module _ (next prev : List ℕ) (r : IsRings next prev) (p q : ℕ) (hp : p < le
             ∙ sym e
         | inr np ↦ elim (cases_eq i (link next q)) [
           | inl e ↦
-              ap m (ap (link (set_two prev (link next q) p (link next p) q)) e ∙ at_first prev (link next q) p (link next p) q (omega arith) (λ s. np (e ∙ s)))
+              ap m (ap (link (set_two prev (link next q) p (link next p) q)) e
+              ∙ at_first prev (link next q) p (link next p) q (omega arith) (λ s. np (e ∙ s)))
               ∙ at_first next p (link next q) q (link next p) hp (λ s. np (e ∙ ap (link next) (sym s)))
               ∙ sym e
           | inr nq ↦
               ap m (elsewhere prev (link next q) p (link next p) q i nq np)
-              ∙ elsewhere next p (link next q) q (link next p) (link prev i) (λ s. np (sym (r.back i h) ∙ ap (link next) s)) (λ s. nq (sym (r.back i h) ∙ ap (link next) s))
+              ∙ elsewhere next p (link next q) q (link next p) (link prev i) (λ s. np (sym (r.back i h) ∙ ap (link next) s))
+              (λ s. nq (sym (r.back i h) ∙ ap (link next) s))
               ∙ r.back i h
         ]
       ]
@@ -124,7 +126,8 @@ module _ (next prev : List ℕ) (r : IsRings next prev) (p q : ℕ) (hp : p < le
       let b = length_two prev (link next q) p (link next p) q in
       record {
         even = b ∙ ev ∙ sym a;
-        within = λ i h. let w = r.within i (omega arith) in let t = two_within next p (link next q) q (link next p) i (length next) hp hq wq wp w in omega arith;
+        within = λ i h. let w = r.within i (omega arith) in let t =
+            two_within next p (link next q) q (link next p) i (length next) hp hq wq wp w in omega arith;
         back_within = λ i h.
             let w = r.back_within i (omega arith) in
             let t = two_within prev (link next q) p (link next p) q i (length next) (omega arith) (omega arith) hp hq w in

@@ -27,7 +27,8 @@ walk_same f g a (x ∷ xs) b w same =
     (same a (omega arith) ∙ w.0, walk_same f g x xs b w.1 (λ y less. same y (omega arith)))
 
 -- the last link leads elsewhere
-pub walk_relinked : (f g : ℕ → ℕ) (a : ℕ) (xs : List ℕ) (b c : ℕ) → Walk f a xs b → g (last a xs) ≡ c → ((y : ℕ) → y ≢ last a xs → 0 < count y (a ∷ xs) → g y ≡ f y)
+pub walk_relinked : (f g : ℕ → ℕ) (a : ℕ) (xs : List ℕ) (b c : ℕ) → Walk f a xs b → g (last a xs) ≡ c
+    → ((y : ℕ) → y ≢ last a xs → 0 < count y (a ∷ xs) → g y ≡ f y)
     → ((y : ℕ) → count y (a ∷ xs) ≤ 1) → Walk g a xs c
 walk_relinked f g a [] b c w e same once = e
 walk_relinked f g a (x ∷ xs) b c w e same once =

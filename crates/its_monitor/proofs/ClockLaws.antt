@@ -6,14 +6,14 @@ use Rattle.its_records.specs.declared.session.Event.TheVariants as events
 use Rattle.its_records.specs.declared.session.Refusal.TheVariants as refusals
 use Rattle.its_plain.specs.Machine.{Whole, Machine}
 use Rattle.its_plain.specs.Operator.{no_block}
-use Rattle.its_plain.specs.OperatorLines.{by_clock, operate, Done, lined}
-use Rattle.its_plain.specs.OperatorClock.{due, due_slots, after_alarm_if, at_clock, clock_end, after_clock_if, after_clock}
+use Rattle.its_plain.specs.Operator.Lines.{by_clock, operate, Done, lined}
+use Rattle.its_plain.specs.Operator.Clock.{due, due_slots, after_alarm_if, at_clock, clock_end, after_clock_if, after_clock}
 use Rattle.its_stepped.specs.Lines.{after_calm, with_raw}
 use Rattle.its_stepped.specs.Sound.{Sound}
 use Rattle.its_stepped.specs.State.{State, plain}
 use Rattle.its_stepped.specs.Unwind.{all_unwound}
-use Rattle.its_stepped.proofs.DueLaws.{clock_same, Hushed, unwound_hushed, rung_plain}
-use Rattle.its_stepped.proofs.UnwindLaws.{all_unwound_plain}
+use Rattle.its_stepped.proofs.Lining.DueLaws.{clock_same, Hushed, unwound_hushed, rung_plain}
+use Rattle.its_stepped.proofs.Unwinding.UnwindLaws.{all_unwound_plain}
 use Rattle.its_world.specs.Tidy.{Tidy}
 use Rattle.its_world.specs.World.{state_of}
 use Rattle.its_world.specs.declared.world.World.{World}
@@ -44,10 +44,12 @@ clocked_at m c n b e h = ap (λ t. after_clock_if m n (nat_lt (t + n) clock_end)
 
 -- the three steps of it
 pub advanced : (old mid set new : World) (n : ℕ) → state_of mid ≡ all_unwound (due_slots (old.clock + n) (state_of old).raw.jobs) (state_of old)
-    → state_of set ≡ with_raw (state_of mid) (record (state_of mid).raw { clock = old.clock + n }) → RangBelow (old.clock + n) slots (state_of set) (state_of new)
+    → state_of set ≡ with_raw (state_of mid) (record (state_of mid).raw { clock = old.clock + n })
+    → RangBelow (old.clock + n) slots (state_of set) (state_of new)
     → state_of new ≡ with_raw (roused (state_of old) n) (at_clock (old.clock + n) (roused (state_of old) n).raw)
 advanced old mid set new n u e r =
-    let v : state_of mid ≡ roused (state_of old) n = u ∙ ap (λ t. all_unwound (due_slots (t + n) (state_of old).raw.jobs) (state_of old)) (sym (raw_clock old)) in
+    let v : state_of mid ≡ roused (state_of old) n = u ∙ ap (λ t. all_unwound (due_slots (t + n) (state_of old).raw.jobs) (state_of old))
+    (sym (raw_clock old)) in
     rang_all (old.clock + n) (state_of mid) (state_of set) (state_of new) e r ∙ ap (λ (x : State). with_raw x (at_clock (old.clock + n) x.raw)) v
 
 -- an alarm that goes leaves the PC and the console
@@ -56,7 +58,8 @@ rung_address c true (Some q) h = h
 rung_address c true None h = tt
 rung_address c false o h = h
 
-rung_console : (c : ℕ) (b : Bool) (o : Option Whole) → IfSome o (λ q. IfSome q.job.console (λ i. i < 8)) → IfSome (after_alarm_if c b o) (λ q. IfSome q.job.console (λ i. i < 8))
+rung_console : (c : ℕ) (b : Bool) (o : Option Whole) → IfSome o (λ q. IfSome q.job.console (λ i. i < 8))
+    → IfSome (after_alarm_if c b o) (λ q. IfSome q.job.console (λ i. i < 8))
 rung_console c true (Some q) h = h
 rung_console c true None h = tt
 rung_console c false o h = h
@@ -92,7 +95,8 @@ module _ (old new : World) (n : ℕ) (b : Bool) (kept : Kept old) (fits : b ≡ 
   pub clock_plain : after_clock (plain (state_of old)) n ≡ Ok (plain (state_of new))
   clock_plain =
       let t : (plain (state_of old)).clock ≡ old.clock = plain_clock (state_of old) ∙ raw_clock old in
-      clocked_at (plain (state_of old)) old.clock n b t fits ∙ ap (after_clock_if (plain (state_of old)) n) yes ∙ ap (λ c. Ok (at_clock (c + n) (plain (state_of old)))) t
+      clocked_at (plain (state_of old)) old.clock n b t fits ∙ ap (after_clock_if (plain (state_of old)) n) yes
+      ∙ ap (λ c. Ok (at_clock (c + n) (plain (state_of old)))) t
       ∙ ap Ok (sym machine_new)
 
   pub clock_kept : Tidy new → Kept new
@@ -101,8 +105,10 @@ module _ (old new : World) (n : ℕ) (b : Bool) (kept : Kept old) (fits : b ≡ 
       (made_sound (state_of old) (state_of new) no_block (events.Clock n) kept.sound clock_line)
       (made_forest (state_of old) (state_of new) no_block (events.Clock n) kept.sound kept.forest clock_line)
       tidy
-      (λ k. subst (λ (m : Machine). IfSome (m.jobs k) (λ q. q.job.pc < 2 ^ 18)) (sym machine_new) (rung_address (old.clock + n) (due (old.clock + n) (plain (state_of old)).jobs k) ((plain (state_of old)).jobs k) (kept.addressed k)))
-      (λ k. subst (λ (m : Machine). IfSome (m.jobs k) (λ q. IfSome q.job.console (λ c. c < 8))) (sym machine_new) (rung_console (old.clock + n) (due (old.clock + n) (plain (state_of old)).jobs k) ((plain (state_of old)).jobs k) (kept.consoled k)))
+      (λ k. subst (λ (m : Machine). IfSome (m.jobs k) (λ q. q.job.pc < 2 ^ 18)) (sym machine_new)
+      (rung_address (old.clock + n) (due (old.clock + n) (plain (state_of old)).jobs k) ((plain (state_of old)).jobs k) (kept.addressed k)))
+      (λ k. subst (λ (m : Machine). IfSome (m.jobs k) (λ q. IfSome q.job.console (λ c. c < 8))) (sym machine_new)
+      (rung_console (old.clock + n) (due (old.clock + n) (plain (state_of old)).jobs k) ((plain (state_of old)).jobs k) (kept.consoled k)))
       (made_timed (state_of old) (state_of new) no_block (events.Clock n) kept.sound kept.timed clock_line)
       (made_alarmed (state_of old) (state_of new) no_block (events.Clock n) kept.sound kept.forest kept.alarmed clock_line)
 

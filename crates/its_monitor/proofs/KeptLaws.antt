@@ -12,8 +12,8 @@ use Rattle.its_core.specs.Frames.{Frames}
 use Rattle.its_jobs.specs.Table.{job_at}
 use Rattle.its_plain.specs.Machine.{Whole, Machine, with_job}
 use Rattle.its_plain.specs.Operator.{Block, Does}
-use Rattle.its_plain.specs.OperatorLines.{Done, lined}
-use Rattle.its_plain.specs.OperatorClock.{clock_end}
+use Rattle.its_plain.specs.Operator.Lines.{Done, lined}
+use Rattle.its_plain.specs.Operator.Clock.{clock_end}
 use Rattle.its_stepped.specs.State.{State, plain, seen}
 use Rattle.its_stepped.specs.Sound.{Sound}
 use Rattle.its_stepped.specs.Alarmed.{Alarmed}
@@ -21,13 +21,13 @@ use Rattle.its_stepped.specs.Forest.{Forest}
 use Rattle.its_stepped.specs.Unwind.{unwound}
 use Rattle.its_stepped.specs.Tick.{after_help_if}
 use Rattle.its_stepped.specs.Lines.{looks_at_files, after_calm, with_raw, state_after, after_line, lifted_line}
-use Rattle.its_stepped.proofs.AlarmLaws.{line_alarmed}
-use Rattle.its_stepped.proofs.ClockLaws.{line_timed}
-use Rattle.its_stepped.proofs.UnwindLaws.{unwound_plain, unwound_sound}
-use Rattle.its_stepped.proofs.LineLaws.{line_plain}
-use Rattle.its_stepped.proofs.AfterLaws.{after_sound}
-use Rattle.its_stepped.proofs.RefusalLaws.{error_of}
-use Rattle.its_stepped.proofs.WrittenLaws.{line_forest}
+use Rattle.its_stepped.proofs.Keeping.AlarmLaws.{line_alarmed}
+use Rattle.its_stepped.proofs.Keeping.ClockLaws.{line_timed}
+use Rattle.its_stepped.proofs.Unwinding.UnwindLaws.{unwound_plain, unwound_sound}
+use Rattle.its_stepped.proofs.Lining.LineLaws.{line_plain}
+use Rattle.its_stepped.proofs.Lining.AfterLaws.{after_sound}
+use Rattle.its_stepped.proofs.Lining.RefusalLaws.{error_of}
+use Rattle.its_stepped.proofs.Running.WrittenLaws.{line_forest}
 use Rattle.its_world.specs.World.{state_of, with_frames, CoreBecomes, JobBecomes}
 use Rattle.its_world.specs.Tidy.{Tidy}
 use Rattle.its_world.specs.declared.world.World.{World}
@@ -79,7 +79,8 @@ alike_kept old new kept same sound tidy =
     (subst Alarmed (sym same) kept.alarmed)
 
 pub unwound_kept : (old new : World) (s : ℕ) → Kept old → state_of new ≡ unwound (state_of old) s → Tidy new → Kept new
-unwound_kept old new s kept e tidy = alike_kept old new kept (unwound_same old new s kept e) (subst Sound (sym e) (unwound_sound (state_of old) s kept.sound)) tidy
+unwound_kept old new s kept e tidy = alike_kept old new kept (unwound_same old new s kept e)
+    (subst Sound (sym e) (unwound_sound (state_of old) s kept.sound)) tidy
 
 -- a slot that was unwound leaves the plain machine as it was
 pub calm_same : (old mid : World) (s : ℕ) (j : Job) → Kept old → Calm old mid s j → plain (state_of mid) ≡ plain (state_of old)
@@ -129,7 +130,8 @@ made_after w new b e h = ap (state_after (after_help_if (looks_at_files e) w) (a
 pub made_sound : (w new : State) (b : Block) (e : Event) → Sound w → Made w new b e → Sound new
 made_sound w new b e sound h = subst Sound (made_after w new b e h) (after_sound w b e sound)
 
-pub made_plain : (w new : State) (b : Block) (e : Event) → Sound w → (h : Made w new b e) → lined (plain w) b e ≡ Done (Does (plain new) h.out h.touched h.block)
+pub made_plain : (w new : State) (b : Block) (e : Event) → Sound w → (h : Made w new b e)
+    → lined (plain w) b e ≡ Done (Does (plain new) h.out h.touched h.block)
 made_plain w new b e sound h =
     line_plain w b e sound ∙ ap (lifted_line (after_calm w b e)) h.is ∙ ap (λ (x : State). Done (Does (plain x) h.out h.touched h.block)) (sym h.rest)
 
@@ -172,22 +174,26 @@ pub error_is : {X : Type 0} (p q : Result X Reason) (r : Reason) → error_of p 
 error_is (Ok x) q r e h = let none : None ≡ Some r = e ∙ ap error_of h in absurd cc
 error_is (Err y) q r e h = let some : Some y ≡ Some r = e ∙ ap error_of h in let is : y ≡ r = cc in ap Err is
 
-pub refused_by : {X : Type 0} (f : Machine → Result X Reason) (w : State) (s : ℕ) (x : Refusal) → ((u : State) → error_of (f (plain u)) ≡ error_of (f u.raw)) → Sound w
+pub refused_by : {X : Type 0} (f : Machine → Result X Reason) (w : State) (s : ℕ) (x : Refusal)
+    → ((u : State) → error_of (f (plain u)) ≡ error_of (f u.raw)) → Sound w
     → f w.raw ≡ Err (reason_of x) → Refused w (unwound w s) f x
 refused_by f w s x alike sound h =
     let first : f (plain w) ≡ Err (reason_of x) = error_is (f (plain w)) (f w.raw) (reason_of x) (alike w) h in
     record {
       plain = first;
       raw = h;
-      calmed = error_is (f (unwound w s).raw) (f (plain w)) (reason_of x) (sym (alike (unwound w s)) ∙ ap (λ m. error_of (f m)) (unwound_plain w s sound)) first;
+      calmed = error_is (f (unwound w s).raw) (f (plain w)) (reason_of x)
+          (sym (alike (unwound w s)) ∙ ap (λ m. error_of (f m)) (unwound_plain w s sound)) first;
     }
 
-pub unwound_missing : (old mid : World) (s : ℕ) → Kept old → is_some (job_at old.jobs s) ≡ true → state_of mid ≡ unwound (state_of old) s → job_at mid.jobs s ≡ None → ⊥
+pub unwound_missing : (old mid : World) (s : ℕ) → Kept old → is_some (job_at old.jobs s) ≡ true → state_of mid ≡ unwound (state_of old) s
+    → job_at mid.jobs s ≡ None → ⊥
 unwound_missing old mid s kept some e none =
     let has : is_some (job_at mid.jobs s) ≡ true = unwound_has old mid s kept e ∙ some in
     let no : is_some (job_at mid.jobs s) ≡ false = ap is_some none in absurd cc
 
-pub unwound_calm : (old mid : World) (s : ℕ) → Kept old → is_some (job_at old.jobs s) ≡ true → state_of mid ≡ unwound (state_of old) s → CoresOff old mid s → Tidy mid → Calmed old mid s
+pub unwound_calm : (old mid : World) (s : ℕ) → Kept old → is_some (job_at old.jobs s) ≡ true → state_of mid ≡ unwound (state_of old) s
+    → CoresOff old mid s → Tidy mid → Calmed old mid s
 unwound_calm old mid s kept some e cores tidy =
     let j = job_of (job_at mid.jobs s) (unwound_has old mid s kept e ∙ some) in
     record { job = j.0; calm = record { kept = unwound_kept old mid s kept e tidy; cores = cores; unwinds = e; job = j.1 } }

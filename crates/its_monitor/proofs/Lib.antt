@@ -14,3 +14,4 @@ pub mod ClockLaws
 pub mod ProtectLaws
 pub mod SymbolLaws
 pub mod OneByteLaws
+pub mod Groups

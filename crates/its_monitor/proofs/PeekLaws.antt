@@ -3,7 +3,7 @@ use Rattle.std.specs.Prelude.{◌≡◌, ℕ, Option, Some, None}
 use Rattle.std.proofs.Common.{sym, ◌∙◌, ap}
 use Rattle.its_word.specs.Core.{Core, word_at}
 use Rattle.its_records.specs.declared.calls.Ask.{Ask}
-use Rattle.its_plain.specs.Arguments.{place_of_input}
+use Rattle.its_plain.specs.Call.Arguments.{place_of_input}
 use Rattle.its_stepped.specs.Lines.{word_placed, word_of_input}
 
 -- the word at the place of an input

@@ -12,7 +12,7 @@ use Rattle.its_plain.specs.Machine.{core_of}
 use Rattle.its_stepped.specs.State.{plain, mine}
 use Rattle.its_stepped.specs.Unwind.{left_by, left}
 use Rattle.its_stepped.specs.Lines.{state_shown, name_shown, first_shown, second_shown, word_shown, ask_in, byte_shown, peeked}
-use Rattle.its_stepped.proofs.UnwindLaws.{few_frame}
+use Rattle.its_stepped.proofs.Unwinding.UnwindLaws.{few_frame}
 use Rattle.its_world.specs.World.{state_of, raw_at, frame_at, mark_of}
 use Rattle.its_world.specs.declared.world.World.{World}
 use Rattle.its_world.proofs.StateLaws.{job_of, raw_some}
@@ -42,8 +42,16 @@ peek_few w s x kept read lt = go x (frame_read w s x x read lt refl)
     go None e = tt
 
 -- the parts of what is shown
-peek_is : (w : World) (s : ℕ) (o : Option Frame) (c : Core) (p : Peek) → frame_at w.frames.items s ≡ o → core_of (raw_at w.files w.core w.jobs w.alarms.items s) ≡ c
-    → p ≡ record { state = state_shown o; name = name_shown o; left = left_by (mine (state_of w).mark s) o; a = word_shown c first_shown (ask_in o); b = word_shown c second_shown (ask_in o); h = byte_shown o }
+peek_is : (w : World) (s : ℕ) (o : Option Frame) (c : Core) (p : Peek) → frame_at w.frames.items s ≡ o
+    → core_of (raw_at w.files w.core w.jobs w.alarms.items s) ≡ c
+    → p ≡ record {
+      state = state_shown o;
+      name = name_shown o;
+      left = left_by (mine (state_of w).mark s) o;
+      a = word_shown c first_shown (ask_in o);
+      b = word_shown c second_shown (ask_in o);
+      h = byte_shown o;
+    }
     → p ≡ peeked (state_of w) s
 unfolding peeked left state_of
 peek_is w s o c p f k is = is ∙ (λ t. record {

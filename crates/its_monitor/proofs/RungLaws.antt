@@ -1,4 +1,5 @@
--- CLOCK: the jobs whose alarm is due are unwound, slot after slot, and then their alarms go, slot after slot.
+-- CLOCK: the jobs whose alarm is due are unwound, slot after slot, and then their alarms go, slot
+-- after slot.
 use Rattle.std.specs.Prelude.{◌==◌, ◌≡◌, ◌≤◌, ◌<◌, ◌+◌, ◌-◌, ◌&&◌, ℕ, suc, Bool, true, false, Option, Some, None, IfSome, is_some, List, ◌∷◌, filter, refl}
 use Rattle.std.specs.List.{range_with_len}
 use Rattle.std.proofs.Common.{sym, ◌∙◌, ap, subst, inl, inr, arith}
@@ -7,21 +8,21 @@ use Rattle.its_word.specs.Limits.{slots}
 use Rattle.its_records.specs.declared.jobs.Job.{Job}
 use Rattle.its_core.specs.Cores.{core_at, clear_at}
 use Rattle.its_jobs.specs.Table.{job_at}
-use Rattle.its_plain.specs.Alarm.{is_due, time_after}
-use Rattle.its_plain.specs.Change.{with_alarm}
-use Rattle.its_plain.specs.Job.{ALR, with_pending}
+use Rattle.its_plain.specs.Machine.Alarm.{is_due, time_after}
+use Rattle.its_plain.specs.Machine.Change.{with_alarm}
+use Rattle.its_plain.specs.Machine.Registers.{ALR, with_pending}
 use Rattle.its_plain.specs.Machine.{Whole, Machine}
-use Rattle.its_plain.specs.OperatorClock.{alarm_in, due, due_slots, after_alarm_if, at_clock, clock_end}
-use Rattle.its_plain.specs.Own.{with_registers}
+use Rattle.its_plain.specs.Operator.Clock.{alarm_in, due, due_slots, after_alarm_if, at_clock, clock_end}
+use Rattle.its_plain.specs.Machine.Own.{with_registers}
 use Rattle.its_stepped.specs.Alarmed.{Periodic, Alarmed}
 use Rattle.its_stepped.specs.Lines.{with_raw}
 use Rattle.its_stepped.specs.Sound.{Sound}
 use Rattle.its_stepped.specs.State.{State, plain}
 use Rattle.its_stepped.specs.Unwind.{unwound, all_unwound}
-use Rattle.its_machine.proofs.TimeLaws.{rung_slot, below_next}
-use Rattle.its_stepped.proofs.AlarmLaws.{coming_periodic}
-use Rattle.its_stepped.proofs.DueLaws.{alarm_plain, due_same}
-use Rattle.its_stepped.proofs.UnwindLaws.{all_unwound_slot, all_unwound_end}
+use Rattle.its_shared.proofs.TimeLaws.{rung_slot, below_next}
+use Rattle.its_stepped.proofs.Keeping.AlarmLaws.{coming_periodic}
+use Rattle.its_stepped.proofs.Lining.DueLaws.{alarm_plain, due_same}
+use Rattle.its_stepped.proofs.Unwinding.UnwindLaws.{all_unwound_slot, all_unwound_end}
 use Rattle.its_files.specs.Files.{Store}
 use Rattle.its_world.specs.Tidy.{Across, Tidy}
 use Rattle.its_world.specs.World.{alarm_at, symbols_at, raw_machine, frame_at, mark_of, state_of, in_raw, frames_after, JobBecomes, AlarmBecomes, ClockBecomes}
@@ -43,7 +44,8 @@ unfolding due_slots
 rousing_start c w sound tidy = record { sound = sound; tidy = tidy; same = refl; rest = refl; pages = refl }
 
 -- whether a slot is due is the same of the world that is unwound
-due_at : (c n : ℕ) (old mid : World) (b : Bool) → n < slots → Rousing c n old mid → b ≡ is_due c (alarm_at mid.alarms.items n) → due c (state_of old).raw.jobs n ≡ b
+due_at : (c n : ℕ) (old mid : World) (b : Bool) → n < slots → Rousing c n old mid → b ≡ is_due c (alarm_at mid.alarms.items n)
+    → due c (state_of old).raw.jobs n ≡ b
 due_at c n old mid b l r e =
     ap (λ (f : ℕ → Bool). f n) (sym (due_same (state_of old) (state_of mid) c r.same))
     ∙ ap (λ (t : Bool). t && is_due c (alarm_in ((state_of mid).raw.jobs n))) (lt-ltb n slots l)
@@ -55,8 +57,10 @@ kept_first p n xs h = rw h refl
 dropped_first : (p : ℕ → Bool) (n : ℕ) (xs : List ℕ) → p n ≡ false → filter p (n ∷ xs) ≡ filter p xs
 dropped_first p n xs h = rw h refl
 
-pub rousing_more : (c n : ℕ) (old mid new : World) (b : Bool) → n < slots → Rousing c n old mid → b ≡ is_due c (alarm_at mid.alarms.items n) → b ≡ true → state_of new ≡ unwound (state_of mid) n
-    → plain (state_of new) ≡ plain (state_of mid) → Sound (state_of new) → Tidy new → new.core.frames ≡ frames_after ((state_of mid).reserved n) None n mid.core.frames → Rousing c (n + 1) old new
+pub rousing_more : (c n : ℕ) (old mid new : World) (b : Bool) → n < slots → Rousing c n old mid → b ≡ is_due c (alarm_at mid.alarms.items n)
+    → b ≡ true → state_of new ≡ unwound (state_of mid) n
+    → plain (state_of new) ≡ plain (state_of mid) → Sound (state_of new) → Tidy new
+    → new.core.frames ≡ frames_after ((state_of mid).reserved n) None n mid.core.frames → Rousing c (n + 1) old new
 rousing_more c n old mid new b l r e t is same sound tidy g =
     let p : ℕ → Bool = due c (state_of old).raw.jobs in
     let xs : List ℕ = filter p (range_with_len (n + 1) (slots - (n + 1))) in
@@ -70,7 +74,8 @@ rousing_more c n old mid new b l r e t is same sound tidy g =
       pages = (λ i. pages_unwound xs (is i) (g i)) ∙ ap (λ ys. pages_unwound ys (state_of mid) mid.core.frames) (sym first) ∙ r.pages;
     }
 
-pub rousing_skip : (c n : ℕ) (old mid : World) (b : Bool) → n < slots → Rousing c n old mid → b ≡ is_due c (alarm_at mid.alarms.items n) → b ≡ false → Rousing c (n + 1) old mid
+pub rousing_skip : (c n : ℕ) (old mid : World) (b : Bool) → n < slots → Rousing c n old mid → b ≡ is_due c (alarm_at mid.alarms.items n)
+    → b ≡ false → Rousing c (n + 1) old mid
 rousing_skip c n old mid b l r e f =
     let p : ℕ → Bool = due c (state_of old).raw.jobs in
     let xs : List ℕ = filter p (range_with_len (n + 1) (slots - (n + 1))) in
@@ -87,14 +92,16 @@ rousing_skip c n old mid b l r e f =
 pub roused_all : (c : ℕ) (old new : World) → Rousing c slots old new → state_of new ≡ all_unwound (due_slots c (state_of old).raw.jobs) (state_of old)
 roused_all c old new r = sym (all_unwound_end (state_of new)) ∙ r.rest
 
-pub roused_pages : (c : ℕ) (old new : World) → Rousing c slots old new → new.core.frames ≡ pages_unwound (due_slots c (state_of old).raw.jobs) (state_of old) old.core.frames
+pub roused_pages : (c : ℕ) (old new : World) → Rousing c slots old new
+    → new.core.frames ≡ pages_unwound (due_slots c (state_of old).raw.jobs) (state_of old) old.core.frames
 roused_pages c old new r = r.pages
 
 -- one alarm goes: ALR is set, and the next time is another
 pub alr_set : (old new : World) (s : ℕ) (i j : Job) (o : Option Job) → o ≡ job_at old.jobs s → o ≡ Some j → i ≡ with_pending j ALR → JobBecomes old new s i
     → state_of new ≡ in_raw (state_of old) s (with_registers (λ k. with_pending k ALR))
 alr_set old new s i j o e is same b =
-    changed_state old new s _ (with_pending j ALR) j (with_registers (λ k. with_pending k ALR)) (subst (λ (x : Job). JobBecomes old new s x) same b) (sym e ∙ is) refl
+    changed_state old new s _ (with_pending j ALR) j (with_registers (λ k. with_pending k ALR))
+    (subst (λ (x : Job). JobBecomes old new s x) same b) (sym e ∙ is) refl
 
 -- of a state another with other jobs
 other_jobs : (v u x : State) → u ≡ x → x ≡ with_raw v (record v.raw { jobs = x.raw.jobs }) → u ≡ with_raw v (record v.raw { jobs = u.raw.jobs })
@@ -103,7 +110,8 @@ other_jobs v u x e h = e ∙ h ∙ ap (λ (y : State). with_raw v (record v.raw 
 alarm_here : (w : World) (s k : ℕ) (a : Option (ℕ × ℕ)) → Tidy w → alarm_at w.alarms.items s ≡ a → (k == s) ≡ true → alarm_in ((state_of w).raw.jobs k) ≡ a
 alarm_here w s k a tidy e at = let is : k ≡ s = eqb-true k s at in sym (alarm_shown w k tidy) ∙ ap (alarm_at w.alarms.items) is ∙ e
 
-pub went : (c p t : ℕ) (old mid new : World) (s : ℕ) → Tidy old → Some (p, t) ≡ alarm_at old.alarms.items s → t ≤ c → state_of mid ≡ in_raw (state_of old) s (with_registers (λ k. with_pending k ALR))
+pub went : (c p t : ℕ) (old mid new : World) (s : ℕ) → Tidy old → Some (p, t) ≡ alarm_at old.alarms.items s → t ≤ c
+    → state_of mid ≡ in_raw (state_of old) s (with_registers (λ k. with_pending k ALR))
     → AlarmBecomes mid new s (Some (p, time_after c (p, t))) → RangAt c s (state_of old) (state_of new)
 went c p t old mid new s tidy has late set put =
     let g : Whole → Whole = with_alarm (Some (p, time_after c (p, t))) in
@@ -134,7 +142,11 @@ still_some c s p t w tidy e early = still c s w (Some (p, t)) tidy (sym e) (lt-l
 
 -- slot after slot
 pub rang_start : (c : ℕ) (v : State) → RangBelow c 0 v v
-rang_start c v = record { jobs = λ k. sym (ap (λ (b : Bool). after_alarm_if c (b && is_due c (alarm_in (v.raw.jobs k))) (v.raw.jobs k)) (le-ltb k 0 (omega arith))); rest = refl }
+rang_start c v = record {
+  jobs = λ k. sym (ap (λ (b : Bool). after_alarm_if c (b && is_due c (alarm_in (v.raw.jobs k))) (v.raw.jobs k))
+      (le-ltb k 0 (omega arith)));
+  rest = refl;
+}
 
 pub rang_more : (c n : ℕ) (old mid new : State) → RangBelow c n old mid → RangAt c n mid new → RangBelow c (n + 1) old new
 rang_more c n old mid new a b = record {
@@ -162,18 +174,21 @@ rang_all c v u new e r =
     r2.rest ∙ (λ t. with_raw v (record v.raw { jobs = λ k. r2.jobs k t; clock = c }))
 
 -- alarms have periods
-pub put_periods : (old new : World) (s : ℕ) (a : ℕ × ℕ) → AlarmBecomes old new s (Some a) → Periodic a → ((k : ℕ) → IfSome (alarm_at old.alarms.items k) Periodic)
+pub put_periods : (old new : World) (s : ℕ) (a : ℕ × ℕ) → AlarmBecomes old new s (Some a) → Periodic a
+    → ((k : ℕ) → IfSome (alarm_at old.alarms.items k) Periodic)
     → (k : ℕ) → IfSome (alarm_at new.alarms.items k) Periodic
 put_periods old new s a b h all k = elim (cases_eq k s) [
   | inl e ↦ subst (λ (o : Option (ℕ × ℕ)). IfSome o Periodic) (sym (ap (alarm_at new.alarms.items) e ∙ b.alarms.here)) h
   | inr ne ↦ subst (λ (o : Option (ℕ × ℕ)). IfSome o Periodic) (sym (b.alarms.others k ne)) (all k)
 ]
 
-pub kept_periods : (old new : World) → Alarmed (plain (state_of old)) → plain (state_of new) ≡ plain (state_of old) → Tidy new → (k : ℕ) → IfSome (alarm_at new.alarms.items k) Periodic
+pub kept_periods : (old new : World) → Alarmed (plain (state_of old)) → plain (state_of new) ≡ plain (state_of old) → Tidy new → (k : ℕ)
+    → IfSome (alarm_at new.alarms.items k) Periodic
 kept_periods old new a same tidy k =
     let e : alarm_at new.alarms.items k ≡ alarm_in ((plain (state_of old)).jobs k) =
     alarm_shown new k tidy ∙ sym (alarm_plain (state_of new) k) ∙ ap (λ (m : Machine). alarm_in (m.jobs k)) same in
-    subst (λ (o : Option (ℕ × ℕ)). IfSome o Periodic) (sym e) (coming_periodic (plain (state_of old)).clock (alarm_in ((plain (state_of old)).jobs k)) (a.each k))
+    subst (λ (o : Option (ℕ × ℕ)). IfSome o Periodic) (sym e)
+    (coming_periodic (plain (state_of old)).clock (alarm_in ((plain (state_of old)).jobs k)) (a.each k))
 
 -- the clock is set
 pub clock_state : (old new : World) (c : ℕ) → ClockBecomes old new c → state_of new ≡ with_raw (state_of old) (record (state_of old).raw { clock = c })
@@ -192,7 +207,7 @@ clock_tidy old new c b below tidy = record {
   nameless = λ k h. ap (λ l. symbols_at l.items k) (symbols_as b.rest) ∙ tidy.nameless k (sym (ap (λ t. job_at t k) (jobs_as b.rest)) ∙ h);
   timed = subst (λ t. t < clock_end) (sym (clock_as b.rest)) below;
   across = subst (λ (x : Store). Across x new.jobs) (sym (files_as b.rest)) (subst (Across old.files) (sym (jobs_as b.rest)) tidy.across);
-  ringed = b.ringed tidy.ringed;
+  on_lists = b.on_lists tidy.on_lists;
 }
 
 -- the clock of a world whose plain machine is the same
@@ -204,7 +219,8 @@ clock_still old new c n same e = let t : new.clock ≡ old.clock = ap (λ (m : M
 pub alarm_has : (w : World) (s : ℕ) (o : Option Job) → Tidy w → is_some (alarm_at w.alarms.items s) ≡ true → o ≡ job_at w.jobs s → o ≡ None → ⊥
 alarm_has w s o tidy some e none = let wrong : true ≡ false = sym some ∙ ap is_some (tidy.quiet s (sym e ∙ none)) in cc
 
-pub alr_tidy : (old new : World) (s : ℕ) (i j : Job) (o : Option Job) → o ≡ job_at old.jobs s → o ≡ Some j → i ≡ with_pending j ALR → JobBecomes old new s i → Tidy old → Tidy new
+pub alr_tidy : (old new : World) (s : ℕ) (i j : Job) (o : Option Job) → o ≡ job_at old.jobs s → o ≡ Some j → i ≡ with_pending j ALR
+    → JobBecomes old new s i → Tidy old → Tidy new
 alr_tidy old new s i j o e is same b tidy = tidy_put old new s _ j i _ _ (sym e ∙ is) (ap (λ (k : Job). k.channels) same) b tidy
 
 pub gone_tidy : (old new : World) (s : ℕ) (a : Option (ℕ × ℕ)) → is_some (job_at old.jobs s) ≡ true → AlarmBecomes old new s a → Tidy old → Tidy new

@@ -7,10 +7,10 @@ use Rattle.its_records.specs.declared.session.Event.TheVariants as events
 use Rattle.its_print.specs.Printing.{Line}
 use Rattle.its_print.specs.Printing as printed
 use Rattle.its_plain.specs.Machine.{Machine}
-use Rattle.its_plain.specs.Change.{on_console}
+use Rattle.its_plain.specs.Machine.Change.{on_console}
 use Rattle.its_plain.specs.Operator.{Block, no_block, Does, nobody}
-use Rattle.its_plain.specs.OperatorConsoles.{with_typed, dropped, after_drain}
-use Rattle.its_plain.specs.OperatorLines.{operate, Done, lined}
+use Rattle.its_plain.specs.Operator.Consoles.{with_typed, dropped, after_drain}
+use Rattle.its_plain.specs.Operator.Lines.{operate, Done, lined}
 use Rattle.its_stepped.specs.State.{State, plain}
 use Rattle.its_stepped.specs.Lines.{after_calm, with_raw}
 use Rattle.its_world.specs.World.{console_at, state_of, typed_at, drained_at, ConsoleBecomes}
@@ -28,7 +28,8 @@ pub type_room : (w : World) (c : ℕ) (r : Bool) → (IsTrue r ↔ (length (cons
 unfolding state_of
 type_room w c r h = h
 
-pub drain_first : (w : World) (c : ℕ) (r : Option ℕ) → r ≡ slice_get (console_at w.consoles.items c).output 0 → r ≡ slice_get ((state_of w).raw.consoles c).output 0
+pub drain_first : (w : World) (c : ℕ) (r : Option ℕ) → r ≡ slice_get (console_at w.consoles.items c).output 0
+    → r ≡ slice_get ((state_of w).raw.consoles c).output 0
 unfolding state_of
 drain_first w c r h = h
 
@@ -37,7 +38,8 @@ machine_done : (m n : Machine) (out front : List Line) (t u : ℕ → Bool) (a b
 machine_done m n out front t u a b h = cc
 
 module _ (old new : World) (c : ℕ) (f : Console → Console) (e : Event) (out : Machine → List Line)
-    (line : (m : Machine) → lined m no_block e ≡ Done (Does (on_console m c f) (out m) nobody no_block)) (calm : after_calm (state_of old) no_block e ≡ state_of old)
+    (line : (m : Machine) → lined m no_block e ≡ Done (Does (on_console m c f) (out m) nobody no_block))
+    (calm : after_calm (state_of old) no_block e ≡ state_of old)
     (b : ConsoleBecomes old new c (f (console_at old.consoles.items c))) where
   lands : Lands (state_of old) (state_of new) (Ok (on_console (state_of old).raw c f))
   lands =
@@ -65,7 +67,7 @@ module _ (old new : World) (c : ℕ) (f : Console → Console) (e : Event) (out 
       kept_is new
       (made_sound (state_of old) (state_of new) no_block e kept.sound made)
       (made_forest (state_of old) (state_of new) no_block e kept.sound kept.forest made)
-      (tidy_alike old new (core_as b.rest) (jobs_as b.rest) (files_as b.rest) (alarms_as b.rest) (clock_as b.rest) (symbols_as b.rest) b.ringed kept.tidy)
+      (tidy_alike old new (core_as b.rest) (jobs_as b.rest) (files_as b.rest) (alarms_as b.rest) (clock_as b.rest) (symbols_as b.rest) b.on_lists kept.tidy)
       (λ k. subst (λ (m : Machine). IfSome (m.jobs k) (λ q. q.job.pc < 2 ^ 18)) (sym (plain_done kept)) (kept.addressed k))
       (λ k. subst (λ (m : Machine). IfSome (m.jobs k) (λ q. IfSome q.job.console (λ c. c < 8))) (sym (plain_done kept)) (kept.consoled k))
       (made_timed (state_of old) (state_of new) no_block e kept.sound kept.timed made)

@@ -13,15 +13,16 @@ use Rattle.its_stepped.specs.State.{State, plain}
 use Rattle.its_stepped.specs.Lines.{with_raw}
 use Rattle.its_stepped.specs.Unwind.{unwound, help}
 use Rattle.its_records.specs.Refusals.{reason_of}
-pub use Rattle.its_machine.specs.Refusals.{refusal_of}
-use Rattle.its_world.specs.Filed.{Ringed}
+pub use Rattle.its_shared.specs.Refusals.{refusal_of}
+use Rattle.its_world.specs.Filed.{OnLists}
 use Rattle.its_world.specs.World.{state_of}
 use Rattle.its_pclsr.specs.Apart.{CoresOff}
 use Rattle.its_world.specs.Storage.{OnlyStore}
 use Rattle.its_world.specs.declared.world.World.{World}
 pub use Rattle.its_tick.specs.Kept.{Kept}
 
--- state v after a line that leads to a raw machine: its frames, reserved pages and mark are unchanged
+-- state v after a line that leads to a raw machine: its frames, reserved pages and mark are
+-- unchanged
 pub record Lands (v new : State) (r : Result Machine Reason) : Type 0 where
   pub is : r ≡ Ok new.raw
   pub rest : new ≡ with_raw v new.raw
@@ -31,20 +32,21 @@ pub record Loads (v new : State) (r : Result (Machine × ℕ) Reason) (s : ℕ) 
   pub is : r ≡ Ok (new.raw, s)
   pub rest : new ≡ with_raw v new.raw
 
--- what a line asks of the machine is refused by the plain machine of state w, by its raw machine, and by that of the
--- state v that the line would find
+-- what a line asks of the machine is refused by the plain machine of state w, by its raw machine,
+-- and by that of the state v that the line would find
 pub record Refused {X : Type 0} (w v : State) (f : Machine → Result X Reason) (e : Refusal) : Type 0 where
   pub plain : f (plain w) ≡ Err (reason_of e)
   pub raw : f w.raw ≡ Err (reason_of e)
   pub calmed : f v.raw ≡ Err (reason_of e)
 
--- the same of a line that looks at files: of the plain machine, and of the raw machine once the pending parts of a close are performed,
--- which they are even if the line is refused
+-- the same of a line that looks at files: of the plain machine, and of the raw machine once the
+-- pending parts of a close are performed, which they are even if the line is refused
 pub record FileRefused {X : Type 0} (w : State) (f : Machine → Result X Reason) (e : Refusal) : Type 0 where
   pub plain : f (plain w) ≡ Err (reason_of e)
   pub calmed : f (help w).raw ≡ Err (reason_of e)
 
--- the frames of pages after a word of an a/ line of slot s: by whether page k is there, which else is made
+-- the frames of pages after a word of an a/ line of slot s: by whether page k is there, which else
+-- is made
 abbrev pub frames_loaded : Bool → ℕ → ℕ → Frames → Frames
 frames_loaded true s k f = f
 frames_loaded false s k f = frames_map s s k (frames_reserve s f)
@@ -64,7 +66,8 @@ pub record Calmed (old mid : World) (s : ℕ) : Type 0 where
 abbrev pub undepositable : Bool → Bool → Option Refusal
 undepositable can there = if can then None else (if there then Some refusals.ReadOnly else Some refusals.NoPage)
 
--- why a word cannot be loaded: by whether it can be stored, whether its page is present, and whether there is room
+-- why a word cannot be loaded: by whether it can be stored, whether its page is present, and
+-- whether there is room
 abbrev pub unloadable : Bool → Bool → Bool → Option Refusal
 unloadable can there room = if can then None else (if there then Some refusals.ReadOnly else (if room then None else Some refusals.Full))
 
@@ -78,9 +81,10 @@ pub record Alters (old new : World) (m : Machine) : Type 0 where
   pub pipes : new.pipes ≡ old.pipes
   pub clock : new.clock ≡ old.clock
   pub alarms : new.alarms ≡ old.alarms
-  pub ringed : Ringed old → Ringed new
+  pub on_lists : OnLists old → OnLists new
 
--- the pending parts of a close of a world are performed, and nothing else: jobs, cores, pages and their page frames are as they were
+-- the pending parts of a close of a world are performed, and nothing else: jobs, cores, pages and
+-- their page frames are as they were
 abbrev pub CloseMade : World → World → Type 0
 CloseMade old new = OnlyStore old new (after_help old.files)
 

@@ -1,10 +1,11 @@
--- What CLOCK makes of a world: the jobs whose alarm is due at the new clock are unwound, and then the alarms go.
+-- What CLOCK makes of a world: the jobs whose alarm is due at the new clock are unwound, and then
+-- the alarms go.
 -- No promise rests on this.
 use Rattle.std.specs.Prelude.{◌==◌, ◌≡◌, ◌+◌, ◌-◌, ◌&&◌, ℕ, Bool, filter, nat_lt}
 use Rattle.std.specs.List.{range_with_len}
 use Rattle.its_word.specs.Limits.{slots}
-use Rattle.its_plain.specs.Alarm.{is_due}
-use Rattle.its_plain.specs.OperatorClock.{alarm_in, due, due_slots, after_alarm_if}
+use Rattle.its_plain.specs.Machine.Alarm.{is_due}
+use Rattle.its_plain.specs.Operator.Clock.{alarm_in, due, due_slots, after_alarm_if}
 use Rattle.its_stepped.specs.Lines.{with_raw}
 use Rattle.its_stepped.specs.Sound.{Sound}
 use Rattle.its_stepped.specs.State.{State, plain}
@@ -27,7 +28,8 @@ pub record Rousing (c n : ℕ) (old new : World) : Type 0 where
   pub pages : pages_unwound (filter (due c (state_of old).raw.jobs) (range_with_len n (slots - n))) (state_of new) new.core.frames
       ≡ pages_unwound (due_slots c (state_of old).raw.jobs) (state_of old) old.core.frames
 
--- the alarms that are due at clock c of slots that pass a test have gone, and nothing else has changed
+-- the alarms that are due at clock c of slots that pass a test have gone, and nothing else has
+-- changed
 pub record Rang (c : ℕ) (test : ℕ → Bool) (old new : State) : Type 0 where
   pub jobs : (k : ℕ) → new.raw.jobs k ≡ after_alarm_if c (test k && is_due c (alarm_in (old.raw.jobs k))) (old.raw.jobs k)
   pub rest : new ≡ with_raw old (record old.raw { jobs = new.raw.jobs })

@@ -2,10 +2,10 @@
 ghost use Rattle.std.specs.Prelude.{◌≡◌, ◌<◌, ◌≤◌, ◌+◌, ℕ, true, Some, Ok, IfSome, OnOk, OnErr, IfErr, is_some, nat_lt};
 ghost use Rattle.its_word.specs.Limits.{slots};
 ghost use Rattle.its_jobs.specs.Table.{job_at};
-ghost use Rattle.its_plain.specs.Alarm.{is_due, time_after};
-ghost use Rattle.its_plain.specs.Job.{ALR as ALR_BIT, with_pending};
-ghost use Rattle.its_plain.specs.OperatorClock.{after_clock, clock_end, due_slots};
-ghost use Rattle.its_plain.specs.Own.{with_registers};
+ghost use Rattle.its_plain.specs.Machine.Alarm.{is_due, time_after};
+ghost use Rattle.its_plain.specs.Machine.Registers.{ALR as ALR_BIT, with_pending};
+ghost use Rattle.its_plain.specs.Operator.Clock.{after_clock, clock_end, due_slots};
+ghost use Rattle.its_plain.specs.Machine.Own.{with_registers};
 ghost use Rattle.its_stepped.specs.Alarmed.{Periodic};
 ghost use Rattle.its_stepped.specs.Lines.{with_raw};
 ghost use Rattle.its_stepped.specs.State.{plain};
@@ -18,18 +18,17 @@ ghost use Rattle.its_monitor.specs.Kept.{Kept, Lands, Refused};
 ghost use Rattle.its_monitor.specs.Rung.{roused, RangAt, RangBelow};
 
 use super::monitor::Monitor;
-use its_machine::{time_after, with_alr};
 use its_pclsr::unwind;
+use its_plain::CLOCK_END;
 use its_records::Refusal;
+use its_shared::{time_after, with_alr};
 use its_word::{SLOTS, Slot};
 use its_world::World;
 
-/// The clock stays below this many thirtieths.
-const CLOCK_END: u64 = 0o200000000000;
-
 impl Monitor {
-    /// CLOCK: the clock gains n thirtieths. The jobs whose alarm is due at the new clock are unwound, in the order of their slots; then ALR
-    /// is set in each of them, once, and the next time of its alarm gains the least multiple of its period that brings it above the clock.
+    /// CLOCK: the clock gains n thirtieths. The jobs whose alarm is due at the new clock are
+    /// unwound, in the order of their slots; then ALR is set in each of them, once, and the next
+    /// time of its alarm gains the least multiple of its period that brings it above the clock.
     /// Range if the clock would reach 2^34; then nothing changes.
     #[tactic(auto, using(crate::proofs::ClockLaws::clock_refused))]
     pub fn advance(&mut self, n: u64) -> Result<(), Refusal>
@@ -46,7 +45,7 @@ impl Monitor {
             let clock = world.clock + n;
             unwind_due(world, clock);
             set_clock(world, clock);
-            ring(world, clock);
+            alarms_go_off(world, clock);
             Ok(())
         } else {
             Err(Refusal::Range)
@@ -105,7 +104,7 @@ fn set_clock(w: &mut World, clock: u64)
 
 /// The alarms that are due at a clock go.
 #[tactic(auto, using(crate::proofs::RungLaws::rang_start))]
-fn ring(w: &mut World, clock: u64)
+fn alarms_go_off(w: &mut World, clock: u64)
     requires below { clock < clock_end }
     requires periods { (k : ℕ) → IfSome (alarm_at w.old.alarms.items k) Periodic }
     requires tidy { Tidy w.old }
@@ -114,13 +113,13 @@ fn ring(w: &mut World, clock: u64)
     ensures tidy { Tidy w.new }
 {
     for slot in 0..SLOTS as u8 {
-        ring_slot(w, Slot::new(slot), clock);
+        alarm_goes_off(w, Slot::new(slot), clock);
     }
 }
 
 /// The alarm of a slot's job goes, if it is due at a clock.
 #[tactic(auto, using(crate::proofs::RungLaws::still_none, crate::proofs::RungLaws::still_some))]
-fn ring_slot(w: &mut World, slot: Slot, clock: u64)
+fn alarm_goes_off(w: &mut World, slot: Slot, clock: u64)
     requires below { clock < clock_end }
     requires periods { (k : ℕ) → IfSome (alarm_at w.old.alarms.items k) Periodic }
     requires tidy { Tidy w.old }

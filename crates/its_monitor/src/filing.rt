@@ -1,8 +1,9 @@
+//! The files that the operator reads and makes: DIR, SHOW and FILE.
 ghost use Rattle.std.specs.Prelude.{◌≡◌, ◌<◌, true, Some, None, Ok, Err, IfSome, IfOk, OnOk, OnErr, IfErr, is_some, option_map, length, slice_get};
 ghost use Rattle.its_files.specs.Files.{entry_at, is_file, names_at, words_at, found, after_help, directory, file_at, most_files};
-ghost use Rattle.its_plain.specs.Own.{names_of};
-ghost use Rattle.its_plain.specs.CallFile.{file_named};
-ghost use Rattle.its_plain.specs.OperatorFiles.{is_in, files_in, show_of, with_file_made, with_word_added};
+ghost use Rattle.its_plain.specs.Machine.Own.{names_of};
+ghost use Rattle.its_plain.specs.Call.File.{file_named};
+ghost use Rattle.its_plain.specs.Operator.Files.{is_in, files_in, show_of, with_file_made, with_word_added};
 ghost use Rattle.its_stepped.specs.State.{plain};
 ghost use Rattle.its_stepped.specs.Unwind.{help};
 ghost use Rattle.its_world.specs.World.{state_of, plain_of};
@@ -12,16 +13,14 @@ ghost use Rattle.its_monitor.specs.Kept.{Kept, Lands, Helped, FileRefused, Close
 ghost use Rattle.its_monitor.specs.Filing.{word_if, length_if};
 
 use super::monitor::Monitor;
+use its_files::MOST_FILES;
 use its_records::{FileShow, Refusal};
 use its_word::Word;
 use its_world::World;
 
-/// How many files there are at most.
-const FILES: u32 = 256;
-
 impl Monitor {
-    /// One line of DIR: the k-th file of a directory, from 0, in the order of its files; None past the last. The pending parts of a close
-    /// are performed first.
+    /// One line of DIR: the k-th file of a directory, from 0, in the order of its files; None past
+    /// the last. The pending parts of a close are performed first.
     #[tactic(auto, using(crate::proofs::DirLaws::dir_shown, crate::proofs::DirLaws::dir_past, crate::proofs::FileLaws::helped_plain))]
     pub fn dir(&mut self, d: Word, k: u32) -> Option<FileShow>
         requires kept { Kept self.old.world }
@@ -40,7 +39,8 @@ impl Monitor {
         }
     }
 
-    /// The number of the file with a directory and two names. NoFile if there is none. The pending parts of a close are performed first.
+    /// The number of the file with a directory and two names. NoFile if there is none. The pending
+    /// parts of a close are performed first.
     #[tactic(auto, using(crate::proofs::FileLaws::file_found, crate::proofs::FileLaws::file_absent, crate::proofs::FileLaws::helped_plain))]
     pub fn file(&mut self, d: Word, x: Word, y: Word) -> Result<u32, Refusal>
         requires kept { Kept self.old.world }
@@ -61,8 +61,8 @@ impl Monitor {
         }
     }
 
-    /// The k-th word of a file, from 0; None past the last, and if no file has this number. The pending parts of a close are performed
-    /// first.
+    /// The k-th word of a file, from 0; None past the last, and if no file has this number. The
+    /// pending parts of a close are performed first.
     #[tactic(auto, using(crate::proofs::FileLaws::helped_plain))]
     pub fn file_word(&mut self, id: u32, k: u32) -> Option<Word>
         requires kept { Kept self.old.world }
@@ -81,7 +81,8 @@ impl Monitor {
         world.files.word_at(id, k)
     }
 
-    /// How many words a file has; None if no file has this number. The pending parts of a close are performed first.
+    /// How many words a file has; None if no file has this number. The pending parts of a close are
+    /// performed first.
     #[tactic(auto, using(crate::proofs::FileLaws::helped_plain))]
     pub fn file_length(&mut self, id: u32) -> Option<u32>
         requires kept { Kept self.old.world }
@@ -100,9 +101,10 @@ impl Monitor {
         Some(world.files.length(id))
     }
 
-    /// FILE: makes a file of no words, the last in order, and answers its number. Exists if a file has these names; Full if there are 256
-    /// files. The pending parts of a close are performed first.
-    #[tactic(auto, using(crate::proofs::FileLaws::new_done, crate::proofs::FileLaws::new_plain, crate::proofs::FileLaws::new_kept, crate::proofs::FileLaws::new_exists, crate::proofs::FileLaws::new_full, crate::proofs::FileLaws::helped_unmarked))]
+    /// FILE: makes a file of no words, the last in order, and answers its number. Exists if a file
+    /// has these names; Full if there are 256 files. The pending parts of a close are performed
+    /// first.
+    #[tactic(auto, using(crate::proofs::Groups::file_new_laws))]
     pub fn file_new(&mut self, d: Word, x: Word, y: Word) -> Result<u32, Refusal>
         requires kept { Kept self.old.world }
         ensures done { OnOk result (Lands (help (state_of self.old.world)) (state_of self.new.world) (with_file_made (help (state_of self.old.world)).raw (names_of d x y))) }
@@ -121,14 +123,14 @@ impl Monitor {
         if world.files.find(d, x, y).is_some() {
             return Err(Refusal::Exists);
         }
-        if world.files.count() >= FILES {
+        if world.files.count() >= MOST_FILES {
             return Err(Refusal::Full);
         }
         Ok(make_file(world, d, x, y))
     }
 
-    /// One word of a `/` line: one more word at the end of a file. Full if it needs a block and 2048 are in use. The pending parts of a
-    /// close are performed first.
+    /// One word of a `/` line: one more word at the end of a file. Full if it needs a block and
+    /// 2048 are in use. The pending parts of a close are performed first.
     #[tactic(auto, using(crate::proofs::FileLaws::more_done, crate::proofs::FileLaws::more_plain, crate::proofs::FileLaws::more_refused, crate::proofs::FileLaws::helped_unmarked))]
     pub fn file_add(&mut self, id: u32, w: Word) -> Result<(), Refusal>
         requires file { is_file (entry_at (after_help self.old.world.files) id) ≡ true }
@@ -160,7 +162,7 @@ fn help(w: &mut World)
     make_parts(w);
 }
 
-/// The same of the files alone.
+/// Performs the pending parts of a close on the files.
 fn make_parts(w: &mut World)
     ensures { CloseMade w.old w.new }
 {

@@ -1,7 +1,8 @@
+//! LOAD: a new job with its superior and its console.
 ghost use Rattle.std.specs.Prelude.{◌≡◌, Some, None, Ok, IfOk, OnErr, IfErr};
 ghost use Rattle.its_records.specs.Tree.{least_free};
 ghost use Rattle.its_jobs.specs.Table.{job_at};
-ghost use Rattle.its_plain.specs.OperatorJobs.{after_load, with_holder};
+ghost use Rattle.its_plain.specs.Operator.Jobs.{after_load, with_holder};
 ghost use Rattle.its_stepped.specs.State.{plain};
 ghost use Rattle.its_world.specs.World.{state_of, plain_of};
 ghost use Rattle.its_monitor.specs.Kept.{Kept, Loads, Alters, Refused};
@@ -14,9 +15,9 @@ use its_word::{ConsoleNumber, Slot, Word};
 use its_world::World;
 
 impl Monitor {
-    /// LOAD: makes a stopped job with these names and this console in the least empty slot, which it answers. It
-    /// becomes the holder of its console, if that has none. Full if there are as many jobs as there can be, 64, or 96
-    /// in version 2.
+    /// LOAD: makes a stopped job with these names and this console in the least empty slot, which
+    /// it answers. It becomes the holder of its console, if that has none. Full if there are as
+    /// many jobs as there can be, 64, or 96 in version 2.
     #[tactic(auto, using(crate::proofs::StartLaws::load_done, crate::proofs::StartLaws::load_plain, crate::proofs::StartLaws::load_kept, crate::proofs::StartLaws::load_full))]
     pub fn load_job(
         &mut self,
@@ -67,7 +68,7 @@ fn hold_console(w: &mut World, slot: Slot, console: Option<ConsoleNumber>)
     }
 }
 
-/// The same of this console.
+/// Makes the job of a slot the holder of this console, if it has none.
 #[tactic(auto, using(crate::proofs::StartLaws::console_held, crate::proofs::StartLaws::console_given))]
 fn hold_free(w: &mut World, slot: Slot, c: ConsoleNumber)
     ensures { Alters w.old w.new (with_holder (state_of w.old).raw slot (Some c)) }

@@ -1,7 +1,8 @@
+//! Pages that the operator makes read only (RO), and the words that they bar.
 ghost use Rattle.std.specs.Prelude.{◌≡◌, ◌<◌, ◌≤◌, ◌+◌, ◌^◌, true, false, Ok, OnOk, OnErr, IfErr, is_some};
 ghost use Rattle.its_word.specs.Core.{page_of, with_page, marked};
 ghost use Rattle.its_core.specs.Cores.{core_at};
-ghost use Rattle.its_plain.specs.OperatorJobs.{any_barred, is_barred, with_page_protected, words_barred};
+ghost use Rattle.its_plain.specs.Operator.Jobs.{any_barred, is_barred, with_page_protected, words_barred};
 ghost use Rattle.its_stepped.specs.State.{plain};
 ghost use Rattle.its_stepped.specs.Unwind.{unwound};
 ghost use Rattle.its_world.specs.World.{state_of, CoreBecomes, plain_of};
@@ -15,8 +16,9 @@ use its_word::{Fault, Slot};
 use its_world::World;
 
 impl Monitor {
-    /// RO: a page of a slot's job becomes read only. NoJob if the slot is empty, NoPage if the page is absent.
-    #[tactic(auto, using(crate::proofs::ProtectLaws::read_only_done, crate::proofs::ProtectLaws::read_only_plain, crate::proofs::ProtectLaws::read_only_kept, crate::proofs::ProtectLaws::read_only_absent, crate::proofs::ProtectLaws::read_only_none, crate::proofs::ProtectLaws::page_there, crate::proofs::KeptLaws::stored_off))]
+    /// RO: a page of a slot's job becomes read only. NoJob if the slot is empty, NoPage if the page
+    /// is absent.
+    #[tactic(auto, using(crate::proofs::Groups::read_only_laws))]
     pub fn read_only(&mut self, slot: Slot, page: u8) -> Result<(), Refusal>
         requires kept { Kept self.old.world }
         ensures done { OnOk result (Lands (unwound (state_of self.old.world) slot) (state_of self.new.world) (with_page_protected (unwound (state_of self.old.world) slot).raw slot page)) }
@@ -36,8 +38,8 @@ impl Monitor {
         Ok(())
     }
 
-    /// Whether any of n words of a slot from an address on is on a read-only page: then an `a/` line of n words there is
-    /// refused, before any of them is stored. False if the slot is empty.
+    /// Whether any of n words of a slot from an address on is on a read-only page: then an `a/`
+    /// line of n words there is refused, before any of them is stored. False if the slot is empty.
     #[tactic(auto, using(crate::proofs::ProtectLaws::calm_some, crate::proofs::ProtectLaws::calm_none, crate::proofs::ProtectLaws::plain_some, crate::proofs::ProtectLaws::plain_none))]
     pub fn barred(&self, slot: Slot, a: u32, n: u32) -> bool
         requires end { a + n ≤ 2 ^ 18 }
@@ -53,7 +55,7 @@ impl Monitor {
     }
 }
 
-/// The same of a slot's core.
+/// Whether an `a/` line would store a word on a read-only page of a slot's core.
 #[tactic(auto, using(its_plain::proofs::BarredLaws::any_start, its_plain::proofs::BarredLaws::any_here, its_plain::proofs::BarredLaws::any_next, its_plain::proofs::BarredLaws::any_end))]
 fn any_barred(w: &World, slot: Slot, a: u32, n: u32) -> bool
     requires end { a + n ≤ 2 ^ 18 }

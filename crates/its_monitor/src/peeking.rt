@@ -1,8 +1,9 @@
+//! PEEK: how far a job is inside a call.
 ghost use Rattle.std.specs.Prelude.{◌≡◌, true, Some, None, IfOk, OnOk, IfErr, is_some};
-ghost use Rattle.its_calls.specs.Calls.{frame_seen};
+ghost use Rattle.its_in_call.specs.Calls.{frame_seen};
 ghost use Rattle.its_core.specs.Cores.{core_at};
-ghost use Rattle.its_plain.specs.Arguments.{place_of_input};
-ghost use Rattle.its_plain.specs.Decide.{call_named};
+ghost use Rattle.its_plain.specs.Call.Arguments.{place_of_input};
+ghost use Rattle.its_plain.specs.Call.Decide.{call_named};
 ghost use Rattle.its_stepped.specs.State.{mine};
 ghost use Rattle.its_stepped.specs.Lines.{peeked, state_shown, name_shown, name_read, first_shown, second_shown, word_of_input, word_shown, ask_in, byte_shown};
 ghost use Rattle.its_world.specs.World.{state_of, plain_of};
@@ -10,8 +11,8 @@ ghost use Rattle.its_monitor.specs.Kept.{Kept};
 ghost use Rattle.its_monitor.specs.Peeking.{Shows};
 
 use super::monitor::Monitor;
-use its_calls::View;
 use its_frame::CallName;
+use its_in_call::View;
 use its_records::{Ask, Peek, PeekState, Refusal, Site};
 use its_word::{Slot, Word};
 use its_world::World;

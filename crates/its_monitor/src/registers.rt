@@ -1,6 +1,7 @@
+//! What an operator does with a job's registers: GO, STOP, CONT, INT and STATE.
 ghost use Rattle.std.specs.Prelude.{◌≡◌, ◌<◌, ◌^◌, true, false, Some, None, Ok, IfOk, OnOk, OnErr, IfErr};
 ghost use Rattle.its_jobs.specs.Table.{job_at};
-ghost use Rattle.its_plain.specs.OperatorJobs.{on_registers, after_go, after_stop, after_cont, after_int, state_shown, shown};
+ghost use Rattle.its_plain.specs.Operator.Jobs.{on_registers, after_go, after_stop, after_cont, after_int, state_shown, shown};
 ghost use Rattle.its_stepped.specs.State.{plain};
 ghost use Rattle.its_stepped.specs.Unwind.{unwound};
 ghost use Rattle.its_world.specs.World.{state_of, plain_of};
@@ -9,15 +10,15 @@ ghost use Rattle.its_monitor.specs.Kept.{Kept, Lands, Refused, Calm};
 
 use super::monitor::Monitor;
 use super::symbols::near;
-use its_machine::shown;
 use its_pclsr::unwind;
 use its_records::{Job, JobShow, Refusal};
+use its_shared::shown;
 use its_word::{FATAL, Slot, Word};
 use its_world::World;
 
 impl Monitor {
     /// GO: starts a slot's job at an address, with no flags. NoJob if the slot is empty.
-    #[tactic(auto, using(crate::proofs::RegisterLaws::go_done, crate::proofs::RegisterLaws::go_plain, crate::proofs::RegisterLaws::go_kept, crate::proofs::RegisterLaws::registers_refused, crate::proofs::KeptLaws::registers_off))]
+    #[tactic(auto, using(crate::proofs::Groups::go_laws))]
     pub fn go(&mut self, slot: Slot, a: u32) -> Result<(), Refusal>
         requires address { a < 2 ^ 18 }
         requires kept { Kept self.old.world }
@@ -38,7 +39,7 @@ impl Monitor {
     }
 
     /// STOP: sets the stopped mark of a slot's job. NoJob if the slot is empty.
-    #[tactic(auto, using(crate::proofs::RegisterLaws::stop_done, crate::proofs::RegisterLaws::stop_plain, crate::proofs::RegisterLaws::stop_kept, crate::proofs::RegisterLaws::registers_refused, crate::proofs::KeptLaws::registers_off))]
+    #[tactic(auto, using(crate::proofs::Groups::stop_laws))]
     pub fn stop(&mut self, slot: Slot) -> Result<(), Refusal>
         requires kept { Kept self.old.world }
         ensures done { OnOk result (Lands (unwound (state_of self.old.world) slot) (state_of self.new.world) (on_registers (unwound (state_of self.old.world) slot).raw slot after_stop)) }
@@ -56,7 +57,7 @@ impl Monitor {
     }
 
     /// CONT: lets a slot's job run, with no fatal bit pending. NoJob if the slot is empty.
-    #[tactic(auto, using(crate::proofs::RegisterLaws::cont_done, crate::proofs::RegisterLaws::cont_plain, crate::proofs::RegisterLaws::cont_kept, crate::proofs::RegisterLaws::registers_refused, crate::proofs::KeptLaws::registers_off))]
+    #[tactic(auto, using(crate::proofs::Groups::cont_laws))]
     pub fn cont(&mut self, slot: Slot) -> Result<(), Refusal>
         requires kept { Kept self.old.world }
         ensures done { OnOk result (Lands (unwound (state_of self.old.world) slot) (state_of self.new.world) (on_registers (unwound (state_of self.old.world) slot).raw slot after_cont)) }
@@ -72,8 +73,9 @@ impl Monitor {
         Ok(())
     }
 
-    /// INT: sets bits of the pending words of a slot's job in addition to those that are set. NoJob if the slot is empty.
-    #[tactic(auto, using(crate::proofs::RegisterLaws::interrupt_done, crate::proofs::RegisterLaws::interrupt_plain, crate::proofs::RegisterLaws::interrupt_kept, crate::proofs::RegisterLaws::registers_refused, crate::proofs::KeptLaws::registers_off))]
+    /// INT: sets bits of the pending words of a slot's job in addition to those that are set. NoJob
+    /// if the slot is empty.
+    #[tactic(auto, using(crate::proofs::Groups::interrupt_laws))]
     pub fn interrupt(&mut self, slot: Slot, v: Word, w: Word) -> Result<(), Refusal>
         requires kept { Kept self.old.world }
         ensures done { OnOk result (Lands (unwound (state_of self.old.world) slot) (state_of self.new.world) (on_registers (unwound (state_of self.old.world) slot).raw slot (after_int v w))) }
@@ -90,7 +92,7 @@ impl Monitor {
     }
 
     /// STATE: what is shown of a slot's job. NoJob if the slot is empty.
-    #[tactic(auto, using(crate::proofs::RegisterLaws::state_found, crate::proofs::RegisterLaws::state_plain, crate::proofs::RegisterLaws::state_refused, crate::proofs::KeptLaws::calm_same, crate::proofs::KeptLaws::calm_off))]
+    #[tactic(auto, using(crate::proofs::Groups::state_laws))]
     pub fn state(&mut self, slot: Slot) -> Result<JobShow, Refusal>
         requires kept { Kept self.old.world }
         ensures shown { IfOk result (λ x. state_shown (unwound (state_of self.old.world) slot).raw slot ≡ Ok x) }

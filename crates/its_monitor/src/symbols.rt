@@ -1,21 +1,22 @@
+//! The symbols that SYM gives a job, and the version that a session sets.
 ghost use Rattle.std.specs.Prelude.{◌≡◌, ◌≤◌, Ok, IfOk, OnOk, OnErr, IfErr, nat_lt, length};
 ghost use Rattle.its_word.specs.Limits.{most_symbols};
-ghost use Rattle.its_plain.specs.OperatorSymbols.{symbol_shown, with_symbol_kept};
-ghost use Rattle.its_plain.specs.OperatorVersion.{with_version};
+ghost use Rattle.its_plain.specs.Operator.Symbols.{symbol_shown, with_symbol_kept};
+ghost use Rattle.its_plain.specs.Operator.Version.{with_version};
 ghost use Rattle.its_stepped.specs.State.{plain};
 ghost use Rattle.its_world.specs.World.{state_of, symbols_at, plain_of};
 ghost use Rattle.its_monitor.specs.Kept.{Kept, Lands, Refused};
 
 use super::monitor::Monitor;
 use super::words::present;
-use its_machine::{MOST_SYMBOLS, nearest};
 use its_records::Refusal;
-use its_word::{Slot, Word};
+use its_shared::nearest;
+use its_word::{MOST_SYMBOLS, Slot, Word};
 use its_world::World;
 
 impl Monitor {
-    /// VERSION: if no slot has a job, the machine becomes one of this version, which can have 64 jobs, or 96 in version 2;
-    /// else it stays as it is.
+    /// VERSION: if no slot has a job, the machine becomes one of this version, which can have 64
+    /// jobs, or 96 in version 2; else it stays as it is.
     #[tactic(auto, using(crate::proofs::SymbolLaws::version_plain, crate::proofs::SymbolLaws::version_kept, crate::proofs::SymbolLaws::version_stays, crate::proofs::SymbolLaws::version_same))]
     pub fn version(&mut self, v: u8)
         requires known { (1 ≤ v) × (v ≤ 2) }
@@ -31,9 +32,9 @@ impl Monitor {
         }
     }
 
-    /// SYM: a slot's job keeps a symbol, the last. NoJob if the slot is empty, Full if the job has 512. The job is not
-    /// disturbed.
-    #[tactic(auto, using(crate::proofs::SymbolLaws::symbol_done, crate::proofs::SymbolLaws::symbol_plain, crate::proofs::SymbolLaws::symbol_keeps, crate::proofs::SymbolLaws::symbol_full, crate::proofs::SymbolLaws::symbol_none))]
+    /// SYM: a slot's job keeps a symbol, the last. NoJob if the slot is empty, Full if the job has
+    /// 512. The job is not disturbed.
+    #[tactic(auto, using(crate::proofs::Groups::symbol_laws))]
     pub fn symbol(&mut self, slot: Slot, name: Word, a: u32) -> Result<(), Refusal>
         requires kept { Kept self.old.world }
         ensures done { OnOk result (Lands (state_of self.old.world) (state_of self.new.world) (with_symbol_kept (state_of self.old.world).raw slot name a)) }

@@ -1,6 +1,7 @@
+//! TYPE and DRAIN, byte by byte.
 ghost use Rattle.std.specs.Prelude.{◌≡◌, ◌<◌, ◌↔◌, ◌∷◌, [], Ok, IsTrue, length, slice_get};
 ghost use Rattle.its_word.specs.Console.{most_waiting};
-ghost use Rattle.its_plain.specs.OperatorConsoles.{with_typed, after_drain};
+ghost use Rattle.its_plain.specs.Operator.Consoles.{with_typed, after_drain};
 ghost use Rattle.its_stepped.specs.State.{plain};
 ghost use Rattle.its_world.specs.World.{state_of, plain_of};
 ghost use Rattle.its_monitor.specs.Kept.{Kept, Lands};
@@ -9,7 +10,8 @@ use super::monitor::Monitor;
 use its_word::ConsoleNumber;
 
 impl Monitor {
-    /// One byte of a TYPE line, typed at a console. False if 64 typed bytes wait; the byte is then dropped.
+    /// One byte of a TYPE line, typed at a console. False if 64 typed bytes wait; the byte is then
+    /// dropped.
     #[tactic(auto, using(crate::proofs::TypingLaws::type_room, crate::proofs::TypingLaws::type_lands, crate::proofs::TypingLaws::type_plain))]
     pub fn type_in(&mut self, console: ConsoleNumber, b: u8) -> bool
         requires kept { Kept self.old.world }

@@ -1,16 +1,17 @@
+//! The words of a job's core: EXAM, DEPOSIT and the words of LOAD.
 ghost use Rattle.std.specs.Prelude.{◌≡◌, ◌≤◌, ◌<◌, ◌/◌, ◌^◌, true, Some, None, Ok, Err, IfOk, OnOk, OnErr, IfErr, is_some, nat_lt};
 ghost use Rattle.its_word.specs.Limits.{most_pages};
 ghost use Rattle.its_word.specs.Core.{store, can_store, word_at, page_of, with_page, zero_page, pages_mapped};
 ghost use Rattle.its_core.specs.Cores.{core_at, clear_at};
 ghost use Rattle.its_core.specs.Frames.{frames_map, frames_reserve};
 ghost use Rattle.its_jobs.specs.Table.{job_at};
-ghost use Rattle.its_plain.specs.OperatorJobs.{with_word_loaded, word_seen, after_deposit};
+ghost use Rattle.its_plain.specs.Operator.Jobs.{with_word_loaded, word_seen, after_deposit};
 ghost use Rattle.its_plain.specs.Machine.{core_of};
 ghost use Rattle.its_stepped.specs.State.{plain};
 ghost use Rattle.its_stepped.specs.Unwind.{unwound};
 ghost use Rattle.its_world.specs.World.{state_of, frames_after, with_frames, CoreBecomes, plain_of};
 ghost use Rattle.its_pclsr.specs.Apart.{CoresOff};
-ghost use Rattle.its_machine.specs.Refusals.{refusal_of};
+ghost use Rattle.its_shared.specs.Refusals.{refusal_of};
 ghost use Rattle.its_monitor.specs.Kept.{Kept, Lands, Refused, Calmed, undepositable, unloadable, frames_loaded};
 
 use super::monitor::Monitor;
@@ -20,8 +21,9 @@ use its_word::{Fault, MAPPED_PAGES, NoAccess, Slot, Word};
 use its_world::World;
 
 impl Monitor {
-    /// EXAM: the word at an address of a slot. NoJob if the slot is empty, NoPage if the page is absent.
-    #[tactic(auto, using(crate::proofs::WordLaws::exam_none, crate::proofs::WordLaws::exam_refused, crate::proofs::WordLaws::exam_there, crate::proofs::WordLaws::exam_found, crate::proofs::WordLaws::exam_plain, crate::proofs::KeptLaws::calmed_same, crate::proofs::KeptLaws::calmed_off))]
+    /// EXAM: the word at an address of a slot. NoJob if the slot is empty, NoPage if the page is
+    /// absent.
+    #[tactic(auto, using(crate::proofs::Groups::exam_laws))]
     pub fn exam(&mut self, slot: Slot, a: u32) -> Result<Word, Refusal>
         requires address { a < 2 ^ 18 }
         requires kept { Kept self.old.world }
@@ -47,9 +49,9 @@ impl Monitor {
         }
     }
 
-    /// DEPOSIT: stores a word of a slot. NoJob if the slot is empty; NoPage if the page is absent, ReadOnly if it is read
-    /// only.
-    #[tactic(auto, using(crate::proofs::WordLaws::deposit_none, crate::proofs::WordLaws::deposit_refused, crate::proofs::WordLaws::deposit_can, crate::proofs::WordLaws::deposit_done, crate::proofs::WordLaws::deposit_plain, crate::proofs::WordLaws::deposit_kept, crate::proofs::KeptLaws::stored_off))]
+    /// DEPOSIT: stores a word of a slot. NoJob if the slot is empty; NoPage if the page is absent,
+    /// ReadOnly if it is read only.
+    #[tactic(auto, using(crate::proofs::Groups::deposit_laws))]
     pub fn deposit(&mut self, slot: Slot, a: u32, w: Word) -> Result<(), Refusal>
         requires address { a < 2 ^ 18 }
         requires kept { Kept self.old.world }
@@ -71,9 +73,10 @@ impl Monitor {
         Ok(())
     }
 
-    /// One word of an a/ line: an absent page is made, writable and of zeros. NoJob if the slot is empty; ReadOnly if the
-    /// page is read only; Full if a page is needed and 1024 pages are mapped.
-    #[tactic(auto, using(crate::proofs::LoadLaws::load_none, crate::proofs::LoadLaws::load_refused, crate::proofs::LoadLaws::load_clear, crate::proofs::LoadLaws::load_writable, crate::proofs::LoadLaws::load_room, crate::proofs::LoadLaws::load_unreserved, crate::proofs::LoadLaws::load_stored, crate::proofs::LoadLaws::load_made, crate::proofs::LoadLaws::load_plain, crate::proofs::LoadLaws::load_kept))]
+    /// One word of an a/ line: an absent page is made, writable and of zeros. NoJob if the slot is
+    /// empty; ReadOnly if the page is read only; Full if a page is needed and 1024 pages are
+    /// mapped.
+    #[tactic(auto, using(crate::proofs::Groups::load_word_laws))]
     pub fn load_word(&mut self, slot: Slot, a: u32, w: Word) -> Result<(), Refusal>
         requires address { a < 2 ^ 18 }
         requires kept { Kept self.old.world }

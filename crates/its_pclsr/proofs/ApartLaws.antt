@@ -14,7 +14,8 @@ use Rattle.its_pclsr.specs.Apart.{CoresOff}
 pub off_same : (w : World) (s : ℕ) → CoresOff w w s
 off_same w s = record { others = λ k n. refl; unreserved = λ h. h; pages = sym (frames_still (clear_at w.core s) s w.core.frames) }
 
-off_by : (old new : World) (s : ℕ) (c : Core) (j : Option Job) (f : Option Frame) (r : Option ℕ) → (clear_at old.core s ≡ None → r ≡ None) → Becomes old new s c j f r → CoresOff old new s
+off_by : (old new : World) (s : ℕ) (c : Core) (j : Option Job) (f : Option Frame) (r : Option ℕ) → (clear_at old.core s ≡ None → r ≡ None)
+    → Becomes old new s c j f r → CoresOff old new s
 off_by old new s c j f r less b = record {
   others = b.core.others;
   unreserved = λ h. b.reserved.here ∙ less h;
@@ -31,11 +32,13 @@ pub off_alike : (old new : World) (s : ℕ) → new.core ≡ old.core → CoresO
 off_alike old new s e = record {
   others = λ k n. ap (λ c. core_at c k) e;
   unreserved = λ h. ap (λ c. clear_at c s) e ∙ h;
-  pages = ap (λ c. c.frames) e ∙ sym (frames_still (clear_at old.core s) s old.core.frames) ∙ ap (λ c. frames_after (clear_at old.core s) (clear_at c s) s old.core.frames) (sym e);
+  pages = ap (λ c. c.frames) e ∙ sym (frames_still (clear_at old.core s) s old.core.frames)
+      ∙ ap (λ c. frames_after (clear_at old.core s) (clear_at c s) s old.core.frames) (sym e);
 }
 
 -- a page that is given back is not reserved anew
-frames_then : (o p r : Option ℕ) (s : ℕ) (f : Frames) → (o ≡ None → p ≡ None) → (p ≡ None → r ≡ None) → frames_after p r s (frames_after o p s f) ≡ frames_after o r s f
+frames_then : (o p r : Option ℕ) (s : ℕ) (f : Frames) → (o ≡ None → p ≡ None) → (p ≡ None → r ≡ None)
+    → frames_after p r s (frames_after o p s f) ≡ frames_after o r s f
 frames_then None None None s f a b = refl
 frames_then (Some i) (Some k) (Some n) s f a b = refl
 frames_then (Some i) (Some k) None s f a b = refl

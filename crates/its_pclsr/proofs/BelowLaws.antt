@@ -7,13 +7,13 @@ use Rattle.std.proofs.lemmas.List.FromFn.{length-range_with_len}
 use Rattle.its_word.specs.Limits.{slots}
 use Rattle.its_records.specs.Tree.{is_below, slots_below}
 use Rattle.its_jobs.specs.Table.{superior_at, IsTree}
-use Rattle.its_plain.specs.Change.{superiors}
+use Rattle.its_plain.specs.Machine.Change.{superiors}
 use Rattle.its_plain.specs.Machine.{Machine}
 use Rattle.its_stepped.specs.Sound.{Sound}
 use Rattle.its_stepped.specs.State.{State, plain}
 use Rattle.its_stepped.specs.Unwind.{unwound, all_unwound}
-use Rattle.its_stepped.proofs.EffectLaws.{superiors_plain}
-use Rattle.its_stepped.proofs.UnwindLaws.{all_unwound_slot, all_unwound_end, all_unwound_plain}
+use Rattle.its_stepped.proofs.Committing.EffectLaws.{superiors_plain}
+use Rattle.its_stepped.proofs.Unwinding.UnwindLaws.{all_unwound_slot, all_unwound_end, all_unwound_plain}
 use Rattle.its_commit.proofs.RemovalLaws.{superiors_are}
 use Rattle.its_pclsr.specs.Pages.{pages_unwound}
 use Rattle.its_world.specs.World.{state_of, frames_after}
@@ -51,8 +51,10 @@ within_below sup s k b h = let in_list = within_list (slots_below sup s) k b (sy
 pub record Unwinding (old new : World) (s k : ℕ) : Type 0 where
   pub sound : Sound (state_of new)
   pub tree : superiors (state_of new).raw ≡ superiors (state_of old).raw
-  pub rest : all_unwound (drop k (slots_below (superiors (state_of new).raw) s)) (state_of new) ≡ all_unwound (slots_below (superiors (state_of old).raw) s) (state_of old)
-  pub pages : pages_unwound (drop k (slots_below (superiors (state_of new).raw) s)) (state_of new) new.core.frames ≡ pages_unwound (slots_below (superiors (state_of old).raw) s) (state_of old) old.core.frames
+  pub rest : all_unwound (drop k (slots_below (superiors (state_of new).raw) s)) (state_of new) ≡ all_unwound
+      (slots_below (superiors (state_of old).raw) s) (state_of old)
+  pub pages : pages_unwound (drop k (slots_below (superiors (state_of new).raw) s)) (state_of new) new.core.frames ≡ pages_unwound
+      (slots_below (superiors (state_of old).raw) s) (state_of old) old.core.frames
 
 pub unwinding_start : (w : World) (s : ℕ) → Sound (state_of w) → Unwinding w w s 0
 unwinding_start w s sound = record { sound = sound; tree = refl; rest = refl; pages = refl }
@@ -92,7 +94,8 @@ unwinding_end old mid s k u t h =
     sym (ap (λ ys. all_unwound ys (state_of mid)) (none_of_rest xs k here) ∙ all_unwound_end (state_of mid)) ∙ u.rest
 
 pub unwinding_pages : (old mid : World) (s k : ℕ) → Unwinding old mid s k → IsTree mid.jobs.jobs mid.jobs.superiors
-    → None ≡ slice_get (slots_below (superior_at mid.jobs) s) k → mid.core.frames ≡ pages_unwound (slots_below (superiors (state_of old).raw) s) (state_of old) old.core.frames
+    → None ≡ slice_get (slots_below (superior_at mid.jobs) s) k
+    → mid.core.frames ≡ pages_unwound (slots_below (superiors (state_of old).raw) s) (state_of old) old.core.frames
 unwinding_pages old mid s k u t h =
     let xs : List ℕ = slots_below (superiors (state_of mid).raw) s in
     let here : slice_get xs k ≡ None = ap (λ sup. slice_get (slots_below sup s) k) (superiors_are mid t) ∙ sym h in

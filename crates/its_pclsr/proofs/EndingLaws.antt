@@ -15,14 +15,14 @@ use Rattle.its_frame.specs.Left.{kept}
 use Rattle.its_frame.specs.declared.frame.Ending.{Ending}
 use Rattle.its_frame.specs.declared.frame.Frame.{Frame}
 use Rattle.its_frame.specs.declared.frame.Frame.TheVariants as frames
-use Rattle.its_plain.specs.Change.{poke}
-use Rattle.its_plain.specs.Own.{with_stores, after_exit, after_leave}
+use Rattle.its_plain.specs.Machine.Change.{poke}
+use Rattle.its_plain.specs.Machine.Own.{with_stores, after_exit, after_leave}
 use Rattle.its_stepped.specs.State.{Part, Mark, State, mine, with_slot, same, reserving, ending}
 use Rattle.its_stepped.specs.Unwind.{due, with_part, after_settling, unwind_one}
 use Rattle.its_stepped.specs.Sound.{Owes, backs, EndingPays, MarkBy, Sound, file_parts, parts_in_frame}
-use Rattle.its_calls.specs.Calls.{after_step, ending_in}
-use Rattle.its_calls.specs.Steps.{is_file}
-use Rattle.its_calls.proofs.StepLaws.{due_all}
+use Rattle.its_in_call.specs.Calls.{after_step, ending_in}
+use Rattle.its_in_call.specs.Steps.{is_file}
+use Rattle.its_in_call.proofs.StepLaws.{due_all}
 use Rattle.its_world.specs.World.{state_of, mark_of, frame_at, Becomes, CoreBecomes, FrameBecomes, PageBecomes, JobBecomes}
 use Rattle.its_world.specs.declared.world.World.{World}
 use Rattle.its_world.proofs.StateLaws.{kept_state, kept_slot, stored_slot, left_slot, retaken}
@@ -111,7 +111,8 @@ next_by (Some m) j true os ds o p marks own e file part =
     begins m.parts (file_parts ds) p (sym part ∙ ap file_parts (sym e ∙ due_all os) ∙ marks is)
 
 -- the owner of the mark has the parts of the mark in its frame
-marks_by : (m : Option Mark) (at : ℕ → Option Frame) (s : ℕ) (f : Ending) → IfSome m (λ k. MarkBy k at) → at s ≡ Some (frames.Ending f) → Marks m s f.owed.items
+marks_by : (m : Option Mark) (at : ℕ → Option Frame) (s : ℕ) (f : Ending) → IfSome m (λ k. MarkBy k at) → at s ≡ Some (frames.Ending f)
+    → Marks m s f.owed.items
 marks_by None at s f h e = tt
 marks_by (Some m) at s f h e = λ is. sym (ap (λ k. parts_in_frame (at k)) is ∙ ap parts_in_frame e) ∙ h.parts
 
@@ -132,14 +133,17 @@ steps_some w s b some sound =
     (due_some b (core_at w.core s) (clear_at w.core s) f.0.owed.items (stands_at w s (frames.Ending f.0) sound f.1).1)
 
 -- which is taken
-pub step_taken : (old new : World) (s : ℕ) (b : Bool) (o : Owed) → is_some (ending_in (frame_at old.frames.items s)) ≡ true → Sound (state_of old) → b ≡ mine (state_of old).mark s
+pub step_taken : (old new : World) (s : ℕ) (b : Bool) (o : Owed) → is_some (ending_in (frame_at old.frames.items s)) ≡ true
+    → Sound (state_of old) → b ≡ mine (state_of old).mark s
     → IfSome (ending_in (frame_at old.frames.items s)) (λ f. FrameBecomes old new s (Some (after_step b f)))
     → IfSome (ending_in (frame_at old.frames.items s)) (λ f. o ≡ slice_index_or (due b f.owed.items) 0 o) → Taken old new s o
 step_taken old new s b o some sound own frame first =
     let f = ended (frame_at old.frames.items s) some in
     let pays = (stands_at old s (frames.Ending f.0) sound f.1).1 in
-    let here : FrameBecomes old new s (Some (after_step b f.0)) = subst (λ (x : Option Frame). IfSome (ending_in x) (λ g. FrameBecomes old new s (Some (after_step b g)))) f.1 frame in
-    let is : o ≡ slice_index_or (due b f.0.owed.items) 0 o = subst (λ (x : Option Frame). IfSome (ending_in x) (λ g. o ≡ slice_index_or (due b g.owed.items) 0 o)) f.1 first in
+    let here : FrameBecomes old new s (Some (after_step b f.0)) =
+    subst (λ (x : Option Frame). IfSome (ending_in x) (λ g. FrameBecomes old new s (Some (after_step b g)))) f.1 frame in
+    let is : o ≡ slice_index_or (due b f.0.owed.items) 0 o =
+    subst (λ (x : Option Frame). IfSome (ending_in x) (λ g. o ≡ slice_index_or (due b g.owed.items) 0 o)) f.1 first in
     record {
       site = f.0.site;
       ask = f.0.ask;
@@ -154,7 +158,8 @@ step_taken old new s b o some sound own frame first =
 
 left_by_some : (old new : World) (s : ℕ) (e : Exit) (o : Option Job) → job_at old.jobs s ≡ o → is_some o ≡ true → frame_at old.frames.items s ≡ None
     → IfSome o (λ j. JobBecomes old new s (after_exit e j)) → state_of new ≡ with_slot (state_of old) s (after_leave e) None
-left_by_some old new s e (Some j) h some none b = left_slot old new s j e None h (subst (λ f. Becomes old new s (core_at old.core s) (Some (after_exit e j)) f (clear_at old.core s)) none b)
+left_by_some old new s e (Some j) h some none b = left_slot old new s j e None h
+    (subst (λ f. Becomes old new s (core_at old.core s) (Some (after_exit e j)) f (clear_at old.core s)) none b)
 left_by_some old new s e None h some none b = cc
 
 -- and performed
@@ -186,7 +191,8 @@ module _ (old mid : World) (s : ℕ) (o : Owed) (t : Taken old mid s o) (sound :
       ap (after_settling (state_of old) s t.site t.ask) (ap (λ (x : Owed). x ∷ t.rest) (sym e) ∙ sym t.first)
       ∙ sym (row_at old s (ending t.site t.ask t.owed) t.here)
 
-  pub store_row : (new : World) (at w : ℕ) → o ≡ owed.Store at w → CoreBecomes mid new s (stored (core_at mid.core s) (poke at w ∷ [])) → state_of new ≡ unwind_one (state_of old) s
+  pub store_row : (new : World) (at w : ℕ) → o ≡ owed.Store at w → CoreBecomes mid new s (stored (core_at mid.core s) (poke at w ∷ []))
+      → state_of new ≡ unwind_one (state_of old) s
   store_row new at w e b =
       stored_slot mid new s (poke at w ∷ []) (frame_at mid.frames.items s) taken_job b
       ∙ (λ i. with_slot (mid_state i) s (with_stores (poke at w ∷ [])) (t.frame.frame.here i))
@@ -203,13 +209,15 @@ module _ (old mid : World) (s : ℕ) (o : Owed) (t : Taken old mid s o) (sound :
   pub part_row : (new : World) (p : Owed) → o ≡ p → is_file p ≡ true → NextMade mid new → state_of new ≡ unwind_one (state_of old) s
   part_row new p e file b = b.row ∙ ap (λ (w : State). with_part w.mark w) mid_state ∙ by p file ∙ settled_row p e
     where
-      by : (q : Owed) → is_file q ≡ true → with_part (state_of old).mark (with_slot (state_of old) s same (Some (ending t.site t.ask t.rest))) ≡ after_settling (state_of old) s t.site t.ask (q ∷ t.rest)
+      by : (q : Owed) → is_file q ≡ true → with_part (state_of old).mark
+          (with_slot (state_of old) s same (Some (ending t.site t.ask t.rest))) ≡ after_settling (state_of old) s t.site t.ask (q ∷ t.rest)
       by Unlink h = refl
       by Link h = refl
       by Free h = refl
       by _ h = cc
 
-  pub leave_row : (low new : World) (e : Exit) → o ≡ Leave e → FrameBecomes mid low s None → IfSome (job_at low.jobs s) (λ j. JobBecomes low new s (after_exit e j)) → state_of new ≡ unwind_one (state_of old) s
+  pub leave_row : (low new : World) (e : Exit) → o ≡ Leave e → FrameBecomes mid low s None
+      → IfSome (job_at low.jobs s) (λ j. JobBecomes low new s (after_exit e j)) → state_of new ≡ unwind_one (state_of old) s
   leave_row low new e is b h =
       left_by_some low new s e (job_at low.jobs s) refl (ap is_some b.job.here ∙ taken_job) b.frame.here h
       ∙ ap (λ (w : State). with_slot w s (after_leave e) None) (kept_slot mid low s None taken_job b ∙ ap (λ (w : State). with_slot w s same None) mid_state)

@@ -4,3 +4,4 @@ pub mod EndingLaws
 pub mod BelowLaws
 pub mod ApartLaws
 pub mod PartLaws
+pub mod Groups

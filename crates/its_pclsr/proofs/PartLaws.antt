@@ -9,7 +9,7 @@ use Rattle.its_world.specs.World.{mark_of, state_of}
 use Rattle.its_world.specs.declared.world.World.{World}
 use Rattle.its_world.proofs.StorageLaws.{files_are, marks_are, store_state}
 use Rattle.its_world.proofs.MarkLaws.{mark_none, made, part_step}
-use Rattle.its_machine.proofs.KeptLaws.{Stays}
+use Rattle.its_shared.proofs.KeptLaws.{Stays}
 use Rattle.its_pclsr.specs.Owed.{FirstPart, IsNext}
 use Rattle.its_pclsr.specs.Parts.{NextMade}
 use Rattle.its_world.proofs.ContentsLaws.{core_as, jobs_as, symbols_as, pipes_as}
@@ -41,7 +41,8 @@ next_state w s p (Some m) whole files marked e next =
     let ps = next_begins m.parts p next in
     sym (part_step s whole w m p ps.0 marked files e ps.1)
 
-pub next_made : (old new : World) (p : Part) → IsStore old.files → IsNext (state_of old).mark p → new.files ≡ made p old.files → Stays old.files new.files old.jobs → OnlyStore old new new.files → NextMade old new
+pub next_made : (old new : World) (p : Part) → IsStore old.files → IsNext (state_of old).mark p → new.files ≡ made p old.files
+    → Stays old.files new.files old.jobs → OnlyStore old new new.files → NextMade old new
 next_made old new p whole next files stays o = record {
   row =
       store_state old new new.files o stays

@@ -1,7 +1,7 @@
 //! The jobs below one, unwound.
 ghost use Rattle.std.specs.Prelude.{◌≡◌};
 ghost use Rattle.its_records.specs.Tree.{slots_below};
-ghost use Rattle.its_plain.specs.Change.{superiors};
+ghost use Rattle.its_plain.specs.Machine.Change.{superiors};
 ghost use Rattle.its_stepped.specs.Sound.{Sound};
 ghost use Rattle.its_stepped.specs.Unwind.{all_unwound};
 ghost use Rattle.its_world.specs.Tidy.{Tidy};

@@ -3,10 +3,10 @@
 ghost use Rattle.std.specs.Prelude.{◌≡◌, ◌≢◌, ◌≤◌, ◌+◌, ◌∷◌, [], ℕ, true, Some, None, is_some, IfSome, option_map};
 ghost use Rattle.its_core.specs.Cores.{core_at, clear_at};
 ghost use Rattle.its_jobs.specs.Table.{job_at};
-ghost use Rattle.its_plain.specs.Arguments.{input};
-ghost use Rattle.its_plain.specs.CallStep.{deposited};
-ghost use Rattle.its_calls.specs.Calls.{ending_in, gone_to, request_in};
-ghost use Rattle.its_plain.specs.Own.{after_exit};
+ghost use Rattle.its_plain.specs.Call.Arguments.{input};
+ghost use Rattle.its_plain.specs.Call.Step.{deposited};
+ghost use Rattle.its_in_call.specs.Calls.{ending_in, gone_to, request_in};
+ghost use Rattle.its_plain.specs.Machine.Own.{after_exit};
 ghost use Rattle.its_word.specs.Core.{can_store};
 ghost use Rattle.its_word.specs.Stores.{place, stored};
 ghost use Rattle.its_stepped.specs.State.{UnlinkOld, LinkNew, FreeOld, asked, held_at, holding, plain, seen};
@@ -21,16 +21,16 @@ ghost use Rattle.its_pclsr.specs.Parts.{NextMade, Taken};
 ghost use Rattle.its_world.specs.Tidy.{Tidy};
 
 use its_bytes::deposit;
-use its_calls::{Next, View};
 use its_commit::{first_owed, owns_mark};
 use its_core::Core;
+use its_in_call::{Next, View};
 use its_records::{Ask, Exit, Job, Owed};
 use its_word::{ADDRESSES, Slot, Store, Word};
 use its_world::World;
 
 /// One step of unwinding of a slot's job, which is inside a call: at most one word of core, one
 /// page's place, one part of a close or the registers change, and the plain machine does not.
-#[tactic(auto, using(crate::proofs::UnwindingLaws::one_fewer, crate::proofs::UnwindingLaws::one_changes, crate::proofs::UnwindingLaws::one_same, crate::proofs::UnwindingLaws::unwind_keeps, crate::proofs::UnwindingLaws::one_pages))]
+#[tactic(auto, using(crate::proofs::Groups::unwind_one_laws))]
 pub fn unwind_one(w: &mut World, slot: Slot)
     requires frame { is_some (call_in w.old slot) ≡ true }
     requires sound { Sound (state_of w.old) }
@@ -271,7 +271,7 @@ fn left_with(job: Job, e: &Exit) -> Job
 /// it was, with PC at the call (unstarted); then with the words of its last arguments stored, so
 /// that the call does the rest when it is made again; once the call has ended with all of it done
 /// (finished).
-#[tactic(auto, using(crate::proofs::UnwindingLaws::all_same, crate::proofs::UnwindingLaws::all_keeps, crate::proofs::UnwindingLaws::all_none, crate::proofs::UnwindingLaws::all_others, crate::proofs::UnwindingLaws::all_few, crate::proofs::UnwindingLaws::all_left, crate::proofs::UnwindingLaws::all_pages))]
+#[tactic(auto, using(crate::proofs::Groups::unwind_laws))]
 pub fn unwind(w: &mut World, slot: Slot)
     requires sound { Sound (state_of w.old) }
     requires tidy { Tidy w.old }

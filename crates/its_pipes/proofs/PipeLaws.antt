@@ -3,10 +3,10 @@ use Rattle.std.specs.Prelude.{◌≡◌, ◌≤◌, ℕ, Option, Some, None, Lis
 use Rattle.std.proofs.Common.{ap, sym, arith}
 use Rattle.std.proofs.lemmas.List.{get_or_past}
 use Rattle.circular_buffer.specs.Buffer.{Buffer}
-use Rattle.its_records.specs.Links.{most_linked, most_links}
+use Rattle.its_records.specs.Links.{most_link_words, most_links}
 use Rattle.its_records.specs.Tree.{free_from, least_free}
 use Rattle.its_records.specs.declared.link.Link.{Link}
-use Rattle.its_plain.specs.CallLink.{words_in}
+use Rattle.its_plain.specs.Call.Link.{words_in}
 use Rattle.its_plain.specs.Machine.{Pipe}
 use Rattle.its_pipes.specs.Pipes.{IsPipes, link_at, pipe_by, queue_at}
 
@@ -28,7 +28,7 @@ words_are : (ls : List (Option Link)) (qs : List (Buffer ℕ)) (l : ℕ) → IsP
 words_are ls qs l is = words_by (link_at ls l) (queue_at qs l).items (is.dry l)
 
 -- a link has no more words than it can hold
-pub words_fit : (ls : List (Option Link)) (qs : List (Buffer ℕ)) → IsPipes ls qs → (l : ℕ) → length (words_in (pipe_of ls qs l)) ≤ most_linked
+pub words_fit : (ls : List (Option Link)) (qs : List (Buffer ℕ)) → IsPipes ls qs → (l : ℕ) → length (words_in (pipe_of ls qs l)) ≤ most_link_words
 words_fit ls qs is l = rw (words_are ls qs l is) (is.fits l)
 
 -- no number past the last has a link

@@ -4,7 +4,7 @@ use Rattle.std.proofs.Common.{◌∙◌, ap, sym, arith, inl, inr}
 use Rattle.std.proofs.lemmas.Bool.{cases_eq, cases_lt}
 use Rattle.its_records.specs.Links.{most_links}
 use Rattle.its_word.specs.Only.{Only}
-use Rattle.its_plain.specs.Change.{ends_after_removal}
+use Rattle.its_plain.specs.Machine.Change.{ends_after_removal}
 use Rattle.its_plain.specs.Machine.{Pipe}
 
 -- the numbers below n are done
@@ -15,7 +15,8 @@ pub record Swept (gone : ℕ → Bool) (old new : ℕ → Option Pipe) (n : ℕ)
 pub sweep_start : (gone : ℕ → Bool) (old : ℕ → Option Pipe) → Swept gone old old 0
 sweep_start gone old = record { done = λ l less. absurd (omega arith); rest = λ l less. refl }
 
-pub sweep_next : (gone : ℕ → Bool) (old now new : ℕ → Option Pipe) (n : ℕ) → Swept gone old now n → Only now new n (ends_after_removal gone (now n)) → Swept gone old new (n + 1)
+pub sweep_next : (gone : ℕ → Bool) (old now new : ℕ → Option Pipe) (n : ℕ) → Swept gone old now n
+    → Only now new n (ends_after_removal gone (now n)) → Swept gone old new (n + 1)
 sweep_next gone old now new n s o = record {
   done = λ l less. elim (cases_eq l n) [
     | inl e ↦ rw e (o.here ∙ ap (ends_after_removal gone) (s.rest n (omega arith)))

@@ -3,7 +3,7 @@
 -- No promise rests on this.
 use Rattle.std.specs.Prelude.{◌≡◌, ◌≤◌, ℕ, Option, Some, None, List, [], length, slice_index_or}
 use Rattle.circular_buffer.specs.Buffer.{Buffer, buffer}
-use Rattle.its_records.specs.Links.{most_linked}
+use Rattle.its_records.specs.Links.{most_link_words}
 use Rattle.its_records.specs.declared.link.Link.{Link}
 use Rattle.its_plain.specs.Machine.{Pipe}
 
@@ -13,7 +13,7 @@ pub record Piping : Type 0 where
 
 -- a queue without a word, with room for all that a link can hold
 abbrev pub no_queue : Buffer ℕ
-no_queue = buffer [] most_linked
+no_queue = buffer [] most_link_words
 
 -- the link and the queue of a number
 abbrev pub link_at : List (Option Link) → ℕ → Option Link
@@ -37,5 +37,5 @@ piped p l = pipe_by (link_in p l) (queue_at p.queues l).items
 -- no more
 pub record IsPipes (links : List (Option Link)) (queues : List (Buffer ℕ)) : Type 0 where
   pub dry : (l : ℕ) → link_at links l ≡ None → (queue_at queues l).items ≡ []
-  pub room : (l : ℕ) → (queue_at queues l).capacity ≡ most_linked
-  pub fits : (l : ℕ) → length (queue_at queues l).items ≤ most_linked
+  pub room : (l : ℕ) → (queue_at queues l).capacity ≡ most_link_words
+  pub fits : (l : ℕ) → length (queue_at queues l).items ≤ most_link_words

@@ -5,8 +5,9 @@
 //! Proved:
 //! - The store is a value `piped`: for each number the link and its words, or none. Each call that
 //!   changes it says what becomes of one number, and that every other number stays (`Only`).
-//! - `join` opens an end, of the link that is there or of a new one, and leaves the words. `part`
-//!   closes an end; a link is gone with its words exactly if no end of it is open after that.
+//! - `join` opens an end, of the link that is there or of a new one, and leaves the words.
+//!   `close_end` closes an end; a link is gone with its words exactly if no end of it is open after
+//!   that.
 //! - `send` puts a word after all others, and `receive` takes the first. `send` asks that the link
 //!   is there and has room.
 //! - `is_dry`, `is_ended`, `is_crowded` and `is_unread` are the tests of the calls on links, in
@@ -21,7 +22,7 @@
 //! The links are an array of 16 numbers, each with a `Link` (two names and two ends) or none, and
 //! for each number a queue of 64 words, a `circular_buffer`. Both are private. Contracts see a
 //! function from numbers, `piped`: the link with its words, or none. That the queue of a number
-//! without a link is empty is a fact of the type, so a new link has no words; `part` and
+//! without a link is empty is a fact of the type, so a new link has no words; `close_end` and
 //! `leave_links` clear the queue of a link that goes. Each of the two machines has one `Pipes`; its
 //! memory is taken at the opening, 8 KB.
 //!

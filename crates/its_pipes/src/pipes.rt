@@ -1,11 +1,11 @@
 //! The store of links, and of the words in them.
 ghost use Rattle.std.specs.Prelude.{◌≡◌, ◌<◌, ◌≤◌, ℕ, true, false, Some, None, IfOk, IfSome, is_some, length, option_map, slice_get, vec_len};
-ghost use Rattle.its_records.specs.Links.{most_linked, most_links};
+ghost use Rattle.its_records.specs.Links.{most_link_words, most_links};
 ghost use Rattle.its_word.specs.Only.{Only};
 ghost use Rattle.its_records.specs.Tree.{least_free};
 ghost use Rattle.its_jobs.specs.Table.{in_tree, superior_at};
-ghost use Rattle.its_plain.specs.CallLink.{has_link_names, is_crowded, is_dry, is_end_closed, is_ended, is_unread, link_named, words_in};
-ghost use Rattle.its_plain.specs.Change.{after_end_close, ends_after_removal, if_alive, link_or_new, with_end_opened, with_received, with_sent};
+ghost use Rattle.its_plain.specs.Call.Link.{has_link_names, is_crowded, is_dry, is_end_closed, is_ended, is_unread, link_named, words_in};
+ghost use Rattle.its_plain.specs.Machine.Change.{after_end_close, ends_after_removal, if_alive, link_or_new, with_end_opened, with_received, with_sent};
 ghost use Rattle.its_pipes.specs.Pipes.{link_in, no_queue, piped, queue_at};
 
 use super::ends::{is_alive, is_closed, is_named, link_left, new_link, with_end};
@@ -58,7 +58,7 @@ impl Pipes {
     /// How many words are in a link.
     pub fn words_waiting(&self, l: u8) -> u32
         ensures count { result ≡ length (words_in (piped self.now l)) }
-        ensures most { result ≤ most_linked }
+        ensures most { result ≤ most_link_words }
     {
         match self.queues.get(usize::from(l)) {
             Some(queue) => queue.len() as u32,
@@ -165,7 +165,7 @@ impl Pipes {
 
     /// Closes an end of a link, if the number has one. A link without an open end is gone with its
     /// words.
-    pub fn part(&mut self, l: u8, write: bool)
+    pub fn close_end(&mut self, l: u8, write: bool)
         requires { l < most_links }
         ensures { Only (piped self.old) (piped self.new) l (after_end_close write (piped self.old l)) }
     {
@@ -208,7 +208,7 @@ impl Pipes {
     pub fn send(&mut self, l: u8, word: Word)
         requires number { l < most_links }
         requires stands { is_some (piped self.old l) ≡ true }
-        requires room { length (words_in (piped self.old l)) < most_linked }
+        requires room { length (words_in (piped self.old l)) < most_link_words }
         ensures { Only (piped self.old) (piped self.new) l (option_map (with_sent word) (piped self.old l)) }
     {
         let _ = self.queues[usize::from(l)].try_push_back(word);
@@ -228,7 +228,7 @@ impl Pipes {
     #[tactic(auto, using(crate::proofs::PipeLaws::past_none, crate::proofs::PipeLaws::words_fit))]
     pub fn bounds(&self)
         ensures numbers { (l : ℕ) → most_links ≤ l → piped self.now l ≡ None }
-        ensures words { (l : ℕ) → length (words_in (piped self.now l)) ≤ most_linked }
+        ensures words { (l : ℕ) → length (words_in (piped self.now l)) ≤ most_link_words }
     {
         let _ = &self.links;
     }

@@ -21,8 +21,8 @@ use Rattle.its_records.specs.declared.calls.Site.{Site}
 use Rattle.its_records.specs.declared.calls.Source.{Source}
 use Rattle.its_records.specs.declared.calls.Source.TheVariants.{Held, Immediate}
 use Rattle.its_frame.specs.declared.name.CallRow.{CallRow}
-use Rattle.its_plain.specs.Traced.{Located, also, gives, located}
-use Rattle.its_plain.specs.Decode.{Shape, allowed, argument, argument_at, arguments, ask, ask_of, control_of, error_at_of, error_by, exceeds, held, input_of, iot_ask, kind_of, name_of, output_of, parsed, held_place, row_named, shaped, storable, there, value_of, words_of}
+use Rattle.its_plain.specs.Unit.Trace.{Located, also, gives, located}
+use Rattle.its_plain.specs.Call.Decode.{Shape, allowed, argument, argument_at, arguments, ask, ask_of, control_of, error_at_of, error_by, exceeds, held, input_of, iot_ask, kind_of, name_of, output_of, parsed, held_place, row_named, shaped, storable, there, value_of, words_of}
 use Rattle.its_plain.proofs.AskLaws.{decoded_of, iot_of}
 use Rattle.its_plain.proofs.FitsLaws.{located_finds}
 use Rattle.its_plain.proofs.ReadLaws.{went}
@@ -69,11 +69,15 @@ given_fine c x y h f = let e : x ≡ y = cc in subst (Fine c) e f
 
 argument_at_fine : (k : Kind) (c : Core) (e : ℕ) (x : Arg) → e < 2 ^ 18 → (argument_at k c e).answer ≡ Ok x → Fine c x
 unfolding argument_at
-argument_at_fine kinds.Input c e x b h = let w = went (held c e) (λ p. gives (Input (Held p))) x h in given_fine c (Input (Held w.value)) x w.last (held_fine c e w.value b w.first)
+argument_at_fine kinds.Input c e x b h = let w = went (held c e) (λ p. gives (Input (Held p))) x h in given_fine c (Input (Held w.value)) x
+    w.last (held_fine c e w.value b w.first)
 argument_at_fine kinds.Immediate c e x b h = given_fine c (Input (Immediate (pair_of 0 e))) x h (omega arith)
-argument_at_fine kinds.Output c e x b h = let w = went (storable c e) (λ p. gives (Output p)) x h in given_fine c (Output w.value) x w.last (storable_fine c e w.value b w.first)
-argument_at_fine kinds.ErrorAt c e x b h = let w = went (storable c e) (λ p. gives (ErrorAt p)) x h in given_fine c (ErrorAt w.value) x w.last (storable_fine c e w.value b w.first)
-argument_at_fine kinds.Control c e x b h = let w = went (held c e) (λ p. gives (Control (Held p))) x h in given_fine c (Control (Held w.value)) x w.last (held_fine c e w.value b w.first)
+argument_at_fine kinds.Output c e x b h = let w = went (storable c e) (λ p. gives (Output p)) x h in given_fine c (Output w.value) x w.last
+    (storable_fine c e w.value b w.first)
+argument_at_fine kinds.ErrorAt c e x b h = let w = went (storable c e) (λ p. gives (ErrorAt p)) x h in given_fine c (ErrorAt w.value) x
+    w.last (storable_fine c e w.value b w.first)
+argument_at_fine kinds.Control c e x b h = let w = went (held c e) (λ p. gives (Control (Held p))) x h in given_fine c
+    (Control (Held w.value)) x w.last (held_fine c e w.value b w.first)
 argument_at_fine kinds.ImmediateControl c e x b h = given_fine c (Control (Immediate (pair_of 0 e))) x h (omega arith)
 argument_at_fine kinds.Other c e x b h = cc
 
@@ -100,7 +104,8 @@ each_push : {X : Type 0} (P : X → Type 0) (xs : List X) (x : X) → Each P xs 
 each_push P [] x e h = (h, tt)
 each_push P (y ∷ ys) x e h = (e.0, each_push P ys x e.1 h)
 
-arguments_fine : (ws : List ℕ) (c : Core) (used : ℕ) (seen : List Arg) (xs : ArrayVec Arg) → used ≤ budget → Each (Fine c) seen → (arguments ws c used seen).answer ≡ Ok xs → Each (Fine c) xs.items
+arguments_fine : (ws : List ℕ) (c : Core) (used : ℕ) (seen : List Arg) (xs : ArrayVec Arg) → used ≤ budget → Each (Fine c) seen
+    → (arguments ws c used seen).answer ≡ Ok xs → Each (Fine c) xs.items
 unfolding arguments
 arguments_fine [] c used seen xs u s h = let e : record { items = seen } ≡ xs = cc in subst (λ (v : ArrayVec Arg). Each (Fine c) v.items) e s
 arguments_fine (w ∷ ws) c used seen xs u s h =
@@ -125,7 +130,8 @@ cons_all : {X : Type 0} (P : X → Type 0) (o : Option X) (ys : List X) → IfSo
 cons_all P (Some x) ys h a = All-cons P x ys h a
 cons_all P None ys h a = a
 
-filtered : {X : Type 0} (c : Core) (h : Arg → Option X) (P : X → Type 0) → ((x : Arg) → Fine c x → IfSome (h x) P) → (xs : List Arg) → Each (Fine c) xs → All P (filter_map h xs)
+filtered : {X : Type 0} (c : Core) (h : Arg → Option X) (P : X → Type 0) → ((x : Arg) → Fine c x → IfSome (h x) P) → (xs : List Arg)
+    → Each (Fine c) xs → All P (filter_map h xs)
 filtered c h P f [] e = All-nil P
 filtered c h P f (x ∷ xs) e = cons_all P (h x) (filter_map h xs) (f x e.0) (filtered c h P f xs e.1)
 

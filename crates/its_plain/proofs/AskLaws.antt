@@ -11,8 +11,8 @@ use Rattle.its_records.specs.declared.calls.Ask.{Ask}
 use Rattle.its_records.specs.declared.calls.Operand.{Operand}
 use Rattle.its_records.specs.declared.calls.Site.{Site}
 use Rattle.its_records.specs.declared.calls.Source.TheVariants.{Held, Immediate}
-use Rattle.its_plain.specs.UnitPlan.{given}
-use Rattle.its_plain.specs.Decode.{Shape, ask, ask_by, ask_of, control_of, error_at_of, error_by, exceeds, input_of, iot_ask, name_of, operand_of, output_of, row_named, shaped, words_of}
+use Rattle.its_plain.specs.Unit.Plans.{given}
+use Rattle.its_plain.specs.Call.Decode.{Shape, ask, ask_by, ask_of, control_of, error_at_of, error_by, exceeds, input_of, iot_ask, name_of, operand_of, output_of, row_named, shaped, words_of}
 use Rattle.its_plain.proofs.Locality.{Agree, Words}
 use Rattle.its_plain.proofs.DecodeLocality.{local_shaped}
 
@@ -32,7 +32,8 @@ ask_with decode h inputs controls =
       operand = record { items = filter_map operand_of h.arguments };
     }
 
-pub ask_of_is : (c : Core) (decode : List ℕ) (h : Shape) → ask_of c decode h ≡ ask_with decode h (filter_map (input_of c) h.arguments) (filter_map (control_of c) h.arguments)
+pub ask_of_is : (c : Core) (decode : List ℕ) (h : Shape) → ask_of c decode h ≡ ask_with decode h (filter_map (input_of c) h.arguments)
+    (filter_map (control_of c) h.arguments)
 unfolding ask_of ask_with
 ask_of_is c decode h = refl
 
@@ -51,7 +52,8 @@ pub decoded_of : (c : Core) (s : Site) (k : Ask) → s.channel ≡ None → ask 
 unfolding ask
 decoded_of c s k n a = decoded_by c s k (shaped c s).answer refl (sym (ap (ask_by c s) n) ∙ a)
 
-pub asked_by_block : (c : Core) (s : Site) (h : Shape) → s.channel ≡ None → (shaped c s).answer ≡ Ok h → ask c s ≡ Ok (ask_of c (s.decode.items ++ (shaped c s).reads) h)
+pub asked_by_block : (c : Core) (s : Site) (h : Shape) → s.channel ≡ None → (shaped c s).answer ≡ Ok h
+    → ask c s ≡ Ok (ask_of c (s.decode.items ++ (shaped c s).reads) h)
 unfolding ask
 asked_by_block c s h n e = ap (ask_by c s) n ∙ ap (λ r. given r (λ h. Ok (ask_of c (s.decode.items ++ (shaped c s).reads) h))) e
 
@@ -118,16 +120,19 @@ ask_of_same a b d h w =
 -- the places that a block's call reads are decode words of its ask
 pub block_agrees : (a b : Core) (s : Site) (k : Ask) → Decoded a s k → Agree k.decode.items (shaped a s).tests a b → shaped b s ≡ shaped a s
 block_agrees a b s k d g =
-    let e : k.decode.items ≡ s.decode.items ++ (shaped a s).reads = ap (λ (x : Ask). x.decode.items) d.asks ∙ decode_of a (s.decode.items ++ (shaped a s).reads) d.shape in
+    let e : k.decode.items ≡ s.decode.items ++ (shaped a s).reads = ap (λ (x : Ask). x.decode.items) d.asks
+    ∙ decode_of a (s.decode.items ++ (shaped a s).reads) d.shape in
     (local_shaped s).same a b (record {
       words = λ p i. g.words p (subst (λ ps. Contains ps p) (sym e) (Contains-append_right s.decode.items (shaped a s).reads p i));
       marks = g.marks;
     })
 
-ask_same_block : (a b : Core) (s : Site) (k : Ask) → s.channel ≡ None → Decoded a s k → Agree k.decode.items (shaped a s).tests a b → Words k.operand.items a b → ask b s ≡ Ok k
+ask_same_block : (a b : Core) (s : Site) (k : Ask) → s.channel ≡ None → Decoded a s k → Agree k.decode.items (shaped a s).tests a b
+    → Words k.operand.items a b → ask b s ≡ Ok k
 ask_same_block a b s k n d g w =
     let e = block_agrees a b s k d g in
-    let o : k.operand.items ≡ filter_map operand_of d.shape.arguments = ap (λ (x : Ask). x.operand.items) d.asks ∙ operand_is a (s.decode.items ++ (shaped a s).reads) d.shape in
+    let o : k.operand.items ≡ filter_map operand_of d.shape.arguments = ap (λ (x : Ask). x.operand.items) d.asks
+    ∙ operand_is a (s.decode.items ++ (shaped a s).reads) d.shape in
     asked_by_block b s d.shape n (ap (λ t. t.answer) e ∙ d.shaped_is)
     ∙ ap (λ t. Ok (ask_of b (s.decode.items ++ t.reads) d.shape)) e
     ∙ ap Ok (ask_of_same a b (s.decode.items ++ (shaped a s).reads) d.shape (subst (λ ps. Words ps a b) o w) ∙ sym d.asks)

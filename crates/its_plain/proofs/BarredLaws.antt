@@ -2,7 +2,7 @@
 use Rattle.std.specs.Prelude.{◌≡◌, ◌≤◌, ◌<◌, ◌+◌, ◌-◌, ◌||◌, ℕ, suc, true, false, refl}
 use Rattle.std.proofs.Common.{sym, ◌∙◌, ap, arith}
 use Rattle.its_word.specs.Core.{Core}
-use Rattle.its_plain.specs.OperatorJobs.{is_barred, any_barred}
+use Rattle.its_plain.specs.Operator.Jobs.{is_barred, any_barred}
 
 -- n words of which the first k are on no read-only page
 pub any_start : (c : Core) (a n : ℕ) → any_barred c (a + 0) (n - 0) ≡ any_barred c a n

@@ -15,16 +15,16 @@ use Rattle.its_records.specs.declared.show.JobShow.{JobShow}
 use Rattle.its_records.proofs.FreeLaws.{least_empty, least_below, no_job_there}
 use Rattle.its_plain.specs.Machine.{Names, File, Chan, Console, Whole, Machine, changed, with_job, mapped, limit}
 use Rattle.its_plain.specs.Operator.{Block, Refuses, Does, Ticks, Quits, and_then, disturbs, quietly}
-use Rattle.its_plain.specs.OperatorJobs.{new_job, held_by, after_load_in, after_load, with_stored, with_core, with_word_loaded_of, with_word_loaded, with_words_stored, words_barred, with_words_loaded_if, with_words_loaded, with_page_protected_in, with_page_protected, on_job, with_registers, on_registers, after_go, after_int, after_stop, after_cont, examined, state_shown, after_deposit_in, after_deposit}
-use Rattle.its_plain.specs.OperatorSymbols.{with_symbol_kept_if, with_symbol_kept_of, with_symbol_kept}
-use Rattle.its_plain.specs.OperatorVersion.{with_version}
-use Rattle.its_plain.specs.Change.{with_protection}
-use Rattle.its_plain.specs.OperatorLines.{by_load, by_exam, in_a_line, by_state, by_clock, operate, shows, Lined, Done, Peeks, peeked_at, lined}
-use Rattle.its_plain.specs.Own.{names_of}
-use Rattle.its_plain.specs.CallFile.{most_files, is_full, file_named, has_file}
-use Rattle.its_plain.specs.OperatorFiles.{channels_of, with_files, with_file_made_if, with_file_made, with_word_added_if, with_word_added_to, with_word_added, with_words_added, file_shown}
-use Rattle.its_plain.specs.OperatorClock.{alarm_in, due, after_alarm, after_alarm_if, at_clock, clock_end, after_clock_if, after_clock}
-use Rattle.its_plain.specs.OperatorConsoles.{with_typed, after_drain}
+use Rattle.its_plain.specs.Operator.Jobs.{new_job, held_by, after_load_in, after_load, with_stored, with_core, with_word_loaded_of, with_word_loaded, with_words_stored, words_barred, with_words_loaded_if, with_words_loaded, with_page_protected_in, with_page_protected, on_job, with_registers, on_registers, after_go, after_int, after_stop, after_cont, examined, state_shown, after_deposit_in, after_deposit}
+use Rattle.its_plain.specs.Operator.Symbols.{with_symbol_kept_if, with_symbol_kept_of, with_symbol_kept}
+use Rattle.its_plain.specs.Operator.Version.{with_version}
+use Rattle.its_plain.specs.Machine.Change.{with_protection}
+use Rattle.its_plain.specs.Operator.Lines.{by_load, by_exam, in_a_line, by_state, by_clock, operate, shows, Lined, Done, Peeks, peeked_at, lined}
+use Rattle.its_plain.specs.Machine.Own.{names_of}
+use Rattle.its_plain.specs.Call.File.{most_files, is_full, file_named, has_file}
+use Rattle.its_plain.specs.Operator.Files.{channels_of, with_files, with_file_made_if, with_file_made, with_word_added_if, with_word_added_to, with_word_added, with_words_added, file_shown}
+use Rattle.its_plain.specs.Operator.Clock.{alarm_in, due, after_alarm, after_alarm_if, at_clock, clock_end, after_clock_if, after_clock}
+use Rattle.its_plain.specs.Operator.Consoles.{with_typed, after_drain}
 use Rattle.its_print.specs.Printing.{Line, listed}
 
 -- what no line changes of a job
@@ -193,7 +193,8 @@ stored_alike : (m : Machine) (s a : ℕ) (ws : List ℕ) → AlikeBy m (with_wor
 stored_alike m s a [] = alike_same m
 stored_alike m s a (w ∷ ws) = go (with_word_loaded m s a w) (word_alike m s a w) (λ n. stored_alike n s (a + 1) ws)
   where
-    go : (r : Result Machine Reason) → AlikeBy m r → ((n : Machine) → AlikeBy n (with_words_stored n s (a + 1) ws)) → AlikeBy m (and_then r (λ n. with_words_stored n s (a + 1) ws))
+    go : (r : Result Machine Reason) → AlikeBy m r → ((n : Machine) → AlikeBy n (with_words_stored n s (a + 1) ws))
+        → AlikeBy m (and_then r (λ n. with_words_stored n s (a + 1) ws))
     go (Ok n) first h = alike_further m n (with_words_stored n s (a + 1) ws) first (h n)
     go (Err r) first h = tt
 
@@ -277,7 +278,8 @@ peek_keeps m s (Some q) = tt
 peek_keeps m s None = tt
 
 -- LOAD makes a job in the least free slot
-made_slots : (m : Machine) (u j : ℕ) (console : Option ℕ) (s k : ℕ) → least_free (limit m) m.jobs ≡ Some s → SlotKept (m.jobs k) (changed m.jobs s (Some (new_job u j console)) k)
+made_slots : (m : Machine) (u j : ℕ) (console : Option ℕ) (s k : ℕ) → least_free (limit m) m.jobs ≡ Some s
+    → SlotKept (m.jobs k) (changed m.jobs s (Some (new_job u j console)) k)
 made_slots m u j console s k is = elim (cases_eq k s) [
   | inl at ↦ rw at (Made u j console (least_empty (limit m) m.jobs s is) (rw (eq-eqb s s refl) refl))
   | inr ne ↦ Stays (rw (ne_eqb k s ne) refl)
@@ -295,7 +297,8 @@ made_alarms m u j console s k = elim (cases_eq k s) [
 ]
 
 -- the holder of the console of a job that LOAD makes, and of every other one
-held_kept : (m n : Machine) (u j c s : ℕ) (o : Option ℕ) → m.holders c ≡ o → m.jobs s ≡ None → n.jobs s ≡ Some (new_job u j (Some c)) → n.holders c ≡ held_by s o → HolderKept m n c
+held_kept : (m n : Machine) (u j c s : ℕ) (o : Option ℕ) → m.holders c ≡ o → m.jobs s ≡ None → n.jobs s ≡ Some (new_job u j (Some c))
+    → n.holders c ≡ held_by s o → HolderKept m n c
 held_kept m n u j c s (Some h) was none is holds = Keeps (holds ∙ sym was)
 held_kept m n u j c s None was none is holds = Takes s u j was none is holds
 
@@ -307,7 +310,8 @@ holder_kept m n u j c s k none is holds = elim (cases_eq k c) [
   | inr ne ↦ Keeps (holds k ∙ rw (ne_eqb k c ne) refl)
 ]
 
-load_keeps : (m : Machine) (b : Block) (u j : ℕ) (console o : Option ℕ) → least_free (limit m) m.jobs ≡ o → LineKeepsBy m (Done (by_load b (after_load_in m u j console o)))
+load_keeps : (m : Machine) (b : Block) (u j : ℕ) (console o : Option ℕ) → least_free (limit m) m.jobs ≡ o
+    → LineKeepsBy m (Done (by_load b (after_load_in m u j console o)))
 load_keeps m b u j (Some c) (Some s) is = record {
   slots = λ k. made_slots m u j (Some c) s k is;
   few = λ k l e. made_few m (new_job u j (Some c)) s k is l e;
@@ -371,7 +375,8 @@ rung_few : (c : ℕ) (b : Bool) (o : Option Whole) → o ≡ None → after_alar
 rung_few c true o e = ap (option_map (after_alarm c)) e
 rung_few c false o e = e
 
-clock_keeps : (m : Machine) (b : Block) (n : ℕ) (fits : Bool) → nat_lt (m.clock + n) clock_end ≡ fits → LineKeepsBy m (Done (by_clock m b n (after_clock_if m n fits)))
+clock_keeps : (m : Machine) (b : Block) (n : ℕ) (fits : Bool) → nat_lt (m.clock + n) clock_end ≡ fits
+    → LineKeepsBy m (Done (by_clock m b n (after_clock_if m n fits)))
 clock_keeps m b n true is = record {
   slots = λ k. Stays (rung_face (m.clock + n) (due (m.clock + n) m.jobs k) (m.jobs k));
   few = λ k l e. rung_few (m.clock + n) (due (m.clock + n) m.jobs k) (m.jobs k) e;
@@ -430,7 +435,8 @@ then_files : (m n : Machine) (r : Result Machine Reason) → n ≡ with_files m 
 then_files m n (Ok k) h g = g ∙ ap (λ (x : Machine). with_files x k.files) h
 then_files m n (Err r) h g = tt
 
-added_next : (m : Machine) (names : Names) (ws : List ℕ) (r : Result Machine Reason) → FilesAlone m r → ((n : Machine) → FilesAlone n (with_words_added n names ws))
+added_next : (m : Machine) (names : Names) (ws : List ℕ) (r : Result Machine Reason) → FilesAlone m r
+    → ((n : Machine) → FilesAlone n (with_words_added n names ws))
     → FilesAlone m (and_then r (λ k. with_words_added k names ws))
 added_next m names ws (Ok n) h g = then_files m n (with_words_added n names ws) h (g n)
 added_next m names ws (Err r) h g = tt

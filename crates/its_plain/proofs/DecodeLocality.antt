@@ -18,9 +18,9 @@ use Rattle.its_records.specs.declared.jobs.Job.{Job}
 use Rattle.its_word.specs.declared.plan.Context.{Context}
 use Rattle.its_word.specs.declared.plan.ChainStep.{ChainStep}
 use Rattle.its_word.specs.declared.plan.ChainStep.TheVariants.{Found, Target}
-use Rattle.its_plain.specs.Traced.{Traced, also, gives, located, plainly, word}
+use Rattle.its_plain.specs.Unit.Trace.{Traced, also, gives, located, plainly, word}
 use Rattle.its_plain.specs.Unit.{chain, context_of, decoded, followed, reached, target_of, chain_step, chain_step_at}
-use Rattle.its_plain.specs.Decode.{Shape, argument, argument_at, argument_words, arguments, block_at, checked, has_bit_0, held, is_legal, kind_of, parsed, shaped, storable, up_to_last, words_of}
+use Rattle.its_plain.specs.Call.Decode.{Shape, argument, argument_at, argument_words, arguments, block_at, checked, has_bit_0, held, is_legal, kind_of, parsed, shaped, storable, up_to_last, words_of}
 use Rattle.its_plain.proofs.Locality.{Local, local_also, local_held, local_located, local_plainly, local_storable, local_word}
 
 -- the way to an instruction
@@ -41,7 +41,8 @@ unfolding chain_step
 local_step j w used =
     local_also (λ c. plainly (decoded w)) (λ i c. also (located c w used) (λ f. chain_step_at c i (context_of j w f.at f.used)))
     (local_plainly (decoded w))
-    (λ i. local_also (λ c. located c w used) (λ f c. chain_step_at c i (context_of j w f.at f.used)) (local_located w used) (λ f. local_step_at i (context_of j w f.at f.used)))
+    (λ i. local_also (λ c. located c w used) (λ f c. chain_step_at c i (context_of j w f.at f.used)) (local_located w used)
+    (λ f. local_step_at i (context_of j w f.at f.used)))
 
 local_followed : (rest : ℕ → ℕ → Core → Traced _) → ((v k : ℕ) → Local (rest v k)) → (t : ChainStep) → Local (λ c. followed (λ v k. rest v k c) t)
 local_followed rest h (Found r) = local_plainly (Ok r)
@@ -60,7 +61,8 @@ local_reached j =
     local_also (λ c. word c j.pc) (λ w c. chain (budget + 1) c j w 0) (local_word j.pc) (λ w. local_chain (budget + 1) j w 0)
 
 -- the block
-local_up_to_last : (b : Bool) (rest : List ℕ → Core → Traced (ArrayVec ℕ)) (seen : List ℕ) → ((ws : List ℕ) → Local (rest ws)) → Local (λ c. up_to_last b (λ ws. rest ws c) seen)
+local_up_to_last : (b : Bool) (rest : List ℕ → Core → Traced (ArrayVec ℕ)) (seen : List ℕ) → ((ws : List ℕ) → Local (rest ws))
+    → Local (λ c. up_to_last b (λ ws. rest ws c) seen)
 local_up_to_last true rest seen h = local_plainly (Ok (record { items = seen }))
 local_up_to_last false rest seen h = h seen
 
@@ -74,8 +76,10 @@ local_argument_words (suc n) a seen =
 local_block_at : (e : ℕ) → Local (λ c. block_at c e)
 unfolding block_at
 local_block_at e =
-    local_also (λ c. word c (e % 2 ^ 18)) (λ first c. also (word c ((e + 1) % 2 ^ 18)) (λ name. argument_words 8 c (e + 2) (first ∷ name ∷ []))) (local_word (e % 2 ^ 18))
-    (λ first. local_also (λ c. word c ((e + 1) % 2 ^ 18)) (λ name c. argument_words 8 c (e + 2) (first ∷ name ∷ [])) (local_word ((e + 1) % 2 ^ 18)) (λ name. local_argument_words 8 (e + 2) (first ∷ name ∷ [])))
+    local_also (λ c. word c (e % 2 ^ 18)) (λ first c. also (word c ((e + 1) % 2 ^ 18))
+    (λ name. argument_words 8 c (e + 2) (first ∷ name ∷ []))) (local_word (e % 2 ^ 18))
+    (λ first. local_also (λ c. word c ((e + 1) % 2 ^ 18)) (λ name c. argument_words 8 c (e + 2) (first ∷ name ∷ []))
+    (local_word ((e + 1) % 2 ^ 18)) (λ name. local_argument_words 8 (e + 2) (first ∷ name ∷ [])))
 
 local_checked : (b : Bool) (block : ArrayVec ℕ) → Local (λ c. checked b block)
 local_checked true block = local_plainly (Ok block)
@@ -83,7 +87,8 @@ local_checked false block = local_plainly (Err Ilo)
 
 pub local_parsed : (e : ℕ) → Local (λ c. parsed c e)
 unfolding parsed
-local_parsed e = local_also (λ c. block_at c e) (λ block c. checked (is_legal block.items) block) (local_block_at e) (λ block. local_checked (is_legal block.items) block)
+local_parsed e = local_also (λ c. block_at c e) (λ block c. checked (is_legal block.items) block) (local_block_at e)
+    (λ block. local_checked (is_legal block.items) block)
 
 -- the arguments
 local_argument_at : (k : Kind) (e : ℕ) → Local (λ c. argument_at k c e)
@@ -99,7 +104,8 @@ local_argument_at kinds.Other e = local_plainly (Err Ilo)
 local_argument : (w used : ℕ) → Local (λ c. argument c w used)
 unfolding argument
 local_argument w used =
-    local_also (λ c. located c w used) (λ f c. also (argument_at (kind_of w) c f.at.e) (λ x. gives (record { argument = x; used = f.used }))) (local_located w used)
+    local_also (λ c. located c w used) (λ f c. also (argument_at (kind_of w) c f.at.e)
+    (λ x. gives (record { argument = x; used = f.used }))) (local_located w used)
     (λ f. local_also (λ c. argument_at (kind_of w) c f.at.e) (λ x c. gives (record { argument = x; used = f.used })) (local_argument_at (kind_of w) f.at.e)
     (λ x. local_plainly (Ok (record { argument = x; used = f.used }))))
 
@@ -114,7 +120,8 @@ pub local_shaped : (s : Site) → Local (λ c. shaped c s)
 unfolding shaped
 local_shaped s =
     local_also (λ c. parsed c s.e) (λ block c. also (arguments (words_of block.items) c s.used []) (λ xs. gives (shape block xs))) (local_parsed s.e)
-    (λ block. local_also (λ c. arguments (words_of block.items) c s.used []) (λ xs c. gives (shape block xs)) (local_arguments (words_of block.items) s.used [])
+    (λ block. local_also (λ c. arguments (words_of block.items) c s.used []) (λ xs c. gives (shape block xs))
+    (local_arguments (words_of block.items) s.used [])
     (λ xs. local_plainly (Ok (shape block xs))))
   where
     shape : ArrayVec ℕ → ArrayVec Arg → Shape

@@ -8,7 +8,7 @@ use Rattle.its_word.specs.declared.access.Fault.{Fault}
 use Rattle.its_records.specs.declared.jobs.Job.{Job}
 use Rattle.its_word.specs.declared.plan.Store.{Store}
 use Rattle.its_word.specs.Stores.{first_fault}
-use Rattle.its_plain.specs.Interrupt.{Entry, entries_of, first_entry, pushed, at_handler, by_stores, by_pointer, by_entry, by_length, by_table, through_table, unguarded, delivered}
+use Rattle.its_plain.specs.Unit.Interrupt.{Entry, entries_of, first_entry, pushed, at_handler, by_stores, by_pointer, by_entry, by_length, by_table, through_table, unguarded, delivered}
 
 -- PC stays an address
 stores_placed : (c : Core) (j : Job) (e : Entry) (ss : List Store) (o : Option Fault) → j.pc < 2 ^ 18 → (by_stores c j e ss o).job.pc < 2 ^ 18

@@ -10,14 +10,14 @@ use Rattle.its_word.specs.Limits.{slots}
 use Rattle.its_records.specs.declared.calls.Pace.{Pace}
 use Rattle.its_records.specs.declared.session.Event.{Event}
 use Rattle.its_print.specs.Printing.{Line}
-use Rattle.its_plain.specs.Course.{Course, Lines, Letter, machine_after, paced, letters, turned_by, turned, past, course}
-use Rattle.its_plain.specs.Course as courses
-use Rattle.its_plain.specs.Fair.{Turn, turn_at, turns_on, RunsAt, has_turn, Fair, FairTurns}
+use Rattle.its_plain.specs.Transcript.Course.{Course, Lines, Letter, machine_after, paced, letters, turned_by, turned, past, course}
+use Rattle.its_plain.specs.Transcript.Course as courses
+use Rattle.its_plain.specs.Promise.Fair.{Turn, turn_at, turns_on, RunsAt, has_turn, Fair, FairTurns}
 use Rattle.its_plain.specs.Machine.{Machine}
 use Rattle.its_plain.specs.Operator.{Refuses, Does, Ticks, Quits}
-use Rattle.its_plain.specs.OperatorLines.{Lined, Done, Peeks, lined}
+use Rattle.its_plain.specs.Operator.Lines.{Lined, Done, Peeks, lined}
 use Rattle.its_plain.specs.Transcript.{Walk, at_start, after_letter, walk_after, next_line}
-use Rattle.its_plain.specs.Turns.{runs, turn_after, highest, turns_asked}
+use Rattle.its_plain.specs.Transcript.Turns.{runs, turn_after, highest, turns_asked}
 
 -- the machine after some letters of slot i
 abbrev after_letters : Machine → ℕ → List Pace → Machine
@@ -87,7 +87,8 @@ behind (t ∷ before) ts last l f = let x = first last t (before ++ ts) l f in b
 
 -- slot k runs on and is nearer than slot s, which has a turn after these: slot k has one of these
 -- turns
-has_one : (between_ after : List Turn) (z : Turn) (last k s : ℕ) → last < slots → k < slots → s < slots → z.slot ≡ s → between slots last k < between slots last s
+has_one : (between_ after : List Turn) (z : Turn) (last k s : ℕ) → last < slots → k < slots → s < slots → z.slot ≡ s
+    → between slots last k < between slots last s
     → From last (between_ ++ z ∷ after) → RunsAt k (between_ ++ z ∷ []) → has_turn k between_ ≡ true
 has_one [] after z last k s l lk ls e h f r =
     let x = first last z after l f in
@@ -109,7 +110,8 @@ has_one (t ∷ ts) after z last k s l lk ls e h f r =
     ]
   where
     strictly : (n a b c : ℕ) → a < n → b < n → c < n → between n a b ≤ between n a c → b ≢ c → between n a b < between n a c
-    strictly n a b c x y z h ne = elim (cases_eq (between n a b) (between n a c)) [ inl same ↦ absurd (ne (as_far n a b c x y z same)) | inr other ↦ omega (arith, h, other) ]
+    strictly n a b c x y z h ne = elim (cases_eq (between n a b) (between n a c))
+        [ inl same ↦ absurd (ne (as_far n a b c x y z same)) | inr other ↦ omega (arith, h, other) ]
 
     has_here : (t : Turn) (ts : List Turn) (k : ℕ) → t.slot ≡ k → has_turn k (t ∷ ts) ≡ true
     has_here t ts k e = rw e (grind arith)
@@ -141,7 +143,8 @@ paced_turns : (k i : ℕ) (v : Walk) (ps : List Pace) (next : Walk → Course) (
 paced_turns k i v [] next ts h = h v (record { line = refl; machine = refl })
 paced_turns k i v (p ∷ ps) next ts h =
     let w = after_letter v i p (machine_after v.machine i p) in
-    letter_off (v.line == k) v.machine i p (turns_on k (paced w i ps next).moments) ∙ paced_turns k i w ps next ts (λ x l. h x (record { line = l.line; machine = l.machine }))
+    letter_off (v.line == k) v.machine i p (turns_on k (paced w i ps next).moments)
+    ∙ paced_turns k i w ps next ts (λ x l. h x (record { line = l.line; machine = l.machine }))
 
 -- the turns of this line, or none of another
 abbrev of_line : Bool → List Turn → List Turn
@@ -152,7 +155,8 @@ of_none : (b : Bool) → of_line b [] ≡ []
 of_none true = refl
 of_none false = refl
 
-turn_then : (b : Bool) (m : Machine) (s : ℕ) (ts us : List Turn) → turn_at b m (courses.Turns s) (of_line b ts ++ us) ≡ of_line b (record { machine = m; slot = s } ∷ ts) ++ us
+turn_then : (b : Bool) (m : Machine) (s : ℕ) (ts us : List Turn)
+    → turn_at b m (courses.Turns s) (of_line b ts ++ us) ≡ of_line b (record { machine = m; slot = s } ∷ ts) ++ us
 turn_then true m s ts us = refl
 turn_then false m s ts us = refl
 
@@ -160,9 +164,11 @@ turn_then false m s ts us = refl
 abbrev Onward : Walk → (Walk → ℕ → List Line → Course) → ℕ → List Turn → Type 0
 Onward v next k us = (w : Walk) (l : ℕ) (rest : List Line) → w.line ≡ v.line → l < slots → turns_on k (next w l rest).moments ≡ us
 
-turn_moments : (k n last : ℕ) (v : Walk) (lines : List Line) (next : Walk → ℕ → List Line → Course) (us : List Turn) (o : Option ℕ) → last < slots → turn_after v.machine last ≡ o
+turn_moments : (k n last : ℕ) (v : Walk) (lines : List Line) (next : Walk → ℕ → List Line → Course) (us : List Turn) (o : Option ℕ)
+    → last < slots → turn_after v.machine last ≡ o
     → Onward v next k us
-    → ((w : Walk) (s : ℕ) (rest : List Line) → s < slots → w.line ≡ v.line → turns_on k (turned n w s rest next).moments ≡ of_line (v.line == k) (turns n w.machine s rest) ++ us)
+    → ((w : Walk) (s : ℕ) (rest : List Line) → s < slots → w.line ≡ v.line
+    → turns_on k (turned n w s rest next).moments ≡ of_line (v.line == k) (turns n w.machine s rest) ++ us)
     → turns_on k (turned_by o v lines (λ w s rest. turned n w s rest next) (next v last lines)).moments
     ≡ of_line (v.line == k) (chosen v.machine o (λ s. turns n (after_letters v.machine s (letters lines)) s (drop 1 lines))) ++ us
 turn_moments k n last v lines next us None l is done more = done v last lines refl l ∙ ap (λ ts. ts ++ us) (sym (of_none (v.line == k)))
@@ -193,9 +199,11 @@ line_off true m e ts = refl
 line_off false m e ts = refl
 
 -- the turns of line k, from a line after it on
-past_none : (k : ℕ) (v : Walk) (e : Event) (l : Lined) (lines : List Line) (next : Walk → List Line → Course) → Follows v next k [] → turns_on k (past v e l lines next).moments ≡ []
+past_none : (k : ℕ) (v : Walk) (e : Event) (l : Lined) (lines : List Line) (next : Walk → List Line → Course) → Follows v next k []
+    → turns_on k (past v e l lines next).moments ≡ []
 past_none k v e (Done (Refuses r)) lines next h = refl
-past_none k v e (Done (Does n out touched b)) lines next h = line_off (v.line == k) v.machine e _ ∙ h (walk_after v n touched b) (drop (length out) lines) refl
+past_none k v e (Done (Does n out touched b)) lines next h = line_off (v.line == k) v.machine e _
+    ∙ h (walk_after v n touched b) (drop (length out) lines) refl
 past_none k v e (Done (Ticks s i)) lines next h = paced_turns k s v (letters lines) (λ w. next w (drop 1 lines)) [] (λ w leads. h w (drop 1 lines) leads.line)
 past_none k v e (Done Quits) lines next h = refl
 past_none k v e (Peeks s) lines next h = h v (drop 1 lines) refl
@@ -229,7 +237,8 @@ letters_fair k i v (p ∷ ps) next h =
 abbrev GoesOn : ℕ → (Walk → ℕ → List Line → Course) → Type 0
 GoesOn k next = (w : Walk) (l : ℕ) (rest : List Line) → l < slots → Fair (turns_on k (next w l rest).moments)
 
-turn_fair : (k n last : ℕ) (v : Walk) (lines : List Line) (next : Walk → ℕ → List Line → Course) (o : Option ℕ) → last < slots → turn_after v.machine last ≡ o → v.line ≢ k
+turn_fair : (k n last : ℕ) (v : Walk) (lines : List Line) (next : Walk → ℕ → List Line → Course) (o : Option ℕ) → last < slots
+    → turn_after v.machine last ≡ o → v.line ≢ k
     → GoesOn k next
     → ((w : Walk) (s : ℕ) (rest : List Line) → s < slots → w.line ≢ k → Fair (turns_on k (turned n w s rest next).moments))
     → Fair (turns_on k (turned_by o v lines (λ w s rest. turned n w s rest next) (next v last lines)).moments)
@@ -237,7 +246,8 @@ turn_fair k n last v lines next None l is ne done more = done v last lines l
 turn_fair k n last v lines next (Some s) l is ne done more =
     let w = letters_fair k s v (letters lines) (λ w. turned n w s (drop 1 lines) next)
     (λ w same. more w s (drop 1 lines) (turn_within v.machine last s l is) (λ e. ne (sym same ∙ e))) in
-    subst (λ b. Fair (turn_at b v.machine (courses.Turns s) (turns_on k (paced v s (letters lines) (λ w. turned n w s (drop 1 lines) next)).moments))) (sym (ne_eqb v.line k ne)) w
+    subst (λ b. Fair (turn_at b v.machine (courses.Turns s) (turns_on k
+    (paced v s (letters lines) (λ w. turned n w s (drop 1 lines) next)).moments))) (sym (ne_eqb v.line k ne)) w
 
 turned_fair : (k n last : ℕ) (v : Walk) (lines : List Line) (next : Walk → ℕ → List Line → Course) → last < slots → v.line ≢ k → GoesOn k next
     → Fair (turns_on k (turned n v last lines next).moments)

@@ -18,9 +18,9 @@ use Rattle.its_word.specs.declared.plan.Context.{Context}
 use Rattle.its_word.specs.declared.plan.Reached.{Reached}
 use Rattle.its_word.specs.declared.plan.ChainStep.{ChainStep}
 use Rattle.its_word.specs.declared.plan.ChainStep.TheVariants.{Found, Target}
-use Rattle.its_plain.specs.Traced.{Located, Traced, also, gives, located, located_by, plainly, word}
+use Rattle.its_plain.specs.Unit.Trace.{Located, Traced, also, gives, located, located_by, plainly, word}
 use Rattle.its_plain.specs.Unit.{Called, chain, context_of, decoded, done_by, followed as goes_to, outcome_at, reached, row_of, site_of, target_of, chain_step, chain_step_at, unit}
-use Rattle.its_plain.specs.Footprint.{SiteFits}
+use Rattle.its_plain.specs.Call.Footprint.{SiteFits}
 use Rattle.its_plain.proofs.Locality.{calculation_next}
 use Rattle.its_plain.proofs.SiteLaws.{never_planned}
 use Rattle.its_plain.proofs.ReadLaws.{went}
@@ -41,7 +41,8 @@ reaches_direct n c w last a h e =
     let l = length-append (index_places w) [] in
     record { below = subst (λ x. x.e < 2 ^ 18) is b; more = omega arith; most = omega arith; few = omega arith }
 
-calculation_reaches : (n : ℕ) (c : Core) (w : ℕ) (last : Option ℕ) (a : Address) → n ≤ budget → (calculation n c w last).answer ≡ Ok a → Reaches (calculation n c w last) a n
+calculation_reaches : (n : ℕ) (c : Core) (w : ℕ) (last : Option ℕ) (a : Address) → n ≤ budget → (calculation n c w last).answer ≡ Ok a
+    → Reaches (calculation n c w last) a n
 calculation_reaches zero c w last a h e = elim (cases_Bool (is_indirect w)) [
   | inl t ↦ let x = ap (λ r. r.answer) (sym (calculation_spent zero c w last t refl)) ∙ e in absurd (cc)
   | inr t ↦
@@ -55,10 +56,12 @@ calculation_reaches (suc n) c w last a h e = elim (cases_Bool (is_indirect w)) [
       subst (λ r. Reaches r a (suc n)) (sym d) (reaches_direct (suc n) c w last a h (ap (λ r. r.answer) (sym d) ∙ e))
 ]
   where
-    go : is_indirect w ≡ true → ((v : ℕ) → (calculation n c v (Some v)).answer ≡ Ok a → Reaches (calculation n c v (Some v)) a n) → (o : Option ℕ) → word_at c (indexed c w) ≡ o
+    go : is_indirect w ≡ true → ((v : ℕ) → (calculation n c v (Some v)).answer ≡ Ok a → Reaches (calculation n c v (Some v)) a n)
+        → (o : Option ℕ) → word_at c (indexed c w) ≡ o
         → Reaches (calculation (suc n) c w last) a (suc n)
     go t rest (Some v) eo =
-        let d = calculation_next n c w last t ∙ ap (λ o. reading (index_places w) (reading (indexed c w ∷ []) (followed n (λ v. calculation n c v (Some v)) o))) eo in
+        let d = calculation_next n c w last t ∙ ap (λ o. reading (index_places w)
+        (reading (indexed c w ∷ []) (followed n (λ v. calculation n c v (Some v)) o))) eo in
         let r = rest v (ap (λ r. r.answer) (sym d) ∙ e) in
         let f = index_places_few w in
         let l = length-append (index_places w) (indexed c w ∷ [] ++ (calculation n c v (Some v)).reads) in
@@ -67,7 +70,8 @@ calculation_reaches (suc n) c w last a h e = elim (cases_Bool (is_indirect w)) [
         let few = r.few in
         subst (λ r. Reaches r a (suc n)) (sym d) (record { below = r.below; more = omega arith; most = most; few = omega arith })
     go t rest None eo =
-        let d = calculation_next n c w last t ∙ ap (λ o. reading (index_places w) (reading (indexed c w ∷ []) (followed n (λ v. calculation n c v (Some v)) o))) eo in
+        let d = calculation_next n c w last t ∙ ap (λ o. reading (index_places w)
+        (reading (indexed c w ∷ []) (followed n (λ v. calculation n c v (Some v)) o))) eo in
         let x = ap (λ r. r.answer) (sym d) ∙ e in
         cc
 
@@ -122,7 +126,8 @@ unfolding Adds
 found_adds i x (Found r) h = let e : record { instruction = i; context = x } ≡ r = cc in (ap (λ (r : Reached). r.context) (sym e), refl)
 found_adds i x (Target w k) h = cc
 
-read_adds : (x : Context) (v : ℕ) (reads : List ℕ) (t : ChainStep) → x.used < budget → length reads ≡ 1 → (gives (Target v (x.used + 1))).answer ≡ Ok t → Adds x reads t
+read_adds : (x : Context) (v : ℕ) (reads : List ℕ) (t : ChainStep) → x.used < budget → length reads ≡ 1
+    → (gives (Target v (x.used + 1))).answer ≡ Ok t → Adds x reads t
 unfolding Adds
 read_adds x v reads (Found r) l n h = cc
 read_adds x v reads (Target w k) l n h = let e : x.used + 1 ≡ k = cc in (sym e, omega arith, n)
@@ -160,7 +165,8 @@ leads_by c j w used f first more all (Target v k) be mo me fe l a =
     let n = a.2 in
     record { most = m; few = omega arith }
 
-step_leads : (c : Core) (j : Job) (w used : ℕ) (t : ChainStep) → used ≤ budget → (chain_step c j w used).answer ≡ Ok t → Leads j (chain_step c j w used).reads used t
+step_leads : (c : Core) (j : Job) (w used : ℕ) (t : ChainStep) → used ≤ budget → (chain_step c j w used).answer ≡ Ok t
+    → Leads j (chain_step c j w used).reads used t
 unfolding chain_step
 step_leads c j w used t u h =
     let at_address = λ (i : Instruction). also (located c w used) (λ f. chain_step_at c i (context_of j w f.at f.used)) in
@@ -186,13 +192,15 @@ followed_ends j used rest r first all (Target v k) h l e n =
     let more = x.few in
     record { pc = x.pc; a = x.a; e = x.e; most = x.most; few = omega arith }
 
-chain_ends : (n : ℕ) (c : Core) (j : Job) (w used : ℕ) (r : Reached) → used ≤ budget → (chain n c j w used).answer ≡ Ok r → FoundAt j (chain n c j w used).reads used r.context
+chain_ends : (n : ℕ) (c : Core) (j : Job) (w used : ℕ) (r : Reached) → used ≤ budget → (chain n c j w used).answer ≡ Ok r
+    → FoundAt j (chain n c j w used).reads used r.context
 unfolding chain
 chain_ends zero c j w used r u h = cc
 chain_ends (suc n) c j w used r u h =
     let rest = λ (v k : ℕ). chain n c j v k in
     let t = went (chain_step c j w used) (λ t. goes_to rest t) r h in
-    followed_ends j used rest r (chain_step c j w used).reads _ t.value (λ v k m e. chain_ends n c j v k r m e) (step_leads c j w used t.value u t.first) t.last
+    followed_ends j used rest r (chain_step c j w used).reads _ t.value (λ v k m e. chain_ends n c j v k r m e)
+    (step_leads c j w used t.value u t.first) t.last
     (ap length t.reads ∙ length-append (chain_step c j w used).reads (goes_to rest t.value).reads)
 
 -- the instruction word is one more
@@ -213,18 +221,21 @@ reached_ends c j r h =
     let few = x.few in
     record { pc = x.pc; a = x.a; e = x.e; most = x.most; few = omega arith }
 
-site_by : (j : Job) (reads : List ℕ) (x : Context) (channel : Option ℕ) → EndsUnit j reads x → j.pc < 2 ^ 18 → IfSome channel (λ n. n < 16) → SiteFits (site_of x channel reads)
+site_by : (j : Job) (reads : List ℕ) (x : Context) (channel : Option ℕ) → EndsUnit j reads x → j.pc < 2 ^ 18 → IfSome channel (λ n. n < 16)
+    → SiteFits (site_of x channel reads)
 site_by j reads x channel h p n =
     let pc = h.pc in
     record { pc = omega arith; e = h.e; channel = n; used = h.most; room = h.few }
 
-done_fits : (c : Core) (j : Job) (reads : List ℕ) (x : Context) (i : Instruction) (s : Site) → EndsUnit j reads x → j.pc < 2 ^ 18 → done_by c j reads x i ≡ Called s → SiteFits s
+done_fits : (c : Core) (j : Job) (reads : List ℕ) (x : Context) (i : Instruction) (s : Site) → EndsUnit j reads x → j.pc < 2 ^ 18
+    → done_by c j reads x i ≡ Called s → SiteFits s
 unfolding done_by
 done_fits c j reads x Iot s h p e = let is : site_of x (Some x.a) reads ≡ s = cc in subst SiteFits is (site_by j reads x (Some x.a) h p h.a)
 done_fits c j reads x Call s h p e = let is : site_of x None reads ≡ s = cc in subst SiteFits is (site_by j reads x None h p tt)
 done_fits c j reads x i s h p e = absurd (never_planned c j (row_of c x i) s e)
 
-outcome_fits : (c : Core) (j : Job) (reads : List ℕ) (r : Result Reached Fault) (s : Site) → ((q : Reached) → r ≡ Ok q → EndsUnit j reads q.context) → j.pc < 2 ^ 18
+outcome_fits : (c : Core) (j : Job) (reads : List ℕ) (r : Result Reached Fault) (s : Site)
+    → ((q : Reached) → r ≡ Ok q → EndsUnit j reads q.context) → j.pc < 2 ^ 18
     → outcome_at c j reads r ≡ Called s → SiteFits s
 outcome_fits c j reads (Ok r) s h p e = done_fits c j reads r.context r.instruction s (h r refl) p e
 outcome_fits c j reads (Err f) s h p e = cc
@@ -234,7 +245,8 @@ unfolding unit
 site_fits c j s p e = outcome_fits c j (reached c j).reads (reached c j).answer s (λ q h. reached_ends c j q h) p e
 
 -- the budget that a call has used, wherever its instruction is
-done_used : (c : Core) (j : Job) (reads : List ℕ) (x : Context) (i : Instruction) (s : Site) → EndsUnit j reads x → done_by c j reads x i ≡ Called s → s.used ≤ budget
+done_used : (c : Core) (j : Job) (reads : List ℕ) (x : Context) (i : Instruction) (s : Site) → EndsUnit j reads x
+    → done_by c j reads x i ≡ Called s → s.used ≤ budget
 unfolding done_by
 done_used c j reads x Iot s h e = let is : site_of x (Some x.a) reads ≡ s = cc in subst (λ (t : Site). t.used ≤ budget) is h.most
 done_used c j reads x Call s h e = let is : site_of x None reads ≡ s = cc in subst (λ (t : Site). t.used ≤ budget) is h.most

@@ -21,3 +21,4 @@ pub mod ReadLaws
 pub mod FitsLaws
 pub mod AskFacts
 pub mod LocalExamples
+pub mod NumberLaws

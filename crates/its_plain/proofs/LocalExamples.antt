@@ -13,10 +13,10 @@ use Rattle.its_records.specs.declared.jobs.Channel.TheVariants.{Closed}
 use Rattle.its_records.specs.declared.jobs.Job.{Job}
 use Rattle.its_frame.specs.declared.name.CallName.TheVariants.{Access, Close, Corblk, Delete, Dismis, Fillen, Finish, Hang, Iot, Listen, Logout, Open, Rename, Siot, Sleep, Ttylnd, Uclose, Usrmem, Usrvar}
 use Rattle.its_frame.specs.Calls.{sixbit, call_named}
-use Rattle.its_plain.specs.UnitPlan.{read_of}
-use Rattle.its_plain.specs.Traced.{also, located, word}
+use Rattle.its_plain.specs.Unit.Plans.{read_of}
+use Rattle.its_plain.specs.Unit.Trace.{also, located, word}
 use Rattle.its_plain.specs.Unit.{Called, Faulted, chain, decoded, done_by, reached, target_of, chain_step, chain_step_at, unit}
-use Rattle.its_plain.specs.Decode.{argument, argument_at, argument_words, arguments, ask, ask_of, block_at, error_by, exceeds, held, iot_ask, is_legal, kind_of, parsed, row_named, shaped, storable}
+use Rattle.its_plain.specs.Call.Decode.{argument, argument_at, argument_words, arguments, ask, ask_of, block_at, error_by, exceeds, held, iot_ask, is_legal, kind_of, parsed, row_named, shaped, storable}
 
 -- words of a page, with some more from an address on
 abbrev with_words : List ℕ → ℕ → List ℕ → List ℕ
@@ -63,7 +63,8 @@ abbrev siot_site : Site
 siot_site = record { pc = 0o102; e = 0o130; channel = None; used = 0; decode = record { items = 0o102 ∷ [] } }
 
 siot_called : unit siot_core (job_at 0o102) ≡ Called siot_site
-unfolding unit reached also word read_of word_at page_of chain chain_step decoded instruction_of monitor_opcode located calculation index_places indexed last_used chain_step_at done_by
+unfolding unit reached also word read_of word_at page_of chain chain_step decoded instruction_of monitor_opcode located calculation
+    index_places indexed last_used chain_step_at done_by
 siot_called = refl
 
 siot_decoded : ask siot_core siot_site ≡ Ok (record {
@@ -82,7 +83,8 @@ siot_decoded : ask siot_core siot_site ≡ Ok (record {
   decode = record { items = 0o102 ∷ 0o130 ∷ 0o131 ∷ 0o132 ∷ 0o133 ∷ 0o134 ∷ [] };
   operand = record { items = 0o200 ∷ 0o201 ∷ [] };
 })
-unfolding ask shaped parsed block_at argument_words also word read_of word_at page_of is_legal arguments argument located calculation index_places indexed last_used kind_of argument_at held storable can_store ask_of row_named call_named sixbit error_by exceeds
+unfolding ask shaped parsed block_at argument_words also word read_of word_at page_of is_legal arguments argument located calculation
+    index_places indexed last_used kind_of argument_at held storable can_store ask_of row_named call_named sixbit error_by exceeds
 siot_decoded = refl
 
 -- 100 is XCT @101(1), 101 has 200, and 200 is `.sixbit Iot 4,0(1)` with accumulator 1 = 0: the
@@ -97,7 +99,8 @@ iot_site = record {
 }
 
 iot_called : unit (core_of (with_words (with_words [] 0o100 (0o256021000101 ∷ 0o200 ∷ [])) 0o200 (0o040201000000 ∷ []))) (job_at 0o100) ≡ Called iot_site
-unfolding unit reached also word read_of word_at page_of chain chain_step decoded instruction_of monitor_opcode full_word_opcode branch_opcode located calculation index_places indexed last_used chain_step_at target_of done_by
+unfolding unit reached also word read_of word_at page_of chain chain_step decoded instruction_of monitor_opcode full_word_opcode
+    branch_opcode located calculation index_places indexed last_used chain_step_at target_of done_by
 iot_called = refl
 
 iot_decoded : (c : Core) → ask c iot_site ≡ Ok (record {
@@ -117,7 +120,8 @@ iot_decoded c = refl
 not_called :
     (unit (core_of (with_words [] 0o100 (0o043040000130 ∷ []))) (job_at 0o100) ≡ Faulted Ilo)
     × (unit (core_of (with_words [] 0o100 (0o043020000101 ∷ 0o000020000101 ∷ []))) (job_at 0o100) ≡ Faulted Ilo)
-unfolding unit reached also word read_of word_at page_of chain chain_step decoded instruction_of monitor_opcode located calculation index_places indexed last_used chain_step_at done_by
+unfolding unit reached also word read_of word_at page_of chain chain_step decoded instruction_of monitor_opcode located calculation
+    index_places indexed last_used chain_step_at done_by
 not_called = (refl, refl)
 
 -- the number of the error of a block at 120, its error address and its control; or its fault
@@ -150,11 +154,14 @@ errors_told :
     × (block_told (0o400000000000 ∷ sixbit Close ∷ 0o001000000001 ∷ 0o402000000002 ∷ []) ≡ tells 3 None None)
     × (block_told (0o400000000000 ∷ sixbit Close ∷ 0o001000000001 ∷ 0o003000000120 ∷ 0o403000000121 ∷ []) ≡ tells 3 (Some 0o120) None)
     × (block_told (0o400000000000 ∷ sixbit Open ∷ 0o001000000001 ∷ 0o001000000002 ∷ 0o005000000001 ∷ 0o404000000120 ∷ []) ≡ tells 3 None (Some 1))
-    × (block_told (0o400000000000 ∷ sixbit Rename ∷ 0o001000000001 ∷ 0o001000000002 ∷ 0o001000000003 ∷ 0o001000000004 ∷ 0o001000000005 ∷ 0o001000000006 ∷ 0o003000000121 ∷ 0o005000000007 ∷ 0o400000000000 ∷ [])
+    × (block_told (0o400000000000 ∷ sixbit Rename ∷ 0o001000000001 ∷ 0o001000000002 ∷ 0o001000000003 ∷ 0o001000000004 ∷ 0o001000000005
+    ∷ 0o001000000006 ∷ 0o003000000121 ∷ 0o005000000007 ∷ 0o400000000000 ∷ [])
     ≡ tells 3 (Some 0o121) (Some 7))
-    × (block_told (0o400000000000 ∷ sixbit Rename ∷ 0o001000000001 ∷ 0o001000000002 ∷ 0o001000000003 ∷ 0o001000000004 ∷ 0o001000000005 ∷ 0o001000000006 ∷ 0o003000000121 ∷ 0o405000000007 ∷ [])
+    × (block_told (0o400000000000 ∷ sixbit Rename ∷ 0o001000000001 ∷ 0o001000000002 ∷ 0o001000000003 ∷ 0o001000000004 ∷ 0o001000000005
+    ∷ 0o001000000006 ∷ 0o003000000121 ∷ 0o405000000007 ∷ [])
     ≡ tells 0 (Some 0o121) (Some 7))
-unfolding ask shaped parsed block_at argument_words also word read_of word_at page_of is_legal arguments argument located calculation index_places indexed last_used kind_of argument_at held storable can_store ask_of row_named call_named sixbit error_by exceeds
+unfolding ask shaped parsed block_at argument_words also word read_of word_at page_of is_legal arguments argument located calculation
+    index_places indexed last_used kind_of argument_at held storable can_store ask_of row_named call_named sixbit error_by exceeds
 errors_told = (refl, refl, refl, refl, refl, refl, refl, refl, refl, refl)
 
 -- blocks with a fault: bit 0 of the first word off; type 6; type 6 in the last word, after an
@@ -171,7 +178,8 @@ faults_told :
     × (block_told (0o400000000000 ∷ sixbit Close ∷ 0o403000004000 ∷ []) ≡ Err Mpv)
     × (block_told (0o400000000000 ∷ sixbit Close ∷ 0o003000000120 ∷ 0o403000002000 ∷ []) ≡ Err Wro)
     × (block_told (0o400000000000 ∷ sixbit Close ∷ 0o400020000122 ∷ []) ≡ Err Ilo)
-unfolding ask shaped parsed block_at argument_words also word read_of word_at page_of is_legal arguments argument located calculation index_places indexed last_used kind_of argument_at held storable can_store ask_of row_named call_named sixbit error_by exceeds
+unfolding ask shaped parsed block_at argument_words also word read_of word_at page_of is_legal arguments argument located calculation
+    index_places indexed last_used kind_of argument_at held storable can_store ask_of row_named call_named sixbit error_by exceeds
 faults_told = (refl, refl, refl, refl, refl, refl, refl, refl, refl)
 
 -- a block at 777776 goes on at 0, which is accumulator 0
@@ -191,15 +199,20 @@ wrapped_decoded : ask wrapped_core (record { pc = 0o17; e = 0o777776; channel = 
   decode = record { items = 0o17 ∷ 0o777776 ∷ 0o777777 ∷ 0 ∷ [] };
   operand = record { items = [] };
 })
-unfolding ask shaped parsed block_at argument_words also word read_of word_at page_of is_legal arguments argument located calculation index_places indexed last_used kind_of argument_at held storable can_store ask_of row_named call_named sixbit error_by exceeds
+unfolding ask shaped parsed block_at argument_words also word read_of word_at page_of is_legal arguments argument located calculation
+    index_places indexed last_used kind_of argument_at held storable can_store ask_of row_named call_named sixbit error_by exceeds
 wrapped_decoded = refl
 
 -- the names of the table are what they say
 names_spelled :
-    (sixbit Hang ≡ sixbit_of (codes "HANG")) × (sixbit Sleep ≡ sixbit_of (codes "SLEEP")) × (sixbit Dismis ≡ sixbit_of (codes "DISMIS")) × (sixbit Usrvar ≡ sixbit_of (codes "USRVAR"))
-    × (sixbit Logout ≡ sixbit_of (codes "LOGOUT")) × (sixbit Open ≡ sixbit_of (codes "OPEN")) × (sixbit Close ≡ sixbit_of (codes "CLOSE")) × (sixbit Siot ≡ sixbit_of (codes "SIOT"))
-    × (sixbit Finish ≡ sixbit_of (codes "FINISH")) × (sixbit Listen ≡ sixbit_of (codes "LISTEN")) × (sixbit Ttylnd ≡ sixbit_of (codes "TTYLND")) × (sixbit Access ≡ sixbit_of (codes "ACCESS"))
-    × (sixbit Fillen ≡ sixbit_of (codes "FILLEN")) × (sixbit Delete ≡ sixbit_of (codes "DELETE")) × (sixbit Rename ≡ sixbit_of (codes "RENAME")) × (sixbit Usrmem ≡ sixbit_of (codes "USRMEM"))
+    (sixbit Hang ≡ sixbit_of (codes "HANG")) × (sixbit Sleep ≡ sixbit_of (codes "SLEEP")) × (sixbit Dismis ≡ sixbit_of (codes "DISMIS"))
+    × (sixbit Usrvar ≡ sixbit_of (codes "USRVAR"))
+    × (sixbit Logout ≡ sixbit_of (codes "LOGOUT")) × (sixbit Open ≡ sixbit_of (codes "OPEN")) × (sixbit Close ≡ sixbit_of (codes "CLOSE"))
+    × (sixbit Siot ≡ sixbit_of (codes "SIOT"))
+    × (sixbit Finish ≡ sixbit_of (codes "FINISH")) × (sixbit Listen ≡ sixbit_of (codes "LISTEN"))
+    × (sixbit Ttylnd ≡ sixbit_of (codes "TTYLND")) × (sixbit Access ≡ sixbit_of (codes "ACCESS"))
+    × (sixbit Fillen ≡ sixbit_of (codes "FILLEN")) × (sixbit Delete ≡ sixbit_of (codes "DELETE"))
+    × (sixbit Rename ≡ sixbit_of (codes "RENAME")) × (sixbit Usrmem ≡ sixbit_of (codes "USRMEM"))
     × (sixbit Uclose ≡ sixbit_of (codes "UCLOSE")) × (sixbit Corblk ≡ sixbit_of (codes "CORBLK")) × (sixbit Iot ≡ sixbit_of (codes "IOT"))
 unfolding sixbit_of sixbit
 names_spelled = (refl, refl, refl, refl, refl, refl, refl, refl, refl, refl, refl, refl, refl, refl, refl, refl, refl, refl, refl)

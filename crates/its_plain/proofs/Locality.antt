@@ -10,10 +10,10 @@ use Rattle.its_word.specs.Address.{Addressed, calculation, followed, found, inde
 use Rattle.its_word.proofs.AddressLaws.{calculation_direct, calculation_spent}
 use Rattle.its_word.specs.declared.access.Fault.{Fault}
 use Rattle.its_word.specs.declared.access.Fault.TheVariants.{Mpv}
-use Rattle.its_plain.specs.UnitPlan.{read_of}
-use Rattle.its_plain.specs.Traced.{Traced, also, goes_on, located, located_by, plainly, word}
+use Rattle.its_plain.specs.Unit.Plans.{read_of}
+use Rattle.its_plain.specs.Unit.Trace.{Traced, also, goes_on, located, located_by, plainly, word}
 use Rattle.its_word.specs.Stores.{refusal}
-use Rattle.its_plain.specs.Decode.{held, storable, there, allowed}
+use Rattle.its_plain.specs.Call.Decode.{held, storable, there, allowed}
 use Rattle.its_word.proofs.StoreLaws.{same_refusal}
 
 -- two cores that have a word at the same places among these, and can be stored to at the same ones
@@ -108,7 +108,8 @@ indexed_same a b w last h = elim (cases_Bool (index_of w == 0)) [
 ]
 
 pub calculation_next : (n : ℕ) (c : Core) (w : ℕ) (last : Option ℕ) → is_indirect w ≡ true
-    → calculation (suc n) c w last ≡ reading (index_places w) (reading (indexed c w ∷ []) (followed n (λ v. calculation n c v (Some v)) (word_at c (indexed c w))))
+    → calculation (suc n) c w last ≡ reading (index_places w)
+    (reading (indexed c w ∷ []) (followed n (λ v. calculation n c v (Some v)) (word_at c (indexed c w))))
 unfolding calculation
 calculation_next n c w last t = rw t refl
 
@@ -123,12 +124,14 @@ direct_same n a b w last t h =
     ∙ sym e
 
 next_same : (n : ℕ) (a b : Core) (w : ℕ) (last : Option ℕ) → is_indirect w ≡ true
-    → ((v : ℕ) → ((p : ℕ) → Contains (calculation n a v (Some v)).reads p → word_at b p ≡ word_at a p) → calculation n b v (Some v) ≡ calculation n a v (Some v))
+    → ((v : ℕ) → ((p : ℕ) → Contains (calculation n a v (Some v)).reads p → word_at b p ≡ word_at a p)
+    → calculation n b v (Some v) ≡ calculation n a v (Some v))
     → ((p : ℕ) → Contains (calculation (suc n) a w last).reads p → word_at b p ≡ word_at a p)
     → (o : Option ℕ) → word_at a (indexed a w) ≡ o → calculation (suc n) b w last ≡ calculation (suc n) a w last
 next_same n a b w last t rest h o eo =
     let ea = calculation_next n a w last t in
-    let g = λ (p : ℕ) (j : Contains (index_places w ++ (indexed a w ∷ [] ++ (followed n (λ v. calculation n a v (Some v)) (word_at a (indexed a w))).reads)) p).
+    let g = λ (p : ℕ) (j : Contains (index_places w ++ (indexed a w
+    ∷ [] ++ (followed n (λ v. calculation n a v (Some v)) (word_at a (indexed a w))).reads)) p).
     h p (subst (λ r. Contains r.reads p) (sym ea) j) in
     let i = indexed_same a b w last (λ p j. g p (Contains-append_left (index_places w) _ p j)) in
     let more = λ (p : ℕ) (j : Contains (indexed a w ∷ [] ++ (followed n (λ v. calculation n a v (Some v)) (word_at a (indexed a w))).reads) p).
@@ -136,7 +139,8 @@ next_same n a b w last t rest h o eo =
     let e : word_at b (indexed a w) ≡ word_at a (indexed a w) = more (indexed a w) (here (indexed a w) _) in
     calculation_next n b w last t
     ∙ ap (λ x. reading (index_places w) (reading (x ∷ []) (followed n (λ v. calculation n b v (Some v)) (word_at b x)))) i.0
-    ∙ ap (λ x. reading (index_places w) (reading (indexed a w ∷ []) x)) (ap (followed n (λ v. calculation n b v (Some v))) e ∙ by o eo (λ p j. more p (Contains-append_right (indexed a w ∷ []) _ p j)))
+    ∙ ap (λ x. reading (index_places w) (reading (indexed a w ∷ []) x))
+    (ap (followed n (λ v. calculation n b v (Some v))) e ∙ by o eo (λ p j. more p (Contains-append_right (indexed a w ∷ []) _ p j)))
     ∙ sym ea
   where
     by : (o : Option ℕ) → word_at a (indexed a w) ≡ o

@@ -4,8 +4,8 @@ use Rattle.its_word.specs.Core.{Core}
 use Rattle.its_word.specs.declared.access.Fault.{Fault}
 use Rattle.its_records.specs.declared.calls.Kind.{Kind}
 use Rattle.its_records.specs.declared.calls.Kind.TheVariants as kinds
-use Rattle.its_plain.specs.Decode.{argument_at, held, storable}
-use Rattle.its_plain.specs.Traced.{Traced, also, goes_on}
+use Rattle.its_plain.specs.Call.Decode.{argument_at, held, storable}
+use Rattle.its_plain.specs.Unit.Trace.{Traced, also, goes_on}
 
 -- the value that comes of two parts: the first has one, and so has the second
 pub record Went {X Y : Type 0} (m : Traced X) (k : X → Traced Y) (y : Y) : Type 0 where

@@ -11,12 +11,12 @@ use Rattle.its_records.specs.declared.session.Event.TheVariants as events
 use Rattle.its_records.specs.declared.show.Peek.{Peek}
 use Rattle.its_print.specs.Printing.{Line}
 use Rattle.its_print.specs.Printing as printed
-use Rattle.its_plain.specs.OperatorLines.{Lined, Done, Peeks, lined, operate}
-use Rattle.its_plain.specs.Licence.{Licensed, most_dots}
+use Rattle.its_plain.specs.Operator.Lines.{Lined, Done, Peeks, lined, operate}
+use Rattle.its_plain.specs.Transcript.Licence.{Licensed, most_dots}
 use Rattle.its_plain.specs.Machine.{Machine}
 use Rattle.its_plain.specs.Operator.{Block, Refuses, Does, Ticks, Quits}
 use Rattle.its_plain.specs.Transcript.{Fate, Ended, Open, Refused, TooLong, Walk, after_letter, walk_after, next_line, Paced, none, letter, Turned, all_made, none_runs, a_turn, Shows, end_line, input_end, too_long, unread_line, refused_line, obeyed_line, tick_line, peek_line}
-use Rattle.its_plain.specs.Turns.{turn_after, turns_asked, ticks_asked}
+use Rattle.its_plain.specs.Transcript.Turns.{turn_after, turns_asked, ticks_asked}
 
 -- each letter is licensed in turn, and what follows goes on from there
 abbrev pub PacedOn : Walk → ℕ → List Pace → (Walk → Type 0) → Type 0
@@ -25,7 +25,8 @@ PacedOn v i (p ∷ ps) next = (n : Machine) × Licensed v.machine i p n × (p �
 
 -- up to n turns of q ticks, after a turn of slot `last`, and what follows them
 abbrev pub TurnBy : ℕ → Walk → Option ℕ → (Walk → ℕ → List Line → Type 0) → Type 0 → List Line → Type 0
-TurnBy q v (Some s) more done lines = (ps : List Pace) × (rest : List Line) × (lines ≡ printed.Ticks s ps ∷ rest) × (length ps ≡ q) × PacedOn v s ps (λ w. more w s rest)
+TurnBy q v (Some s) more done lines = (ps : List Pace) × (rest : List Line) × (lines ≡ printed.Ticks s ps ∷ rest) × (length ps ≡ q)
+    × PacedOn v s ps (λ w. more w s rest)
 TurnBy q v None more done lines = done
 
 abbrev pub TurnsOn : ℕ → ℕ → Walk → ℕ → (Walk → ℕ → List Line → Type 0) → List Line → Type 0
@@ -83,9 +84,11 @@ turned_on {q = q} {last = last} {v = v} (a_turn {n = n} {s = s} {w = w} {ps = ps
     (ps, lines, refl, long, paced_on paces (λ w. TurnsOn n q w s next lines) (turned_on more next h))
 
 lined_run : (v : Walk) (last : ℕ) (e : Event) (es : List Item) (lines : List Line) (fate : Fate) (l : Lined) → lined v.machine v.block e ≡ l
-    → LinedOn v l (λ w rest. TurnsOn (turns_asked e) (ticks_asked e) w last (λ x l more. Run x l es more fate) rest) lines fate → Run v last (Read e ∷ es) lines fate
+    → LinedOn v l (λ w rest. TurnsOn (turns_asked e) (ticks_asked e) w last (λ x l more. Run x l es more fate) rest) lines fate
+    → Run v last (Read e ∷ es) lines fate
 lined_run v last e es lines fate l is h =
-    subst (λ (l : Lined). LinedOn v l (λ w rest. TurnsOn (turns_asked e) (ticks_asked e) w last (λ x l more. Run x l es more fate) rest) lines fate) (sym is) h
+    subst (λ (l : Lined). LinedOn v l (λ w rest. TurnsOn (turns_asked e) (ticks_asked e) w last (λ x l more. Run x l es more fate) rest)
+    lines fate) (sym is) h
 
 -- what follows a line that asks for no turns
 no_turns : (v : Walk) (last : ℕ) (e : Event) (es : List Item) (lines : List Line) (fate : Fate) → turns_asked e ≡ 0 → Run v last es lines fate
@@ -98,8 +101,10 @@ shows_run v last (Read e ∷ es) lines fate (end_line is) = lined_run v last e e
 shows_run v last [] lines fate input_end = (refl, refl)
 shows_run v last (Beyond ∷ es) lines fate too_long = (refl, refl)
 shows_run v last (Unread r ∷ es) lines fate unread_line = (refl, refl)
-shows_run v last (Read e ∷ es) lines fate (refused_line {r = r} is) = lined_run v last e es (printed.Refused v.line r ∷ []) Refused (Done (Refuses r)) is (refl, refl)
-shows_run v last (Read e ∷ es) lines fate (obeyed_line {w = w} {l = l} {n = n} {out = out} {touched = touched} {b = b} {more = more} {rest = rest} is at turns goes) =
+shows_run v last (Read e ∷ es) lines fate (refused_line {r = r} is) =
+    lined_run v last e es (printed.Refused v.line r ∷ []) Refused (Done (Refuses r)) is (refl, refl)
+shows_run v last (Read e ∷ es) lines fate (obeyed_line {w = w} {l = l} {n = n} {out = out} {touched = touched} {b = b} {more = more}
+    {rest = rest} is at turns goes) =
     lined_run v last e es lines fate (Done (Does n out touched b)) is
     (more, at, turned_on turns (λ x k ls. Run x k es ls fate) (shows_run w l es rest fate goes))
 shows_run v last (Read e ∷ es) lines fate (tick_line {w = w} {i = i} {k = k} {ps = ps} {rest = rest} is long paces goes) =
@@ -143,7 +148,8 @@ turn_by q n last v lines next (Some s) is more h =
     let t = more p.to s h.1 p.next in
     rw h.2 (record { to = t.to; slot = t.slot; rest = t.rest; turns = a_turn is h.3 p.paces t.turns; next = t.next })
 
-on_turned : (q n last : ℕ) (v : Walk) (lines : List Line) (next : Walk → ℕ → List Line → Type 0) → TurnsOn n q v last next lines → TurnedTo q n v last lines next
+on_turned : (q n last : ℕ) (v : Walk) (lines : List Line) (next : Walk → ℕ → List Line → Type 0) → TurnsOn n q v last next lines
+    → TurnedTo q n v last lines next
 on_turned q zero last v lines next h = record { to = v; slot = last; rest = lines; turns = all_made; next = h }
 on_turned q (suc n) last v lines next h =
     turn_by q n last v lines next (turn_after v.machine last) refl (λ w s rest t. on_turned q n s w rest next t) h

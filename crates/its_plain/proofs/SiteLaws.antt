@@ -15,8 +15,8 @@ use Rattle.its_word.specs.declared.plan.Plan.{Plan}
 use Rattle.its_word.specs.declared.plan.Reached.{Reached}
 use Rattle.its_word.specs.declared.plan.ChainStep.{ChainStep}
 use Rattle.its_word.specs.declared.plan.ChainStep.TheVariants.{Found, Target}
-use Rattle.its_plain.specs.UnitPlan.{Planned}
-use Rattle.its_plain.specs.Traced.{Traced, also, goes_on, located, plainly, word}
+use Rattle.its_plain.specs.Unit.Plans.{Planned}
+use Rattle.its_plain.specs.Unit.Trace.{Traced, also, goes_on, located, plainly, word}
 use Rattle.its_plain.specs.Unit.{Called, chain, context_of, decoded, done_by, followed, made, outcome_at, outcome_of, reached, row_of, site_of, target_of, chain_step, chain_step_at, unit}
 use Rattle.its_plain.proofs.Locality.{Words}
 use Rattle.its_plain.proofs.DecodeLocality.{local_reached}

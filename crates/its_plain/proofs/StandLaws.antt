@@ -14,8 +14,8 @@ use Rattle.its_records.specs.declared.calls.Operand.{Operand}
 use Rattle.its_records.specs.declared.calls.Site.{Site}
 use Rattle.its_records.specs.declared.calls.Source.TheVariants.{Held, Immediate}
 use Rattle.its_records.specs.declared.jobs.Job.{Job}
-use Rattle.its_plain.specs.Decode.{Shape, ask, ask_of, control_of, input_of, iot_ask, operand_of, held_place, shaped}
-use Rattle.its_plain.specs.Footprint.{Stands, times, with_inputs}
+use Rattle.its_plain.specs.Call.Decode.{Shape, ask, ask_of, control_of, input_of, iot_ask, operand_of, held_place, shaped}
+use Rattle.its_plain.specs.Call.Footprint.{Stands, times, with_inputs}
 use Rattle.its_plain.proofs.Locality.{Agree, Alike, Words}
 use Rattle.its_plain.proofs.SiteLaws.{site_same}
 use Rattle.its_plain.proofs.AskLaws.{ask_of_is, ask_same, ask_with, asked_by_block, asked_by_iot, block_agrees, decode_iot, decode_of, decoded_of, inputs_is, iot_of, operand_is}
@@ -147,7 +147,8 @@ held_stored c p v q h = elim (cases_Bool (q == p)) [
   | inr t ↦ rw t (ap (λ o. unwrap_or o 0) (word_at-store_other c p q v (λ e. let r = eq-eqb q p e in cc)))
 ]
 
-inputs_stored : (c : Core) (p v : ℕ) (xs : List Arg) → can_store c p ≡ true → filter_map (input_of (store c p v)) xs ≡ map (renew p v) (filter_map (input_of c) xs)
+inputs_stored : (c : Core) (p v : ℕ) (xs : List Arg) → can_store c p ≡ true
+    → filter_map (input_of (store c p v)) xs ≡ map (renew p v) (filter_map (input_of c) xs)
 inputs_stored c p v [] h = refl
 inputs_stored c p v (Input (Held q) ∷ xs) h =
     ap (λ w. record { value = w; place = Some q } ∷ filter_map (input_of (store c p v)) xs) (held_stored c p v q h)
@@ -181,7 +182,8 @@ controls_stored c p v (Control (Held q) ∷ xs) t =
     ∙ ap (λ ys. unwrap_or (word_at c q) 0 ∷ ys) (controls_stored c p v xs n.1)
 controls_stored c p v (Control (Immediate w) ∷ xs) t = ap (λ ys. w ∷ ys) (controls_stored c p v xs (no_control p (Control (Immediate w)) xs t).1)
 
-renew_ask : (d : List ℕ) (h : Shape) (p v : ℕ) (inputs : List Operand) (controls : List ℕ) → ask_with d h (map (renew p v) inputs) controls ≡ renewed p v (ask_with d h inputs controls)
+renew_ask : (d : List ℕ) (h : Shape) (p v : ℕ) (inputs : List Operand) (controls : List ℕ)
+    → ask_with d h (map (renew p v) inputs) controls ≡ renewed p v (ask_with d h inputs controls)
 unfolding ask_with
 renew_ask d h p v inputs controls = rw length-map refl
 
@@ -197,7 +199,8 @@ iot_inputs s n p =
     omega arith
 
 -- what a call asks for after a store at a free place
-ask_of_stored : (c : Core) (d : List ℕ) (h : Shape) (p v : ℕ) → can_store c p ≡ true → controls_at p h.arguments ≡ 0 → ask_of (store c p v) d h ≡ renewed p v (ask_of c d h)
+ask_of_stored : (c : Core) (d : List ℕ) (h : Shape) (p v : ℕ) → can_store c p ≡ true → controls_at p h.arguments ≡ 0
+    → ask_of (store c p v) d h ≡ renewed p v (ask_of c d h)
 unfolding ask_with
 ask_of_stored c d h p v s t =
     ask_of_is (store c p v) d h
@@ -213,7 +216,8 @@ site_words c s k p a t = go s.channel refl
     go : (o : Option ℕ) → s.channel ≡ o → times p s.decode.items ≡ 0
     go None n =
         let d = decoded_of c s k n a in
-        let e : k.decode.items ≡ s.decode.items ++ (shaped c s).reads = ap (λ (x : Ask). x.decode.items) d.asks ∙ decode_of c (s.decode.items ++ (shaped c s).reads) d.shape in
+        let e : k.decode.items ≡ s.decode.items ++ (shaped c s).reads = ap (λ (x : Ask). x.decode.items) d.asks
+        ∙ decode_of c (s.decode.items ++ (shaped c s).reads) d.shape in
         let f = times_append p s.decode.items (shaped c s).reads in
         let g = ap (times p) e in
         omega arith
@@ -230,8 +234,10 @@ inputs_few c s k p a = go s.channel refl
     go None n =
         let d = decoded_of c s k n a in
         let ds = s.decode.items ++ (shaped c s).reads in
-        let o : times p k.operand.items ≡ times p (filter_map operand_of d.shape.arguments) = ap (λ (x : Ask). times p x.operand.items) d.asks ∙ ap (times p) (operand_is c ds d.shape) in
-        let i : inputs_at p k.inputs.items ≡ inputs_at p (filter_map (input_of c) d.shape.arguments) = ap (λ (x : Ask). inputs_at p x.inputs.items) d.asks ∙ ap (inputs_at p) (inputs_is c ds d.shape) in
+        let o : times p k.operand.items ≡ times p (filter_map operand_of d.shape.arguments) =
+        ap (λ (x : Ask). times p x.operand.items) d.asks ∙ ap (times p) (operand_is c ds d.shape) in
+        let i : inputs_at p k.inputs.items ≡ inputs_at p (filter_map (input_of c) d.shape.arguments) =
+        ap (λ (x : Ask). inputs_at p x.inputs.items) d.asks ∙ ap (inputs_at p) (inputs_is c ds d.shape) in
         let r = counted c p d.shape.arguments in
         omega arith
     go (Some ch) n =
@@ -247,8 +253,10 @@ ask_stored c s k p v a can f = go s.channel refl
         let d = decoded_of c s k n a in
         let ds = s.decode.items ++ (shaped c s).reads in
         let e = block_agrees c (store c p v) s k d (stored_agrees c p v k.decode.items (shaped c s).tests f.decode) in
-        let o : times p k.operand.items ≡ times p (filter_map operand_of d.shape.arguments) = ap (λ (x : Ask). times p x.operand.items) d.asks ∙ ap (times p) (operand_is c ds d.shape) in
-        let i : inputs_at p k.inputs.items ≡ inputs_at p (filter_map (input_of c) d.shape.arguments) = ap (λ (x : Ask). inputs_at p x.inputs.items) d.asks ∙ ap (inputs_at p) (inputs_is c ds d.shape) in
+        let o : times p k.operand.items ≡ times p (filter_map operand_of d.shape.arguments) =
+        ap (λ (x : Ask). times p x.operand.items) d.asks ∙ ap (times p) (operand_is c ds d.shape) in
+        let i : inputs_at p k.inputs.items ≡ inputs_at p (filter_map (input_of c) d.shape.arguments) =
+        ap (λ (x : Ask). inputs_at p x.inputs.items) d.asks ∙ ap (inputs_at p) (inputs_is c ds d.shape) in
         let r = counted c p d.shape.arguments in
         let few = f.operand in
         let none : controls_at p d.shape.arguments ≡ 0 = omega arith in
@@ -260,7 +268,8 @@ ask_stored c s k p v a can f = go s.channel refl
         asked_by_iot (store c p v) s ch n ∙ ap Ok (iot_renewed s ch p v ∙ ap (renewed p v) e)
 
 -- a store at the word of an input, if it is no other word of the call
-pub stands_stored : (c : Core) (j : Job) (s : Site) (k : Ask) (p v : ℕ) → Stands c j s k → can_store c p ≡ true → Free p k → Stands (store c p v) j s (renewed p v k)
+pub stands_stored : (c : Core) (j : Job) (s : Site) (k : Ask) (p v : ℕ) → Stands c j s k → can_store c p ≡ true → Free p k
+    → Stands (store c p v) j s (renewed p v k)
 stands_stored c j s k p v h can f = record {
   unit_is = site_same c (store c p v) j s h.unit_is (stored_words c p v s.decode.items (site_words c s k p h.ask_is f.decode));
   ask_is = ask_stored c s k p v h.ask_is can f;
@@ -270,7 +279,8 @@ stands_stored c j s k p v h can f = record {
 pub stands_outside : (c : Core) (j : Job) (s : Site) (k : Ask) (p v : ℕ) → Stands c j s k → Outside p k → Stands (store c p v) j s k
 stands_outside c j s k p v h o = record {
   unit_is = site_same c (store c p v) j s h.unit_is (stored_words c p v s.decode.items (site_words c s k p h.ask_is o.decode));
-  ask_is = ask_same c (store c p v) s k h.ask_is (stored_agrees c p v k.decode.items (shaped c s).tests o.decode) (stored_words c p v k.operand.items o.operand);
+  ask_is = ask_same c (store c p v) s k h.ask_is (stored_agrees c p v k.decode.items (shaped c s).tests o.decode)
+      (stored_words c p v k.operand.items o.operand);
 }
 
 -- the footprint does not depend on the values of the inputs

@@ -8,11 +8,11 @@ use Rattle.its_word.specs.declared.access.Fault.{Fault}
 use Rattle.its_records.specs.declared.calls.Ask.{Ask}
 use Rattle.its_records.specs.declared.calls.Site.{Site}
 use Rattle.its_records.specs.declared.jobs.Job.{Job}
-use Rattle.its_plain.specs.Decode.{ask}
-use Rattle.its_plain.specs.CallStep.{Transition, quiet_step, acted, decision, with_fault, by_ask, with_core_and_job, by_unit, delivery, by_delivery, unless_stopped, transition_of, transition, step}
-use Rattle.its_plain.specs.Change.{in_job}
-use Rattle.its_plain.specs.Decide.{reach}
-use Rattle.its_plain.specs.Interrupt.{deliverable, delivered}
+use Rattle.its_plain.specs.Call.Decode.{ask}
+use Rattle.its_plain.specs.Call.Step.{Transition, quiet_step, acted, decision, with_fault, by_ask, with_core_and_job, by_unit, delivery, by_delivery, unless_stopped, transition_of, transition, step}
+use Rattle.its_plain.specs.Machine.Change.{in_job}
+use Rattle.its_plain.specs.Call.Decide.{reach}
+use Rattle.its_plain.specs.Unit.Interrupt.{deliverable, delivered}
 use Rattle.its_plain.specs.Machine.{Whole, Machine}
 use Rattle.its_plain.specs.Unit.{Outcome, Changed, Faulted, Called, unit}
 
@@ -55,7 +55,8 @@ unfolding transition
 transition_has P m j h = slot_has P m j (m.jobs j) refl h
 
 -- and the machine after a step has it
-pub step_has : (P : Machine → Type 0) (m n : Machine) (j : ℕ) → ((q : Whole) → m.jobs j ≡ Some q → EachCase (λ t. P t.machine) m j q) → step m j ≡ Some n → P n
+pub step_has : (P : Machine → Type 0) (m n : Machine) (j : ℕ) → ((q : Whole) → m.jobs j ≡ Some q → EachCase (λ t. P t.machine) m j q)
+    → step m j ≡ Some n → P n
 unfolding step
 step_has P m n j h e = go (transition m j) (transition_has (λ t. P t.machine) m j h) e
   where
@@ -69,12 +70,14 @@ pub transition_delivers : (m : Machine) (j : ℕ) (q : Whole) → m.jobs j ≡ S
 unfolding transition
 transition_delivers m j q is runs d = ap (transition_of m j) is ∙ ap (unless_stopped m j q) runs ∙ ap (by_delivery m j q) d
 
-pub transition_unit : (m : Machine) (j : ℕ) (q : Whole) (o : Outcome) → m.jobs j ≡ Some q → q.job.stopped ≡ false → deliverable q.job ≡ false → unit q.core q.job ≡ o
+pub transition_unit : (m : Machine) (j : ℕ) (q : Whole) (o : Outcome) → m.jobs j ≡ Some q → q.job.stopped ≡ false
+    → deliverable q.job ≡ false → unit q.core q.job ≡ o
     → transition m j ≡ by_unit m j q o
 unfolding transition
 transition_unit m j q o is runs quiet e = ap (transition_of m j) is ∙ ap (unless_stopped m j q) runs ∙ ap (by_delivery m j q) quiet ∙ ap (by_unit m j q) e
 
-pub transition_called : (m : Machine) (j : ℕ) (q : Whole) (s : Site) (r : Result Ask Fault) → m.jobs j ≡ Some q → q.job.stopped ≡ false → deliverable q.job ≡ false
+pub transition_called : (m : Machine) (j : ℕ) (q : Whole) (s : Site) (r : Result Ask Fault) → m.jobs j ≡ Some q → q.job.stopped ≡ false
+    → deliverable q.job ≡ false
     → unit q.core q.job ≡ Called s → ask q.core s ≡ r → transition m j ≡ by_ask m j q r
 transition_called m j q s r is runs quiet u e = transition_unit m j q (Called s) is runs quiet u ∙ ap (by_ask m j q) e
 

@@ -4,15 +4,16 @@ use Rattle.std.proofs.Common.{◌∙◌, ap, arith, inl, inr}
 use Rattle.std.proofs.lemmas.Bool.{cases_lt, le-ltb, eq-eqb, ne_eqb, or_from}
 use Rattle.its_records.specs.declared.calls.Ask.{Ask}
 use Rattle.its_frame.specs.declared.name.CallName.{CallName}
-use Rattle.its_plain.specs.Arguments.{input}
-use Rattle.its_plain.specs.CallBasic.{is_oneself, channel_at}
-use Rattle.its_plain.specs.Decide.{call_named, reaching, inferior_on, target_by, argument_of, target, reach_by, reach}
+use Rattle.its_plain.specs.Call.Arguments.{input}
+use Rattle.its_plain.specs.Call.Basic.{is_oneself, channel_at}
+use Rattle.its_plain.specs.Call.Decide.{call_named, reaching, inferior_on, target_by, argument_of, target, reach_by, reach}
 use Rattle.its_plain.specs.Machine.{Chan, Shut, On, Whole, Machine}
 
 -- the number of a channel does not name oneself
 channel_number : (cs : ℕ → Chan) (n s at : ℕ) (write : Bool) → channel_at cs n ≡ On s write at → is_oneself n ≡ false
 channel_number cs n s at write e = elim (cases_lt n 16) [
-  | inl l ↦ or_from (n == 0o777777) (n == 0o777777777777) (ne_eqb n 0o777777 (λ t. absurd (omega arith))) (ne_eqb n 0o777777777777 (λ t. absurd (omega arith)))
+  | inl l ↦ or_from (n == 0o777777) (n == 0o777777777777) (ne_eqb n 0o777777 (λ t. absurd (omega arith)))
+      (ne_eqb n 0o777777777777 (λ t. absurd (omega arith)))
   | inr ge ↦ let shut : channel_at cs n ≡ Shut = ap (λ (b : Bool). if b then cs n else Shut) (le-ltb n 16 ge) in cc
 ]
 
@@ -27,6 +28,7 @@ target_on q a c i s at write z e names is =
     ∙ ap inferior_on is
 
 -- whom a call by its name reaches
-pub reach_named : (m : Machine) (j : ℕ) (q : Whole) (a : Ask) (c : CallName) → a.fail ≡ 0 → call_named a.name ≡ Some c → reach m j q a ≡ reach_by m j q a (Some c)
+pub reach_named : (m : Machine) (j : ℕ) (q : Whole) (a : Ask) (c : CallName) → a.fail ≡ 0 → call_named a.name ≡ Some c
+    → reach m j q a ≡ reach_by m j q a (Some c)
 unfolding reach
 reach_named m j q a c z e = ap (λ (b : Bool). if b then reach_by m j q a (call_named a.name) else []) (eq-eqb a.fail 0 z) ∙ ap (reach_by m j q a) e

@@ -3,7 +3,7 @@ use Rattle.std.specs.Prelude.{◌≡◌, ℕ, List, [], ◌++◌, Err}
 use Rattle.std.proofs.Common.{sym, ap, append_assoc}
 use Rattle.std.proofs.lemmas.List.{append-nil}
 use Rattle.its_word.specs.declared.access.Fault.{Fault}
-use Rattle.its_plain.specs.Traced.{Traced, also, goes_on}
+use Rattle.its_plain.specs.Unit.Trace.{Traced, also, goes_on}
 
 pub joined : (xs ys zs : List ℕ) → xs ++ (ys ++ zs) ≡ xs ++ ys ++ zs
 joined xs ys zs = sym (append_assoc xs ys zs)

@@ -10,10 +10,10 @@ use Rattle.its_records.specs.declared.session.Reason.TheVariants as reasons
 use Rattle.its_print.specs.Printing.{Line}
 use Rattle.its_print.specs.Printing as printed
 use Rattle.its_plain.specs.Machine.{no_machine}
-use Rattle.its_plain.specs.OperatorClock.{after_clock}
-use Rattle.its_plain.specs.OperatorLines.{operate, lined}
+use Rattle.its_plain.specs.Operator.Clock.{after_clock}
+use Rattle.its_plain.specs.Operator.Lines.{operate, lined}
 use Rattle.its_plain.specs.Transcript.{Fate, Ended, Open, Refused, at_start, next_line, none, letter, end_line, input_end, refused_line, obeyed_line, all_made, tick_line, Transcript}
-use Rattle.its_plain.specs.Turns.{highest}
+use Rattle.its_plain.specs.Transcript.Turns.{highest}
 use Rattle.its_plain.proofs.RunLaws.{PacedOn, Run, shows_run}
 
 -- CLOCK shows nothing, and END ends the session

@@ -10,8 +10,8 @@ use Rattle.its_records.specs.declared.calls.Ask.{Ask}
 use Rattle.its_records.specs.declared.calls.Operand.{Operand}
 use Rattle.its_records.specs.declared.calls.Site.{Site}
 use Rattle.its_records.specs.declared.jobs.Job.{Job}
-use Rattle.its_plain.specs.Decode.{ask}
-use Rattle.its_plain.specs.Footprint.{Stands, among, in_footprint, is_shared, times, variable, with_inputs}
+use Rattle.its_plain.specs.Call.Decode.{ask}
+use Rattle.its_plain.specs.Call.Footprint.{Stands, among, in_footprint, is_shared, times, variable, with_inputs}
 use Rattle.its_plain.proofs.StandLaws.{Free, Once, Outside, inputs_at, inputs_at_append, inputs_at_cons, inputs_few, is_at, once_inputs, renew, renewed_value, stands_stored, times_cons, times_none}
 use Rattle.its_records.proofs.ClimbLaws.{or_none}
 
@@ -105,7 +105,8 @@ stands_renewed c j s k front old p new back h can o e =
     subst (λ xs. Stands (store c p new) j s (with_inputs k xs)) is (stands_stored c j s k p new h can (once_free k p o (omega arith)))
 
 -- SLEEP: its argument is stored
-pub sleep_stands : (c : Core) (j : Job) (s : Site) (k : Ask) (v p w : ℕ) → Stands c j s k → k.inputs.items ≡ variable v p ∷ [] → Once p k → can_store c p ≡ true
+pub sleep_stands : (c : Core) (j : Job) (s : Site) (k : Ask) (v p w : ℕ) → Stands c j s k → k.inputs.items ≡ variable v p ∷ [] → Once p k
+    → can_store c p ≡ true
     → Stands (store c p w) j s (with_inputs k (variable w p ∷ []))
 sleep_stands c j s k v p w h e o can = stands_renewed c j s k [] v p w [] h can o e
 

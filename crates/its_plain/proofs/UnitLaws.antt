@@ -13,8 +13,8 @@ use Rattle.its_word.specs.declared.plan.Reached.{Reached}
 use Rattle.its_word.specs.declared.plan.Store.{Store}
 use Rattle.its_word.proofs.CoreLaws.{can_store-store, is_some-store}
 use Rattle.its_word.proofs.PageLaws.{pages_present-store}
-use Rattle.its_plain.specs.Job.{named_flags}
-use Rattle.its_plain.specs.UnitPlan.{Planned}
+use Rattle.its_plain.specs.Machine.Registers.{named_flags}
+use Rattle.its_plain.specs.Unit.Plans.{Planned}
 use Rattle.its_word.specs.Stores.{first_fault, place, stored}
 use Rattle.its_plain.specs.Unit.{Outcome, Changed, Faulted, Called, after_plan, made, outcome_of, outcome_at, done_by, reached, row_of, unit}
 

@@ -7,7 +7,7 @@ use Rattle.its_robin.specs.Robin.{robin}
 use Rattle.its_robin.proofs.RobinLaws.{robin_same}
 use Rattle.its_word.specs.Limits.{slots}
 use Rattle.its_plain.specs.Machine.{Machine}
-use Rattle.its_plain.specs.Turns.{runs, turn_after}
+use Rattle.its_plain.specs.Transcript.Turns.{runs, turn_after}
 use Rattle.its_plain.proofs.FairLaws.{turn_within}
 
 -- which of the first k slots have a job that runs
@@ -24,15 +24,18 @@ runs_next m k xs ys b below r e here = record {
   found = λ s under.
       ap (λ l. slice_index_or l s false) e
       ∙ elim (cases_eq s k) [
-        | inl same ↦ ap (λ i. slice_index_or (slice_set xs k b) i false) same ∙ get_or-set_same xs k b false (omega (arith, r.count)) ∙ here ∙ ap (runs m) (sym same)
+        | inl same ↦ ap (λ i. slice_index_or (slice_set xs k b) i false) same ∙ get_or-set_same xs k b false (omega (arith, r.count)) ∙ here
+            ∙ ap (runs m) (sym same)
         | inr other ↦ get_or-set_other xs k s b false other ∙ r.found s (omega arith)
       ];
 }
 
-pub turn_found : (m : Machine) (last : ℕ) (xs : List Bool) (o : Option ℕ) → last < slots → RunsSo m slots xs → o ≡ robin (length xs) (λ k. slice_index_or xs k false) last
+pub turn_found : (m : Machine) (last : ℕ) (xs : List Bool) (o : Option ℕ) → last < slots → RunsSo m slots xs
+    → o ≡ robin (length xs) (λ k. slice_index_or xs k false) last
     → o ≡ turn_after m last
 turn_found m last xs o l r h =
-    h ∙ ap (λ n. robin n (λ k. slice_index_or xs k false) last) r.count ∙ robin_same slots last (λ k. slice_index_or xs k false) (runs m) l (λ k below. r.found k below)
+    h ∙ ap (λ n. robin n (λ k. slice_index_or xs k false) last) r.count
+    ∙ robin_same slots last (λ k. slice_index_or xs k false) (runs m) l (λ k below. r.found k below)
 
 pub turn_is_slot : (m : Machine) (last : ℕ) (o : Option ℕ) → last < slots → o ≡ turn_after m last → IfSome o (λ s. s < slots)
 turn_is_slot m last (Some s) l h = turn_within m last s l (sym h)

@@ -1,6 +1,11 @@
 -- The plain machine: its jobs by slot, consoles with their holders, a directory, links and a clock.
 -- No part is about a call in progress.
 -- A promise rests on this.
+pub mod Registers
+pub mod Alarm
+pub mod Own
+pub mod Change
+pub mod View
 use Rattle.std.specs.Prelude.{if◌then◌else◌, ◌==◌, ℕ, zero, suc, ◌+◌, ◌%◌, ◌^◌, Bool, Option, Some, None, List, [], ◌∷◌}
 use Rattle.its_word.specs.Core.{Core, no_core, word_at, pages_mapped}
 use Rattle.its_word.specs.Limits.{limit_of}

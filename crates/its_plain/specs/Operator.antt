@@ -1,10 +1,17 @@
 -- The effect of a line of a session on the plain machine (docs/SESSION.md, "The lines").
 -- A promise rests on this.
+pub mod Symbols
+pub mod Version
+pub mod Jobs
+pub mod Consoles
+pub mod Files
+pub mod Clock
+pub mod Lines
 use Rattle.std.specs.Prelude.{◌==◌, ℕ, Bool, false, List, [], Result, Ok, Err}
 use Rattle.its_print.specs.Printing.{Line}
 use Rattle.its_records.specs.declared.session.Reason.{Reason}
 use Rattle.its_plain.specs.Machine.{Names, Machine}
-use Rattle.its_plain.specs.Own.{names_of}
+use Rattle.its_plain.specs.Machine.Own.{names_of}
 
 -- what a block of lines is about: the slot of the job that the last LOAD line made, and the names
 -- of the file that the last FILE line made

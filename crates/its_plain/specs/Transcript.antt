@@ -1,6 +1,9 @@
 -- The transcript of a session: which lines the plain machine shows for which events, by one rule
 -- for each kind of event (docs/MACHINE.md, "The transcript").
 -- A promise rests on this.
+pub mod Licence
+pub mod Course
+pub mod Turns
 use Rattle.std.specs.Prelude.{◌≡◌, ◌<◌, ℕ, suc, ◌+◌, Bool, Some, None, List, [], ◌∷◌, ◌++◌, length}
 use Rattle.its_records.specs.Item.{Item, Read, Unread, Beyond}
 use Rattle.its_records.specs.declared.calls.Pace.{Pace}
@@ -10,11 +13,11 @@ use Rattle.its_records.specs.declared.session.Reason.{Reason}
 use Rattle.its_records.specs.declared.show.Peek.{Peek}
 use Rattle.its_print.specs.Printing.{Line}
 use Rattle.its_print.specs.Printing as printed
-use Rattle.its_plain.specs.OperatorLines.{Lined, Done, Peeks, lined}
-use Rattle.its_plain.specs.Licence.{Licensed, Dots, most_dots, dots_after, dots_after_line}
+use Rattle.its_plain.specs.Operator.Lines.{Lined, Done, Peeks, lined}
+use Rattle.its_plain.specs.Transcript.Licence.{Licensed, Dots, most_dots, dots_after, dots_after_line}
 use Rattle.its_plain.specs.Machine.{Machine, no_machine}
 use Rattle.its_plain.specs.Operator.{Block, no_block, Refuses, Does, Ticks, Quits}
-use Rattle.its_plain.specs.Turns.{turn_after, highest, turns_asked, ticks_asked}
+use Rattle.its_plain.specs.Transcript.Turns.{turn_after, highest, turns_asked, ticks_asked}
 
 -- how a session ends: at END, at the end of the events, with a refused line, or when a line past
 -- the most that a session may have begins

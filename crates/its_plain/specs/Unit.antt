@@ -1,6 +1,14 @@
 -- The unit: one instruction, one word of BLT, or one half of ILDB or IDPB (processor reference
 -- manual, "User operations"; docs/MACHINE.md, "Instructions").
 -- A promise rests on this.
+pub mod Plans
+pub mod Trace
+pub mod Moves
+pub mod Arith
+pub mod Jumps
+pub mod Tests
+pub mod Bytes
+pub mod Interrupt
 use Rattle.std.specs.Prelude.{if◌then◌else◌, ◌==◌, ◌||◌, ℕ, zero, suc, ◌+◌, ◌%◌, ◌^◌, Bool, true, false, List, [], Option, Some, None, Result, Ok, Err, nat_lt}
 use Rattle.its_word.specs.Core.{Core}
 use Rattle.its_word.specs.Stores.{first_fault, stored}
@@ -19,14 +27,14 @@ use Rattle.its_word.specs.declared.plan.Plan.{Plan}
 use Rattle.its_word.specs.declared.plan.Reached.{Reached}
 use Rattle.its_word.specs.declared.plan.ChainStep.{ChainStep}
 use Rattle.its_word.specs.declared.plan.ChainStep.TheVariants.{Found, Target}
-use Rattle.its_plain.specs.Job.{BRK, named_flags, with_pending}
-use Rattle.its_plain.specs.UnitPlan.{Planned, next}
-use Rattle.its_plain.specs.Traced.{Traced, plainly, gives, faults, also, word, located}
-use Rattle.its_plain.specs.UnitMoves.{move_row, exch_row, half_row}
-use Rattle.its_plain.specs.UnitArith.{arithmetic_row, shift_row, boolean_row}
-use Rattle.its_plain.specs.UnitJumps.{branch_row, stack_row}
-use Rattle.its_plain.specs.UnitTests.{compare_row, test_row}
-use Rattle.its_plain.specs.UnitBytes.{byte_row}
+use Rattle.its_plain.specs.Machine.Registers.{BRK, named_flags, with_pending}
+use Rattle.its_plain.specs.Unit.Plans.{Planned, next}
+use Rattle.its_plain.specs.Unit.Trace.{Traced, plainly, gives, faults, also, word, located}
+use Rattle.its_plain.specs.Unit.Moves.{move_row, exch_row, half_row}
+use Rattle.its_plain.specs.Unit.Arith.{arithmetic_row, shift_row, boolean_row}
+use Rattle.its_plain.specs.Unit.Jumps.{branch_row, stack_row}
+use Rattle.its_plain.specs.Unit.Tests.{compare_row, test_row}
+use Rattle.its_plain.specs.Unit.Bytes.{byte_row}
 
 -- the result of a unit: the core and the registers after it; a fault, which leaves no part of it
 -- done; or a call of the monitor

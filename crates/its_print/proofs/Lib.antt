@@ -1,3 +1,4 @@
 pub mod LongestLine
 pub mod LineLaws
 pub mod PutLaws
+pub mod ConstantLaws

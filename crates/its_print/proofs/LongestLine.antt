@@ -108,7 +108,23 @@ room_of_fields (Drained c bytes) h = omega (arith, few8 c h.0, room_of_bytes byt
 room_of_fields (Words s a words) h = omega (arith, few8 s h.0, length-octal6 a, room_of_words words, h.1)
 room_of_fields (Listed s a word) h = omega (arith, few8 s h.0, length-octal6 a, typed_short word h.1)
 room_of_fields (State v s j) h =
-    omega (arith, length-symbol_fields v j.symbol h.3, few8 s h.0, length-octal12 j.u, length-octal12 j.j, length-number j.sup h.1, length-number j.con h.2, length-run_or_stop j.run, length-octal12 j.pc, length-octal12 j.p1, length-octal12 j.p2, length-octal12 j.m1, length-octal12 j.m2, length-octal12 j.d1, length-octal12 j.d2)
+    omega (
+      arith,
+      length-symbol_fields v j.symbol h.3,
+      few8 s h.0,
+      length-octal12 j.u,
+      length-octal12 j.j,
+      length-number j.sup h.1,
+      length-number j.con h.2,
+      length-run_or_stop j.run,
+      length-octal12 j.pc,
+      length-octal12 j.p1,
+      length-octal12 j.p2,
+      length-octal12 j.m1,
+      length-octal12 j.m2,
+      length-octal12 j.d1,
+      length-octal12 j.d2,
+    )
 room_of_fields (Peeked s p) h =
     omega (arith, few8 s h.0, length-state p.state, length-word p.name, few8 p.left h.1, length-word p.a, length-word p.b, length-word p.h)
 room_of_fields (Dir d n) h = omega (arith, length-octal12 d, few32 n h)

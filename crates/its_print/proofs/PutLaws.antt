@@ -66,7 +66,8 @@ runs_begin text letter rs d h is =
     ap (λ l. spaced text (runs_from (1 + r.more) l (paces_in rest))) is
     ∙ ap (spaced text) (sym (run_begins r rest) ∙ ap (λ xs. runs_of (paces_in xs)) (sym (parted rs d h)))
 
-pub runs_length : (rs : List Run) (d : Run) → 1 ≤ length rs → length (paces_in rs) ≡ 1 + (get_or rs 0 d).more + length (paces_in (take (length rs - 1) (drop 1 rs)))
+pub runs_length : (rs : List Run) (d : Run) → 1 ≤ length rs → length (paces_in rs) ≡ 1 + (get_or rs 0 d).more + length
+    (paces_in (take (length rs - 1) (drop 1 rs)))
 runs_length rs d h = ap (λ xs. length (paces_in xs)) (parted rs d h) ∙ begun_length (get_or rs 0 d) (take (length rs - 1) (drop 1 rs))
 
 pub runs_none : (text : List ℕ) (rs : List Run) → length rs < 1 → text ≡ spaced text (runs_of (paces_in rs))
@@ -77,7 +78,8 @@ runs_none text (r ∷ rs) h = absurd (omega (arith, h))
 taken : (rs : List Run) (i : ℕ) (d : Run) → i < length rs → drop i rs ≡ get_or rs i d ∷ drop (i + 1) rs
 taken rs i d below = drop-cons rs i d below ∙ ap (λ k. get_or rs i d ∷ drop k rs) (sym (add-one i))
 
-pub run_length : (rs : List Run) (i : ℕ) (d : Run) → i < length rs → length (paces_in (drop i rs)) ≡ 1 + (get_or rs i d).more + length (paces_in (drop (i + 1) rs))
+pub run_length : (rs : List Run) (i : ℕ) (d : Run) → i < length rs
+    → length (paces_in (drop i rs)) ≡ 1 + (get_or rs i d).more + length (paces_in (drop (i + 1) rs))
 run_length rs i d below = ap (λ xs. length (paces_in xs)) (taken rs i d below) ∙ begun_length (get_or rs i d) (drop (i + 1) rs)
 
 -- a run of the same letter, and one of another, which ends the one before
@@ -92,13 +94,15 @@ run_goes_on n letter rs i d below same =
     ∙ ap (λ k. runs_from k letter rest) e
 
 pub run_ends : (text : List ℕ) (n letter : ℕ) (rs : List Run) (i : ℕ) (d : Run) → i < length rs → letter_of (get_or rs i d).pace ≢ letter
-    → spaced text (runs_from n letter (paces_in (drop i rs))) ≡ spaced (spaced text (run_of n letter ∷ [])) (runs_from (1 + (get_or rs i d).more) (letter_of (get_or rs i d).pace) (paces_in (drop (i + 1) rs)))
+    → spaced text (runs_from n letter (paces_in (drop i rs))) ≡ spaced (spaced text (run_of n letter ∷ []))
+    (runs_from (1 + (get_or rs i d).more) (letter_of (get_or rs i d).pace) (paces_in (drop (i + 1) rs)))
 run_ends text n letter rs i d below other =
     let r : Run = get_or rs i d in
     let rest : List Pace = paces_in (drop (i + 1) rs) in
     let test : (letter_of r.pace == letter) ≡ false = grind (arith, nat_tests) in
     ap (λ xs. spaced text (runs_from n letter (paces_in xs))) (taken rs i d below)
-    ∙ ap (λ b. spaced text (if b then runs_from (n + 1) letter (replicate r.more r.pace ++ rest) else run_of n letter ∷ runs_from 1 (letter_of r.pace) (replicate r.more r.pace ++ rest))) test
+    ∙ ap (λ b. spaced text (if b then runs_from (n + 1) letter (replicate r.more r.pace ++ rest) else run_of n letter
+    ∷ runs_from 1 (letter_of r.pace) (replicate r.more r.pace ++ rest))) test
     ∙ spaced-append text (run_of n letter ∷ []) (runs_from 1 (letter_of r.pace) (replicate r.more r.pace ++ rest))
     ∙ ap (spaced (spaced text (run_of n letter ∷ []))) (more_go_on r.more 1 (letter_of r.pace) r.pace rest refl)
 

@@ -20,5 +20,5 @@ mod replies;
 mod runs;
 
 pub use lines::{longest_line, print_reply};
-pub use replies::Reply;
+pub use replies::{ROW_WORDS, Reply};
 pub use runs::Run;

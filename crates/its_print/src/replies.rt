@@ -4,6 +4,9 @@ use super::runs::Run;
 use its_records::{FileShow, JobShow, Peek, Reason};
 use its_word::{ConsoleNumber, Slot, Word};
 
+/// How many words a line of SHOW has at most.
+pub const ROW_WORDS: u32 = 8;
+
 /// A line of a transcript. What takes more than a few words is lent.
 #[derive(Drop)]
 pub enum Reply<'a> {

@@ -21,7 +21,8 @@ some_pending b f h e =
 pub filled_some : (b : Buffer) (left : Option (List ℕ)) → BufferFits b → b.start < b.stop → FilledOn b b left left
 filled_some b left f h = record { read = []; consumed = Consumes-nil left; behind = sym (append-nil (pending b)); empty = λ e. absurd (some_pending b f h e) }
 
-pub filled_read : (old new : Buffer) (count : ℕ) (left rest : Option (List ℕ)) → BufferFits old → BufferFits new → old.stop ≤ old.start → new.start ≡ 0 → new.stop ≡ count → Consumes left rest (take count new.bytes)
+pub filled_read : (old new : Buffer) (count : ℕ) (left rest : Option (List ℕ)) → BufferFits old → BufferFits new → old.stop ≤ old.start
+    → new.start ≡ 0 → new.stop ≡ count → Consumes left rest (take count new.bytes)
     → (count ≡ 0 → 0 < length new.bytes → IsAtEnd rest) → FilledOn old new left rest
 filled_read old new count left rest f g h z e c a =
     let p : pending new ≡ take count new.bytes = ap (λ k. drop k (take new.stop new.bytes)) z ∙ ap (λ k. take k new.bytes) e in
@@ -29,7 +30,8 @@ filled_read old new count left rest f g h z e c a =
       read = take count new.bytes;
       consumed = c;
       behind = p ∙ ap (λ x. x ++ take count new.bytes) (sym (none_pending old f h));
-      empty = λ n. a (let l : length (take count new.bytes) ≡ 0 = ap length (sym p ∙ n) in omega (arith, length-take-le count new.bytes (subst (λ k. k ≤ length new.bytes) e g.1))) (omega (arith, g.2));
+      empty = λ n. a (let l : length (take count new.bytes) ≡ 0 = ap length (sym p ∙ n) in omega
+          (arith, length-take-le count new.bytes (subst (λ k. k ≤ length new.bytes) e g.1))) (omega (arith, g.2));
     }
 
 drop_suc : (xs : List ℕ) (i d : ℕ) → i < length xs → drop i xs ≡ get_or xs i d ∷ drop (suc i) xs
@@ -40,13 +42,16 @@ drop_suc (x ∷ xs) (suc i) d h = drop_suc xs i d (omega (arith, h))
 drop_one : (xs : List ℕ) (i d : ℕ) → i < length xs → drop i xs ≡ get_or xs i d ∷ drop (i + 1) xs
 drop_one xs i d h = let e : suc i ≡ i + 1 = omega arith in drop_suc xs i d h ∙ ap (λ k. get_or xs i d ∷ drop k xs) e
 
-pub taken : (old new : Buffer) (b d : ℕ) → BufferFits old → old.start < old.stop → new.start ≡ old.start + 1 → new.stop ≡ old.stop → new.bytes ≡ old.bytes → b ≡ get_or old.bytes old.start d → Given (Some b) (pending old) (pending new)
+pub taken : (old new : Buffer) (b d : ℕ) → BufferFits old → old.start < old.stop → new.start ≡ old.start + 1 → new.stop ≡ old.stop
+    → new.bytes ≡ old.bytes → b ≡ get_or old.bytes old.start d → Given (Some b) (pending old) (pending new)
 taken old new b d f h s t u e =
     drop_one (take old.stop old.bytes) old.start d (omega (arith, length-take-le old.stop old.bytes f.1))
     ∙ ap (λ x. x ∷ drop (old.start + 1) (take old.stop old.bytes)) (get_or-take old.stop old.bytes old.start d h ∙ sym e)
-    ∙ ap (λ x. b ∷ x) (ap (λ k. drop k (take old.stop old.bytes)) (sym s) ∙ ap (λ k. drop new.start (take k old.bytes)) (sym t) ∙ ap (λ k. drop new.start (take new.stop k)) (sym u))
+    ∙ ap (λ x. b ∷ x) (ap (λ k. drop k (take old.stop old.bytes)) (sym s) ∙ ap (λ k. drop new.start (take k old.bytes)) (sym t)
+    ∙ ap (λ k. drop new.start (take new.stop k)) (sym u))
 
-pub took : (b : Option ℕ) (old mid new : Buffer) (left rest : Option (List ℕ)) → FilledOn old mid left rest → Given b (pending mid) (pending new) → Taken b old new left rest
+pub took : (b : Option ℕ) (old mid new : Buffer) (left rest : Option (List ℕ)) → FilledOn old mid left rest
+    → Given b (pending mid) (pending new) → Taken b old new left rest
 took b old mid new left rest f g = record {
   read = f.read;
   consumed = f.consumed;
@@ -59,10 +64,12 @@ plain_front : (xs : List ℕ) → list_all is_plain (take (position_or_len (λ b
 plain_front [] = refl
 plain_front (b ∷ bs) = elim (cases_Bool (b == 10)) [
   | inl lf ↦ rw lf refl
-  | inr other ↦ (let next : 1 + position_or_len (λ c. c == 10) bs ≡ suc (position_or_len (λ c. c == 10) bs) = omega arith in rw (other, next, other) (plain_front bs))
+  | inr other ↦ (let next : 1 + position_or_len (λ c. c == 10) bs ≡ suc (position_or_len (λ c. c == 10) bs) = omega arith in rw
+      (other, next, other) (plain_front bs))
 ]
 
-place_is : (xs : List ℕ) (k : ℕ) → position (λ b. b == 10) xs ≡ Some k → (position_or_len (λ b. b == 10) xs < length xs) × (position_or_len (λ b. b == 10) xs ≡ k)
+place_is : (xs : List ℕ) (k : ℕ) → position (λ b. b == 10) xs ≡ Some k → (position_or_len (λ b. b == 10) xs < length xs)
+    × (position_or_len (λ b. b == 10) xs ≡ k)
 place_is xs k found =
     elim (cases_Bool (ltb (position_or_len (λ b. b == 10) xs) (length xs))) [
       | inl some ↦ (ltb-true _ _ some, (let e : Some (position_or_len (λ b. b == 10) xs) ≡ Some k = rw some at found in cc))
@@ -88,15 +95,19 @@ plain_none xs n none =
     ap (list_all is_plain) (sym (take_all (position_or_len (λ b. b == 10) (take n xs)) (take n xs) (no_place (take n xs) none))) ∙ plain_front (take n xs)
 
 -- bytes other than LF are taken
-pub took_plain : (old new : Buffer) (line now : List ℕ) (n : ℕ) → BufferFits old → old.start + n ≤ old.stop → new.start ≡ old.start + n → new.stop ≡ old.stop → new.bytes ≡ old.bytes
+pub took_plain : (old new : Buffer) (line now : List ℕ) (n : ℕ) → BufferFits old → old.start + n ≤ old.stop → new.start ≡ old.start + n
+    → new.stop ≡ old.stop → new.bytes ≡ old.bytes
     → list_all is_plain (take n (drop old.start old.bytes)) ≡ true → now ≡ line ++ take n (drop old.start old.bytes) → TookPlain line now old new
 took_plain old new line now n f h s t u plain kept =
     let stop : old.start + (old.stop - old.start) ≡ old.stop = omega (arith, f.0) in
-    let is : pending old ≡ take (old.stop - old.start) (drop old.start old.bytes) = ap (λ k. drop old.start (take k old.bytes)) (sym stop) ∙ drop-take old.start (old.stop - old.start) old.bytes in
-    let front : take n (pending old) ≡ take n (drop old.start old.bytes) = ap (take n) is ∙ take-take n (old.stop - old.start) (drop old.start old.bytes) (omega (arith, h)) in
+    let is : pending old ≡ take (old.stop - old.start) (drop old.start old.bytes) = ap (λ k. drop old.start (take k old.bytes)) (sym stop)
+    ∙ drop-take old.start (old.stop - old.start) old.bytes in
+    let front : take n (pending old) ≡ take n (drop old.start old.bytes) = ap (take n) is
+    ∙ take-take n (old.stop - old.start) (drop old.start old.bytes) (omega (arith, h)) in
     let rest : drop n (pending old) ≡ pending new =
     drop-drop n old.start (take old.stop old.bytes)
-    ∙ ap (λ k. drop k (take old.stop old.bytes)) (sym s) ∙ ap (λ k. drop new.start (take k old.bytes)) (sym t) ∙ ap (λ k. drop new.start (take new.stop k)) (sym u) in
+    ∙ ap (λ k. drop k (take old.stop old.bytes)) (sym s) ∙ ap (λ k. drop new.start (take k old.bytes)) (sym t)
+    ∙ ap (λ k. drop new.start (take new.stop k)) (sym u) in
     record {
       bytes = take n (drop old.start old.bytes);
       plain = plain;

@@ -60,24 +60,28 @@ pub so_start : (r : Lines) (left : Option (List ℕ)) → r.line.items ≡ [] �
 so_start r left e = record { read = []; consumed = Consumes-nil left; so_far = λ whole more. ap (λ l. lines_from whole l (pending r.buffer ++ more)) (sym e) }
 
 -- bytes other than LF after it
-others : (whole : Bool) (line bytes rest : List ℕ) → list_all is_plain bytes ≡ true → lines_from whole line (bytes ++ rest) ≡ lines_from whole (line ++ bytes) rest
+others : (whole : Bool) (line bytes rest : List ℕ) → list_all is_plain bytes ≡ true
+    → lines_from whole line (bytes ++ rest) ≡ lines_from whole (line ++ bytes) rest
 others whole line [] rest h = ap (λ l. lines_from whole l rest) (sym (append-nil line))
 others whole line (b ∷ bs) rest h =
     let both = and_parts (is_plain b) (list_all is_plain bs) h in
     let t : (b == 10) ≡ false = not-true (b == 10) both.0 in
     rw t (others whole (line ++ b ∷ []) bs rest both.1 ∙ ap (λ l. lines_from whole l rest) (append_assoc line (b ∷ []) bs))
 
-pub so_plain : (old now next : Lines) (left mid : Option (List ℕ)) → LineSo old now left mid → TookPlain now.line.items next.line.items now.buffer next.buffer → LineSo old next left mid
+pub so_plain : (old now next : Lines) (left mid : Option (List ℕ)) → LineSo old now left mid
+    → TookPlain now.line.items next.line.items now.buffer next.buffer → LineSo old next left mid
 so_plain old now next left mid s t = record {
   read = s.read;
   consumed = s.consumed;
   so_far = λ whole more.
-      s.so_far whole more ∙ ap (λ x. lines_from whole now.line.items (x ++ more)) t.given ∙ ap (lines_from whole now.line.items) (append_assoc t.bytes (pending next.buffer) more)
+      s.so_far whole more ∙ ap (λ x. lines_from whole now.line.items (x ++ more)) t.given
+      ∙ ap (lines_from whole now.line.items) (append_assoc t.bytes (pending next.buffer) more)
       ∙ others whole now.line.items t.bytes (pending next.buffer ++ more) t.plain ∙ ap (λ l. lines_from whole l (pending next.buffer ++ more)) (sym t.kept);
 }
 
 -- a byte after it
-byte : (old now : Lines) (buffer : Buffer) (b : ℕ) (left mid rest : Option (List ℕ)) (s : LineSo old now left mid) (t : Taken (Some b) now.buffer buffer mid rest) (whole : Bool) (more : List ℕ)
+byte : (old now : Lines) (buffer : Buffer) (b : ℕ) (left mid rest : Option (List ℕ)) (s : LineSo old now left mid)
+    (t : Taken (Some b) now.buffer buffer mid rest) (whole : Bool) (more : List ℕ)
     → ahead whole old ((s.read ++ t.read) ++ more) ≡ lines_from whole now.line.items (b ∷ (pending buffer ++ more))
 byte old now buffer b left mid rest s t whole more =
     ap (ahead whole old) (append_assoc s.read t.read more) ∙ s.so_far whole (t.read ++ more)
@@ -92,11 +96,13 @@ so_next old now next b left mid rest s t p = record {
       ∙ ap (λ l. lines_from whole l (pending next.buffer ++ more)) (sym p.1);
 }
 
-pub so_next_by : (o : Option ℕ) (old now next : Lines) (b : ℕ) (left mid rest : Option (List ℕ)) → o ≡ Some b → LineSo old now left mid → Taken o now.buffer next.buffer mid rest
+pub so_next_by : (o : Option ℕ) (old now next : Lines) (b : ℕ) (left mid rest : Option (List ℕ)) → o ≡ Some b → LineSo old now left mid
+    → Taken o now.buffer next.buffer mid rest
     → Pushed None next.number now.line.items b next.line.items → LineSo old next left rest
 so_next_by o old now next b left mid rest n s t p = so_next old now next b left mid rest s (subst (λ x. Taken x now.buffer next.buffer mid rest) n t) p
 
-by_push : (next : Next) (old now new : Lines) (b : ℕ) (left mid rest : Option (List ℕ)) (s : LineSo old now left mid) (t : Taken (Some b) now.buffer new.buffer mid rest)
+by_push : (next : Next) (old now new : Lines) (b : ℕ) (left mid rest : Option (List ℕ)) (s : LineSo old now left mid)
+    (t : Taken (Some b) now.buffer new.buffer mid rest)
     → Pushed (Some next) new.number now.line.items b new.line.items → NextOf (Ok next) old new (s.read ++ t.read)
 by_push Line old now new b left mid rest s t p = facing new.ended _ (λ whole more.
     byte old now new.buffer b left mid rest s t whole more ∙ lf whole now.line.items (pending new.buffer ++ more) b p.0
@@ -111,11 +117,13 @@ by_push Long old now new b left mid rest s t p = (
 by_push Beyond old now new b left mid rest s t p = (
   p,
   λ more.
-      subst (λ x. SomeLine x (λ l. Unit {0})) (sym (byte old now new.buffer b left mid rest s t true more)) (some now.line.items (pending new.buffer ++ more) b),
+      subst (λ x. SomeLine x (λ l. Unit {0})) (sym (byte old now new.buffer b left mid rest s t true more))
+      (some now.line.items (pending new.buffer ++ more) b),
 )
 by_push End old now new b left mid rest s t p = absurd p
 
-pub reads_push : (next : Next) (old now new : Lines) (b : ℕ) (left mid rest : Option (List ℕ)) → old.ended ≡ false → LineSo old now left mid → Taken (Some b) now.buffer new.buffer mid rest
+pub reads_push : (next : Next) (old now new : Lines) (b : ℕ) (left mid rest : Option (List ℕ)) → old.ended ≡ false → LineSo old now left mid
+    → Taken (Some b) now.buffer new.buffer mid rest
     → Pushed (Some next) new.number now.line.items b new.line.items → Reads (Ok next) old new left rest
 reads_push next old now new b left mid rest o s t p = record {
   read = s.read ++ t.read;
@@ -129,13 +137,15 @@ pub nothing_left : (xs ys : List ℕ) → xs ++ ys ≡ [] → (xs ≡ []) × (ys
 nothing_left [] ys e = (refl, e)
 nothing_left (x ∷ xs) ys e = cc
 
-by_last : (line : List ℕ) (old new : Lines) (read : List ℕ) → new.ended ≡ true → pending new.buffer ≡ [] → new.line.items ≡ line → ahead true old read ≡ lines_from true line [] → NextOf (Ok (last_of line)) old new read
+by_last : (line : List ℕ) (old new : Lines) (read : List ℕ) → new.ended ≡ true → pending new.buffer ≡ [] → new.line.items ≡ line
+    → ahead true old read ≡ lines_from true line [] → NextOf (Ok (last_of line)) old new read
 by_last [] old new read e p l h = (e, h)
 by_last (b ∷ bs) old new read e p l h =
     subst (λ x. Facing x (λ whole more. ahead whole old (read ++ more) ≡ new.line.items ∷ ahead whole new more)) (sym e)
     (ap (ahead true old) (append-nil read) ∙ h ∙ ap (λ x. x ∷ []) (sym l) ∙ ap (λ x. new.line.items ∷ lines_from true [] (x ++ [])) (sym p))
 
-pub reads_last : (old now new : Lines) (left mid rest : Option (List ℕ)) → old.ended ≡ false → new.ended ≡ true → new.line.items ≡ now.line.items → LineSo old now left mid → Taken None now.buffer new.buffer mid rest
+pub reads_last : (old now new : Lines) (left mid rest : Option (List ℕ)) → old.ended ≡ false → new.ended ≡ true
+    → new.line.items ≡ now.line.items → LineSo old now left mid → Taken None now.buffer new.buffer mid rest
     → Reads (Ok (last_of new.line.items)) old new left rest
 reads_last old now new left mid rest o e l s t =
     let n = nothing_left (pending now.buffer) t.read t.given.0 in
@@ -156,7 +166,8 @@ opened_last : (line : List ℕ) (n : ℕ) → length line ≤ 255 → (0 < lengt
 opened_last [] n short few = tt
 opened_last (b ∷ bs) n short few = (short, few (omega arith))
 
-pub reads_broken : (e : Failed) (old now new : Lines) (left mid rest : Option (List ℕ)) → old.ended ≡ false → length now.line.items ≤ 255 → (0 < length now.line.items → new.number ≤ most_lines) → LineSo old now left mid
+pub reads_broken : (e : Failed) (old now new : Lines) (left mid rest : Option (List ℕ)) → old.ended ≡ false → length now.line.items ≤ 255
+    → (0 < length now.line.items → new.number ≤ most_lines) → LineSo old now left mid
     → Broke now.buffer new.buffer mid rest → Reads (Err e) old new left rest
 reads_broken e old now new left mid rest o short few s b = record {
   read = s.read;
@@ -172,7 +183,8 @@ reads_broken e old now new left mid rest o short few s b = record {
 }
 
 -- lines that were given, and at most one that has begun
-pub limits_by : (lines more : List (List ℕ)) (bytes : List ℕ) → lines_from true [] bytes ≡ lines ++ more → list_all is_short lines ≡ true → length lines ≤ most_lines → Opened more (length lines + 1) → WithinLimits bytes
+pub limits_by : (lines more : List (List ℕ)) (bytes : List ℕ) → lines_from true [] bytes ≡ lines ++ more → list_all is_short lines ≡ true
+    → length lines ≤ most_lines → Opened more (length lines + 1) → WithinLimits bytes
 limits_by lines [] bytes is short few opened = record {
   short = ap (list_all is_short) (is ∙ append-nil lines) ∙ short;
   few = subst (λ (x : List (List ℕ)). length x ≤ most_lines) (sym (is ∙ append-nil lines)) few;
@@ -181,7 +193,8 @@ limits_by lines (line ∷ []) bytes is short few opened =
     let here : nat_le (length line) 255 ≡ true = (let h : length line ≤ 255 = opened.0 in grind (arith, nat_tests)) in
     record {
       short = ap (list_all is_short) is ∙ rw (list_all-append is_short lines (line ∷ []), short, here) refl;
-      few = subst (λ (x : List (List ℕ)). length x ≤ most_lines) (sym is) (let h : length lines + 1 ≤ most_lines = opened.1 in omega (arith, length-append lines (line ∷ [])));
+      few = subst (λ (x : List (List ℕ)). length x ≤ most_lines) (sym is)
+          (let h : length lines + 1 ≤ most_lines = opened.1 in omega (arith, length-append lines (line ∷ [])));
     }
 limits_by lines (line ∷ (next ∷ more)) bytes is short few opened = absurd opened
 
@@ -194,14 +207,29 @@ reads_ended old new left r e f = record {
   next = (f, ap (λ x. lines_from true [] (x ++ [])) (r.over e).0);
 }
 
-by_start : (result : Result Next Failed) (old start new : Lines) (read : List ℕ) → start.buffer ≡ old.buffer → start.ended ≡ old.ended → NextOf result start new read → NextOf result old new read
-by_start (Ok Line) old start new read e f n = subst (λ b. Facing new.ended (λ whole more. lines_from whole [] (pending b ++ (read ++ more)) ≡ new.line.items ∷ ahead whole new more)) e n
-by_start (Ok Long) old start new read e f n = (n.0, subst (λ b. (more : List ℕ) → SomeLine (lines_from true [] (pending b ++ (read ++ more))) (λ line. 255 < length line)) e n.1)
-by_start (Ok Beyond) old start new read e f n = (n.0, subst (λ b. (more : List ℕ) → SomeLine (lines_from true [] (pending b ++ (read ++ more))) (λ line. Unit {0})) e n.1)
+by_start : (result : Result Next Failed) (old start new : Lines) (read : List ℕ) → start.buffer ≡ old.buffer → start.ended ≡ old.ended
+    → NextOf result start new read → NextOf result old new read
+by_start (Ok Line) old start new read e f n = subst (λ b. Facing new.ended
+    (λ whole more. lines_from whole [] (pending b ++ (read ++ more)) ≡ new.line.items ∷ ahead whole new more)) e n
+by_start (Ok Long) old start new read e f n = (
+  n.0,
+  subst (λ b. (more : List ℕ)
+      → SomeLine (lines_from true [] (pending b ++ (read ++ more))) (λ line. 255 < length line)) e n.1,
+)
+by_start (Ok Beyond) old start new read e f n = (
+  n.0,
+  subst (λ b. (more : List ℕ)
+      → SomeLine (lines_from true [] (pending b ++ (read ++ more))) (λ line. Unit {0})) e n.1,
+)
 by_start (Ok End) old start new read e f n = (n.0, subst (λ b. lines_from true [] (pending b ++ read) ≡ []) e n.1)
-by_start (Err x) old start new read e f n = (sym f ∙ n.0, subst (λ b. lines_from false [] (pending b ++ read) ≡ []) e n.1, subst (λ b. Opened (lines_from true [] (pending b ++ read)) new.number) e n.2)
+by_start (Err x) old start new read e f n = (
+  sym f ∙ n.0,
+  subst (λ b. lines_from false [] (pending b ++ read) ≡ []) e n.1,
+  subst (λ b. Opened (lines_from true [] (pending b ++ read)) new.number) e n.2,
+)
 
-pub reads_from : (result : Result Next Failed) (old start new : Lines) (left rest : Option (List ℕ)) → start.buffer ≡ old.buffer → start.ended ≡ old.ended → Reads result start new left rest → Reads result old new left rest
+pub reads_from : (result : Result Next Failed) (old start new : Lines) (left rest : Option (List ℕ)) → start.buffer ≡ old.buffer
+    → start.ended ≡ old.ended → Reads result start new left rest → Reads result old new left rest
 reads_from result old start new left rest e f r = record {
   read = r.read;
   consumed = r.consumed;
@@ -216,13 +244,15 @@ ready_open r left f e = record { fits = f; over = λ x. absurd (let k : false �
 pub ready_over : (r now : Lines) (left mid : Option (List ℕ)) → BufferFits r.buffer → Taken None now.buffer r.buffer mid left → BetweenLines r left
 ready_over r now left mid f t = record { fits = f; over = λ x. (t.given.1, t.end refl) }
 
-pub reads_last_by : (next : Next) (o : Option ℕ) (slice : List ℕ) (old now new : Lines) (left mid rest : Option (List ℕ)) → next ≡ last_of slice → slice ≡ new.line.items → o ≡ None → old.ended ≡ false → new.ended ≡ true
+pub reads_last_by : (next : Next) (o : Option ℕ) (slice : List ℕ) (old now new : Lines) (left mid rest : Option (List ℕ))
+    → next ≡ last_of slice → slice ≡ new.line.items → o ≡ None → old.ended ≡ false → new.ended ≡ true
     → new.line.items ≡ now.line.items → LineSo old now left mid → Taken o now.buffer new.buffer mid rest → Reads (Ok next) old new left rest
 reads_last_by next o slice old now new left mid rest e l n r f k s t =
     subst (λ x. Reads (Ok x) old new left rest) (sym (e ∙ ap last_of l))
     (reads_last old now new left mid rest r f k s (subst (λ x. Taken x now.buffer new.buffer mid rest) n t))
 
-pub reads_push_by : (next : Next) (o : Option ℕ) (old now new : Lines) (b : ℕ) (left mid rest : Option (List ℕ)) → o ≡ Some b → old.ended ≡ false → LineSo old now left mid → Taken o now.buffer new.buffer mid rest
+pub reads_push_by : (next : Next) (o : Option ℕ) (old now new : Lines) (b : ℕ) (left mid rest : Option (List ℕ)) → o ≡ Some b
+    → old.ended ≡ false → LineSo old now left mid → Taken o now.buffer new.buffer mid rest
     → Pushed (Some next) new.number now.line.items b new.line.items → Reads (Ok next) old new left rest
 reads_push_by next o old now new b left mid rest n r s t p =
     reads_push next old now new b left mid rest r s (subst (λ x. Taken x now.buffer new.buffer mid rest) n t) p

@@ -1,5 +1,5 @@
 -- The lines of a transcript, one by one.
-use Rattle.std.specs.Prelude.{◌≡◌, ◌≢◌, ◌≤◌, ◌==◌, ◌<◌, ℕ, suc, Bool, true, false, Option, Some, None, Result, Ok, Err, List, [], ◌∷◌, ◌++◌, length, refl}
+use Rattle.std.specs.Prelude.{◌≡◌, ◌≢◌, ◌≤◌, ◌==◌, ◌<◌, ◌+◌, ℕ, suc, Bool, true, false, Option, Some, None, Result, Ok, Err, List, [], ◌∷◌, ◌++◌, length, refl}
 use Rattle.std.proofs.Common.{sym, ◌∙◌, ap, subst, arith, inl, inr, append_assoc, append-nil, length-append}
 use Rattle.std.proofs.lemmas.Bool.{cases_Bool, and_parts, eq-eqb, false≢true, ne_eqb, not-true}
 use Rattle.std.proofs.lemmas.List.Folds.{list_all-append}
@@ -44,10 +44,12 @@ front_one : (c : ℕ) (lines : List (List ℕ)) → (c == 10) ≡ false → Some
 front_one c [] other = record { first = c ∷ []; behind = []; is = refl; holds = rw other (omega arith) }
 front_one c (line ∷ lines) other = record { first = c ∷ line; behind = lines; is = rw other refl; holds = rw other (omega arith) }
 
-front_more : (c n : ℕ) (first : List ℕ) (behind : List (List ℕ)) → (c == 10) ≡ false → n ≤ length (before_lf first) → SomeLine (in_front c (first ∷ behind)) (λ line. suc n ≤ length (before_lf line))
+front_more : (c n : ℕ) (first : List ℕ) (behind : List (List ℕ)) → (c == 10) ≡ false → n ≤ length (before_lf first)
+    → SomeLine (in_front c (first ∷ behind)) (λ line. suc n ≤ length (before_lf line))
 front_more c n first behind other few = record { first = c ∷ first; behind = behind; is = rw other refl; holds = rw other (omega arith) }
 
-begins : (c : ℕ) (cs rest : List ℕ) → list_all is_inside (c ∷ cs) ≡ true → SomeLine (lines_in ((c ∷ cs) ++ rest)) (λ line. length (c ∷ cs) ≤ length (before_lf line))
+begins : (c : ℕ) (cs rest : List ℕ) → list_all is_inside (c ∷ cs) ≡ true
+    → SomeLine (lines_in ((c ∷ cs) ++ rest)) (λ line. length (c ∷ cs) ≤ length (before_lf line))
 unfolding lines_in
 begins c [] rest h =
     let both = and_parts (is_inside c) true h in
@@ -83,18 +85,22 @@ so_start r left e = record {
 }
 
 -- bytes other than LF after it
-pub so_plain : (old now next : Texts) (left mid : Option (List ℕ)) → TextSo old now left mid → TookPlain now.text.items next.text.items now.buffer next.buffer → TextSo old next left mid
+pub so_plain : (old now next : Texts) (left mid : Option (List ℕ)) → TextSo old now left mid
+    → TookPlain now.text.items next.text.items now.buffer next.buffer → TextSo old next left mid
 so_plain old now next left mid s t = record {
   read = s.read;
   consumed = s.consumed;
   so_far = λ more.
-      s.so_far more ∙ ap (λ x. lines_in (now.text.items ++ (x ++ more))) t.given ∙ ap (λ x. lines_in (now.text.items ++ x)) (append_assoc t.bytes (pending next.buffer) more)
-      ∙ ap lines_in (sym (append_assoc now.text.items t.bytes (pending next.buffer ++ more))) ∙ ap (λ x. lines_in (x ++ (pending next.buffer ++ more))) (sym t.kept);
+      s.so_far more ∙ ap (λ x. lines_in (now.text.items ++ (x ++ more))) t.given
+      ∙ ap (λ x. lines_in (now.text.items ++ x)) (append_assoc t.bytes (pending next.buffer) more)
+      ∙ ap lines_in (sym (append_assoc now.text.items t.bytes (pending next.buffer ++ more)))
+      ∙ ap (λ x. lines_in (x ++ (pending next.buffer ++ more))) (sym t.kept);
   inside = rw (t.kept, list_all-append is_inside now.text.items t.bytes, s.inside, t.plain) refl;
 }
 
 -- a byte after it
-byte : (old now : Texts) (buffer : Buffer) (b : ℕ) (left mid rest : Option (List ℕ)) (s : TextSo old now left mid) (t : Taken (Some b) now.buffer buffer mid rest) (more : List ℕ)
+byte : (old now : Texts) (buffer : Buffer) (b : ℕ) (left mid rest : Option (List ℕ)) (s : TextSo old now left mid)
+    (t : Taken (Some b) now.buffer buffer mid rest) (more : List ℕ)
     → texts_ahead old ((s.read ++ t.read) ++ more) ≡ lines_in (now.text.items ++ b ∷ (pending buffer ++ more))
 byte old now buffer b left mid rest s t more =
     ap (texts_ahead old) (append_assoc s.read t.read more) ∙ s.so_far (t.read ++ more)
@@ -116,11 +122,13 @@ so_next old now next b left mid rest s t p = record {
   inside = rw p.1 (inside_more now.text.items b s.inside p.0);
 }
 
-pub so_next_by : (o : Option ℕ) (old now next : Texts) (b : ℕ) (left mid rest : Option (List ℕ)) → o ≡ Some b → TextSo old now left mid → Taken o now.buffer next.buffer mid rest
+pub so_next_by : (o : Option ℕ) (old now next : Texts) (b : ℕ) (left mid rest : Option (List ℕ)) → o ≡ Some b → TextSo old now left mid
+    → Taken o now.buffer next.buffer mid rest
     → PushedText None next.number next.most now.text.items b next.text.items → TextSo old next left rest
 so_next_by o old now next b left mid rest n s t p = so_next old now next b left mid rest s (subst (λ x. Taken x now.buffer next.buffer mid rest) n t) p
 
-long_line : (most : ℕ) (text rest : List ℕ) (b : ℕ) → list_all is_inside text ≡ true → b ≢ 10 → most ≤ length text → SomeLine (lines_in (text ++ b ∷ rest)) (λ line. most < length (before_lf line))
+long_line : (most : ℕ) (text rest : List ℕ) (b : ℕ) → list_all is_inside text ≡ true → b ≢ 10 → most ≤ length text
+    → SomeLine (lines_in (text ++ b ∷ rest)) (λ line. most < length (before_lf line))
 long_line most [] rest b h other long =
     let l = begins b [] rest (inside_more [] b h other) in
     record { first = l.first; behind = l.behind; is = l.is; holds = omega (arith, l.holds, long) }
@@ -129,7 +137,8 @@ long_line most (c ∷ cs) rest b h other long =
     let is : (c ∷ (cs ++ b ∷ [])) ++ rest ≡ (c ∷ cs) ++ b ∷ rest = append_assoc (c ∷ cs) (b ∷ []) rest in
     record { first = l.first; behind = l.behind; is = ap lines_in (sym is) ∙ l.is; holds = omega (arith, l.holds, length-append cs (b ∷ []), long) }
 
-by_push : (next : Next) (old now new : Texts) (b : ℕ) (left mid rest : Option (List ℕ)) (s : TextSo old now left mid) (t : Taken (Some b) now.buffer new.buffer mid rest)
+by_push : (next : Next) (old now new : Texts) (b : ℕ) (left mid rest : Option (List ℕ)) (s : TextSo old now left mid)
+    (t : Taken (Some b) now.buffer new.buffer mid rest)
     → PushedText (Some next) new.number new.most now.text.items b new.text.items → TextOf (Ok next) old new (s.read ++ t.read)
 by_push Line old now new b left mid rest s t p = (
   facing new.ended _
@@ -147,12 +156,15 @@ by_push Long old now new b left mid rest s t p = (
 by_push Beyond old now new b left mid rest s t p = (
   p,
   λ more.
-      subst (λ x. SomeLine x (λ line. Unit {0})) (sym (byte old now new.buffer b left mid rest s t more)) (some now.text.items (pending new.buffer ++ more) b),
+      subst (λ x. SomeLine x (λ line. Unit {0})) (sym (byte old now new.buffer b left mid rest s t more))
+      (some now.text.items (pending new.buffer ++ more) b),
 )
 by_push End old now new b left mid rest s t p = absurd p
 
-pub reads_push : (next : Next) (o : Option ℕ) (old now new : Texts) (b : ℕ) (left mid rest : Option (List ℕ)) → o ≡ Some b → old.ended ≡ false → TextSo old now left mid
-    → Taken o now.buffer new.buffer mid rest → PushedText (Some next) new.number new.most now.text.items b new.text.items → ReadsText (Ok next) old new left rest
+pub reads_push : (next : Next) (o : Option ℕ) (old now new : Texts) (b : ℕ) (left mid rest : Option (List ℕ)) → o ≡ Some b
+    → old.ended ≡ false → TextSo old now left mid
+    → Taken o now.buffer new.buffer mid rest → PushedText (Some next) new.number new.most now.text.items b new.text.items
+    → ReadsText (Ok next) old new left rest
 reads_push next o old now new b left mid rest is runs s t p =
     let u : Taken (Some b) now.buffer new.buffer mid rest = subst (λ x. Taken x now.buffer new.buffer mid rest) is t in
     record {
@@ -167,7 +179,8 @@ over_at : (b : Bool) → b ≡ true → (P : List ℕ → Type 0) → P [] → F
 over_at false e P p = absurd (false≢true e)
 over_at true e P p = p
 
-by_last : (text : List ℕ) (old new : Texts) (read : List ℕ) → new.ended ≡ true → pending new.buffer ≡ [] → new.text.items ≡ text → list_all is_inside text ≡ true
+by_last : (text : List ℕ) (old new : Texts) (read : List ℕ) → new.ended ≡ true → pending new.buffer ≡ [] → new.text.items ≡ text
+    → list_all is_inside text ≡ true
     → texts_ahead old read ≡ lines_in text → TextOf (Ok (last_of text)) old new read
 unfolding lines_in
 by_last [] old new read e p l inside h = (e, h)
@@ -178,8 +191,10 @@ by_last (c ∷ cs) old new read e p l inside h = (
   λ on. absurd (false≢true (sym on ∙ e)),
 )
 
-pub reads_last : (next : Next) (o : Option ℕ) (slice : List ℕ) (old now new : Texts) (left mid rest : Option (List ℕ)) → next ≡ last_of slice → slice ≡ new.text.items → o ≡ None
-    → old.ended ≡ false → new.ended ≡ true → new.text.items ≡ now.text.items → TextSo old now left mid → Taken o now.buffer new.buffer mid rest → ReadsText (Ok next) old new left rest
+pub reads_last : (next : Next) (o : Option ℕ) (slice : List ℕ) (old now new : Texts) (left mid rest : Option (List ℕ))
+    → next ≡ last_of slice → slice ≡ new.text.items → o ≡ None
+    → old.ended ≡ false → new.ended ≡ true → new.text.items ≡ now.text.items → TextSo old now left mid
+    → Taken o now.buffer new.buffer mid rest → ReadsText (Ok next) old new left rest
 reads_last next o slice old now new left mid rest e l n runs f k s t =
     let u : Taken None now.buffer new.buffer mid rest = subst (λ x. Taken x now.buffer new.buffer mid rest) n t in
     let gone = nothing_left (pending now.buffer) u.read u.given.0 in
@@ -195,13 +210,15 @@ reads_last next o slice old now new left mid rest e l n runs f k s t =
     })
 
 -- the source failed
-opened : (most n : ℕ) (text : List ℕ) → list_all is_inside text ≡ true → length text ≤ most → (0 < length text → n ≤ most_lines) → OpenedText most (lines_in text) n
+opened : (most n : ℕ) (text : List ℕ) → list_all is_inside text ≡ true → length text ≤ most → (0 < length text → n ≤ most_lines)
+    → OpenedText most (lines_in text) n
 unfolding lines_in
 opened most n [] inside short few = tt
 opened most n (b ∷ bs) inside short few =
     subst (λ lines. OpenedText most lines n) (sym (only b bs inside)) (inside, short, few (omega arith))
 
-pub reads_broken : (e : Failed) (old now new : Texts) (left mid rest : Option (List ℕ)) → old.ended ≡ false → length now.text.items ≤ new.most → (0 < length now.text.items → new.number ≤ most_lines)
+pub reads_broken : (e : Failed) (old now new : Texts) (left mid rest : Option (List ℕ)) → old.ended ≡ false
+    → length now.text.items ≤ new.most → (0 < length now.text.items → new.number ≤ most_lines)
     → TextSo old now left mid → Broke now.buffer new.buffer mid rest → ReadsText (Err e) old new left rest
 reads_broken e old now new left mid rest runs short few s b =
     let all : texts_ahead old s.read ≡ lines_in now.text.items =
@@ -215,7 +232,8 @@ reads_broken e old now new left mid rest runs short few s b =
     }
 
 -- after the end there is nothing
-pub reads_ended : (old new : Texts) (left : Option (List ℕ)) → ReadyTexts old left → old.ended ≡ true → new.ended ≡ true → ReadsText (Ok End) old new left left
+pub reads_ended : (old new : Texts) (left : Option (List ℕ)) → ReadyTexts old left → old.ended ≡ true → new.ended ≡ true
+    → ReadsText (Ok End) old new left left
 unfolding lines_in
 reads_ended old new left r e f = record {
   read = [];
@@ -224,7 +242,8 @@ reads_ended old new left r e f = record {
   next = (f, ap (λ x. lines_in (x ++ [])) (r.over e).0);
 }
 
-by_start : (result : Result Next Failed) (old start new : Texts) (read : List ℕ) → start.buffer ≡ old.buffer → start.ended ≡ old.ended → TextOf result start new read → TextOf result old new read
+by_start : (result : Result Next Failed) (old start new : Texts) (read : List ℕ) → start.buffer ≡ old.buffer → start.ended ≡ old.ended
+    → TextOf result start new read → TextOf result old new read
 by_start (Ok Line) old start new read e f n =
     (subst (λ (b : Buffer). Facing new.ended (λ whole more. lines_in (pending b ++ (read ++ more)) ≡ new.text.items ∷ texts_ahead new more)) e n.0, n.1)
 by_start (Ok Long) old start new read e f n =
@@ -234,7 +253,8 @@ by_start (Ok Beyond) old start new read e f n =
 by_start (Ok End) old start new read e f n = (n.0, subst (λ (b : Buffer). lines_in (pending b ++ read) ≡ []) e n.1)
 by_start (Err x) old start new read e f n = (sym f ∙ n.0, subst (λ (b : Buffer). OpenedText new.most (lines_in (pending b ++ read)) new.number) e n.1)
 
-pub reads_from : (result : Result Next Failed) (old start new : Texts) (left rest : Option (List ℕ)) → start.buffer ≡ old.buffer → start.ended ≡ old.ended → ReadsText result start new left rest
+pub reads_from : (result : Result Next Failed) (old start new : Texts) (left rest : Option (List ℕ)) → start.buffer ≡ old.buffer
+    → start.ended ≡ old.ended → ReadsText result start new left rest
     → ReadsText result old new left rest
 reads_from result old start new left rest e f r = record {
   read = r.read;
@@ -267,9 +287,18 @@ before_end (c ∷ cs) b is =
       | inr other ↦ (let l = before_end cs b is in rw other (omega (arith, l)))
     ]
 
-pub short_end : (next : Next) (n most : ℕ) (text now : List ℕ) (b : ℕ) → PushedText (Some next) n most text b now → next ≡ Line → length text ≤ most → length (before_lf now) ≤ most
+pub short_end : (next : Next) (n most : ℕ) (text now : List ℕ) (b : ℕ) → PushedText (Some next) n most text b now → next ≡ Line
+    → length text ≤ most → length (before_lf now) ≤ most
 short_end Line n most text now b p is short = rw p.1 (let l = before_end text b p.0 in omega (arith, l, short))
 short_end _ n most text now b p is short = cc
 
 pub short_last : (text : List ℕ) (most : ℕ) → length text ≤ most → length (before_lf text) ≤ most
 short_last text most short = (let l = short_before text in omega (arith, l, short))
+
+pub room_end : (next : Next) (n most : ℕ) (text now : List ℕ) (b : ℕ) → PushedText (Some next) n most text b now → next ≡ Line
+    → length text ≤ most → length now ≤ most + 1
+room_end Line n most text now b p is short = rw p.1 (omega (arith, length-append text (b ∷ []), short))
+room_end _ n most text now b p is short = cc
+
+pub room_last : (text : List ℕ) (most : ℕ) → length text ≤ most → length text ≤ most + 1
+room_last text most short = omega (arith, short)

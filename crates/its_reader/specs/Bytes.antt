@@ -1,6 +1,6 @@
 -- The bytes of a source, one by one.
 -- No promise rests on this.
-use Rattle.std.specs.Prelude.{◌≡◌, ◌≤◌, ◌==◌, ℕ, Bool, true, not, Option, Some, None, Result, Ok, Err, List, [], ◌∷◌, ◌++◌, length, take, drop}
+use Rattle.std.specs.Prelude.{◌≡◌, ◌≤◌, ◌==◌, ℕ, Bool, true, false, not, Option, Some, None, Result, Ok, Err, List, [], ◌∷◌, ◌++◌, length, take, drop}
 use Rattle.std.specs.Io.KnownBytes.{Consumes, Keeps, IsAtEnd}
 use Rattle.std.specs.List.{list_all}
 use Rattle.its_io.specs.declared.stream.Failed.{Failed}
@@ -44,6 +44,10 @@ pub record Taken (b : Option ℕ) (old new : Buffer) (left rest : Option (List �
 abbrev pub Took : Result (Option ℕ) Failed → Buffer → Buffer → Option (List ℕ) → Option (List ℕ) → Type 0
 Took (Ok b) old new left rest = Taken b old new left rest
 Took (Err e) old new left rest = Broke old new left rest
+
+-- a source is read until it ends, and not after that
+abbrev pub Onward : Bool → Bool → Type 0
+Onward ended readable = ended ≡ false → readable ≡ true
 
 -- a byte other than LF
 abbrev pub is_plain : ℕ → Bool

@@ -109,8 +109,8 @@ pub record Finds (result : Result Found Failed) (old new : Items) (left rest : O
   pub found : FoundOf result old new read
   pub line : LineOf result old.lines new.lines read
 
--- the items of a session so far, none of which ends the session, the bytes that were read, and the lines that were
--- given
+-- the items of a session so far, none of which ends the session, the bytes that were read, and the
+-- lines that were given
 pub record FoundSoFar (es : List Item) (r : Items) (left rest : Option (List ℕ)) : Type 0 where
   pub read : List ℕ
   pub consumed : Consumes left rest read
@@ -127,7 +127,8 @@ pub record ReadOut (bytes : List ℕ) (rest : Option (List ℕ)) : Type 0 where
   pub consumed : Consumes (Some bytes) rest read
   pub out : (read ≡ bytes) ⊎ Contains (whole_events_of read) (Read events.End)
 
--- all items of a session, if these were found and then this; if the source failed, nothing was decided
+-- all items of a session, if these were found and then this; if the source failed, nothing was
+-- decided
 abbrev pub AllFound : Result Found Failed → List Item → List ℕ → List ℕ → Type 0
 AllFound (Ok f) es bytes read = events_of bytes ≡ es ++ last_items f
 AllFound (Err e) es bytes read = (whole_events_of read ≡ es) × WithinLimits read
@@ -138,7 +139,8 @@ pub record Ended (result : Result Found Failed) (es : List Item) (left rest : Op
   pub all : IfSome left (λ bytes. AllFound result es bytes read)
   pub out : IfOk result (λ f. is_end f ≡ true → IfSome left (λ bytes. ReadOut bytes rest))
 
--- all items of a session, if these were found and then this: what comes after it is nothing if it is the last
+-- all items of a session, if these were found and then this: what comes after it is nothing if it
+-- is the last
 pub record Behind (f : Found) (es : List Item) (bytes : List ℕ) : Type 0 where
   pub tail : List Item
   pub all : events_of bytes ≡ es ++ (last_items f ++ tail)

@@ -19,7 +19,8 @@ pub record BetweenLines (r : Lines) (left : Option (List ℕ)) : Type 0 where
   pub fits : BufferFits r.buffer
   pub over : r.ended ≡ true → (pending r.buffer ≡ []) × IsAtEnd left
 
--- the lines that are still to come, if these bytes are still to be read; `whole` says that the source ends with them
+-- the lines that are still to come, if these bytes are still to be read; `whole` says that the
+-- source ends with them
 abbrev pub ahead : Bool → Lines → List ℕ → List (List ℕ)
 ahead whole r more = lines_from whole [] (pending r.buffer ++ more)
 
@@ -35,7 +36,8 @@ pub record SomeLine (lines : List (List ℕ)) (P : List ℕ → Type 0) : Type 0
   pub is : lines ≡ first ∷ behind
   pub holds : P first
 
--- none of these lines is whole: one at most has begun, and may go on. It is not too long, and its number n not past the most
+-- none of these lines is whole: one at most has begun, and may go on. It is not too long, and its
+-- number n not past the most
 abbrev pub Opened : List (List ℕ) → ℕ → Type 0
 Opened [] n = Unit {0}
 Opened (line ∷ []) n = (length line ≤ 255) × (n ≤ most_lines)

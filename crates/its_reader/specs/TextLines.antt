@@ -2,7 +2,8 @@
 -- A promise rests on this.
 use Rattle.std.specs.Prelude.{if◌then◌else◌, ◌==◌, ℕ, List, [], ◌∷◌}
 
--- a byte in front of the lines of bytes: LF is a line of its own there, and any other byte begins the first line
+-- a byte in front of the lines of bytes: LF is a line of its own there, and any other byte begins
+-- the first line
 abbrev pub in_front : ℕ → List (List ℕ) → List (List ℕ)
 in_front b [] = (b ∷ []) ∷ []
 in_front b (line ∷ lines) = if b == 10 then (b ∷ []) ∷ line ∷ lines else (b ∷ line) ∷ lines

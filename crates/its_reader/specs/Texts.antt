@@ -31,7 +31,8 @@ pub record Ends (text : List ℕ) : Type 0 where
   pub is : text ≡ before ++ 10 ∷ []
   pub inside : list_all is_inside before ≡ true
 
--- none of these lines is whole: one at most has begun, and may go on. It is not too long, and its number n not past the most
+-- none of these lines is whole: one at most has begun, and may go on. It is not too long, and its
+-- number n not past the most
 abbrev pub OpenedText : ℕ → List (List ℕ) → ℕ → Type 0
 OpenedText most [] n = Unit {0}
 OpenedText most (text ∷ []) n = (list_all is_inside text ≡ true) × (length text ≤ most) × (n ≤ most_lines)

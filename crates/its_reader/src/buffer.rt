@@ -1,12 +1,15 @@
-ghost use Rattle.std.specs.Prelude.{◌≡◌, ◌≤◌, ◌+◌, ◌==◌, [], true, length, take, drop, position};
+//! The bytes of a source, read 512 at a time and taken one by one.
+ghost use Rattle.std.specs.Prelude.{◌≡◌, ◌≤◌, ◌+◌, ◌==◌, ◌≢◌, ◌<◌, [], true, length, take, drop, position, IfOk};
 ghost use Rattle.std.specs.List.{list_all};
+ghost use Rattle.std.specs.declared.option.Option.TheVariants.{None};
 ghost use Rattle.its_io.specs.Bytes.{HasCause};
 ghost use Rattle.its_reader.specs.Bytes.{pending, BufferFits, Filled, Given, Took, Taken, TookPlain, is_plain};
 
 use arrayvec::ArrayVec;
 use its_io::{Failed, Source};
 
-/// The bytes of a source, which are read 512 at a time: those from `start` to `stop` were read, and are not taken yet.
+/// The bytes of a source, which are read 512 at a time: those from `start` to `stop` were read, and
+/// are not taken yet.
 #[derive(Clone, Copy, Debug)]
 pub struct Buffer {
     pub bytes: [u8; 512],
@@ -31,8 +34,10 @@ impl Buffer {
     #[tactic(auto, using(crate::proofs::BufferLaws::took))]
     pub fn next<S: Source>(&mut self, src: &mut S) -> Result<Option<u8>, Failed>
         requires fits { BufferFits self.old }
+        requires readable { S.readable src.old ≡ true }
         ensures took { Took result self.old self.new (S.left src.old) (S.left src.new) }
         ensures fits { BufferFits self.new }
+        ensures readable { IfOk result (λ b. b ≢ None → S.readable src.new ≡ true) }
         ensures cause { HasCause (S.faults src.old) (S.faults src.new) result }
     {
         match self.fill(src) {
@@ -45,8 +50,10 @@ impl Buffer {
     #[tactic(auto, using(crate::proofs::BufferLaws::filled_some, crate::proofs::BufferLaws::filled_read, crate::proofs::BufferLaws::none_pending))]
     fn fill<S: Source>(&mut self, src: &mut S) -> Result<(), Failed>
         requires fits { BufferFits self.old }
+        requires readable { S.readable src.old ≡ true }
         ensures filled { Filled result self.old self.new (S.left src.old) (S.left src.new) }
         ensures fits { BufferFits self.new }
+        ensures readable { IfOk result (λ _. self.new.start < self.new.stop → S.readable src.new ≡ true) }
         ensures cause { HasCause (S.faults src.old) (S.faults src.new) result }
     {
         if self.start < self.stop {
@@ -63,6 +70,7 @@ impl Buffer {
     fn take(&mut self) -> Option<u8>
         requires fits { BufferFits self.old }
         ensures given { Given result (pending self.old) (pending self.new) }
+        ensures some { result ≢ None → self.old.start < self.old.stop }
         ensures fits { BufferFits self.new }
     {
         if self.start == self.stop {
@@ -73,7 +81,8 @@ impl Buffer {
         Some(b)
     }
 
-    /// Takes bytes from those that were read, up to the first LF, and adds them to a line; so many that it has `most` at most.
+    /// Takes bytes from those that were read, up to the first LF, and adds them to a line; so many
+    /// that it has `most` at most.
     #[inline]
     #[tactic(auto, using(crate::proofs::BufferLaws::took_plain))]
     pub(super) fn take_plain<const CAP: usize>(&mut self, line: &mut ArrayVec<u8, CAP>, most: usize)

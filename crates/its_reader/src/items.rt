@@ -1,7 +1,8 @@
+//! The items of a session: its lines, parsed.
 ghost use Rattle.std.specs.Prelude.{◌≡◌, ◌≤◌, ◌+◌, [], false, IfOk};
 ghost use Rattle.its_io.specs.Bytes.{HasCause};
 ghost use Rattle.its_session.specs.Events.{most_lines, place_after, unread_reason, version_after};
-ghost use Rattle.its_reader.specs.Bytes.{pending, BufferFits};
+ghost use Rattle.its_reader.specs.Bytes.{pending, BufferFits, Onward};
 ghost use Rattle.its_reader.specs.Lines.{BetweenLines};
 ghost use Rattle.its_session.specs.Grammar.{line_event};
 ghost use Rattle.its_reader.specs.Items.{Finds, end_found, found_fits, found_of, found_stands, is_last, place_found, version_found};
@@ -16,7 +17,8 @@ use its_session::read_line;
 pub enum Found {
     /// A line that is read.
     Line(Event),
-    /// A line that is not read, or the end of the input inside a block: the session ends with a `?` line.
+    /// A line that is not read, or the end of the input inside a block: the session ends with a `?`
+    /// line.
     Bad(Reason),
     /// A line past the most that a session may have begins.
     Beyond,
@@ -52,17 +54,19 @@ impl Items {
         }
     }
 
-    /// What comes next; `lines.number` is then the number of its line. The end of the input inside a block is refused
-    /// as CUT. Nothing is to be asked for after END or after what is no line.
-    #[tactic(auto, using(crate::proofs::ItemsLaws::finds_line, crate::proofs::ItemsLaws::finds_long, crate::proofs::ItemsLaws::finds_beyond, crate::proofs::ItemsLaws::finds_end, crate::proofs::ItemsLaws::finds_broken))]
+    /// What comes next; `lines.number` is then the number of its line. The end of the input inside
+    /// a block is refused as CUT. Nothing is to be asked for after END or after what is no line.
+    #[tactic(auto, using(crate::proofs::Groups::next_laws))]
     pub fn next<S: Source>(&mut self, src: &mut S) -> Result<Found, Failed>
         requires ready { BetweenLines self.old.lines (S.left src.old) }
+        requires onward { Onward self.old.lines.ended (S.readable src.old) }
         requires few { self.old.lines.number ≤ most_lines }
         ensures finds { Finds result self.old self.new (S.left src.old) (S.left src.new) }
         ensures fits { IfOk result (found_fits self.old.version) }
         ensures stands { IfOk result (found_stands self.old.place) }
         ensures place { IfOk result (λ f. self.new.place ≡ place_found self.old.place f) }
         ensures ready { IfOk result (λ _. BetweenLines self.new.lines (S.left src.new)) }
+        ensures onward { IfOk result (λ _. Onward self.new.lines.ended (S.readable src.new)) }
         ensures number { self.new.lines.number ≡ self.old.lines.number + 1 }
         ensures few { IfOk result (λ f. is_last f ≡ false → self.new.lines.number ≤ most_lines) }
         ensures cause { HasCause (S.faults src.old) (S.faults src.new) result }
@@ -116,12 +120,12 @@ fn place_after(place: Place, event: &Event) -> Place
         Event::File { .. } => Place::File,
         Event::Go { .. } => Place::Plain,
         Event::EndFile => Place::Plain,
-        _ => behind(place),
+        _ => next_place(place),
     }
 }
 
 /// The place after a line that begins no block and ends none: line 1 is over.
-fn behind(place: Place) -> Place
+fn next_place(place: Place) -> Place
     ensures { result ≡ place_after place Event.Nothing }
 {
     match place {

@@ -1,15 +1,14 @@
-ghost use Rattle.std.specs.Prelude.{◌≡◌, ◌≢◌, ◌≤◌, ◌<◌, ◌+◌, [], false, Ok, length, IfOk};
+//! The lines of a source, each within the bytes that a session line may have.
+ghost use Rattle.std.specs.Prelude.{◌≡◌, ◌≢◌, ◌≤◌, ◌<◌, ◌+◌, [], true, false, Ok, length, IfOk};
 ghost use Rattle.its_io.specs.Bytes.{HasCause};
 ghost use Rattle.its_session.specs.Events.{most_lines};
-ghost use Rattle.its_reader.specs.Bytes.{pending, BufferFits, TookPlain};
+ghost use Rattle.its_reader.specs.Bytes.{pending, BufferFits, Onward, TookPlain};
 ghost use Rattle.its_reader.specs.Lines.{BetweenLines, Reads, Pushed, last_of};
 
 use super::buffer::Buffer;
 use arrayvec::ArrayVec;
 use its_io::{Failed, Source};
-
-/// The most lines that are read.
-pub(super) const MOST_LINES: u32 = 1 << 20;
+use its_session::MOST_LINES;
 
 /// What comes next of the lines of a source.
 #[derive(Clone, Copy, Debug, PartialEq, Eq)]
@@ -53,14 +52,16 @@ impl Lines {
         }
     }
 
-    /// What comes next: if it is a line, this is `line`, and `number` is its number. LF ends a line, and so does the end of the source,
-    /// if a line has begun.
+    /// What comes next: if it is a line, this is `line`, and `number` is its number. LF ends a
+    /// line, and so does the end of the source, if a line has begun.
     #[tactic(auto, using(crate::proofs::LinesLaws::reads_ended, crate::proofs::LinesLaws::reads_from))]
     pub fn next<S: Source>(&mut self, src: &mut S) -> Result<Next, Failed>
         requires ready { BetweenLines self.old (S.left src.old) }
+        requires onward { Onward self.old.ended (S.readable src.old) }
         requires few { self.old.number ≤ most_lines }
         ensures reads { Reads result self.old self.new (S.left src.old) (S.left src.new) }
         ensures ready { IfOk result (λ _. BetweenLines self.new (S.left src.new)) }
+        ensures onward { IfOk result (λ _. Onward self.new.ended (S.readable src.new)) }
         ensures number { self.new.number ≡ self.old.number + 1 }
         ensures few { result ≡ Ok Next.Line → self.new.number ≤ most_lines }
         ensures short { length self.new.line.items ≤ 255 }
@@ -75,14 +76,16 @@ impl Lines {
     }
 
     /// Reads up to the end of a line, or of the source.
-    #[tactic(auto, using(crate::proofs::LinesLaws::so_start, crate::proofs::LinesLaws::reads_push, crate::proofs::LinesLaws::reads_last, crate::proofs::LinesLaws::reads_broken, crate::proofs::LinesLaws::ready_open, crate::proofs::LinesLaws::ready_over))]
+    #[tactic(auto, using(crate::proofs::Groups::lines_read_on_laws))]
     fn read_on<S: Source>(&mut self, src: &mut S) -> Result<Next, Failed>
         requires fits { BufferFits self.old.buffer }
         requires empty { self.old.line.items ≡ [] }
         requires open { self.old.ended ≡ false }
+        requires readable { S.readable src.old ≡ true }
         requires most { self.old.number ≤ most_lines + 1 }
         ensures reads { Reads result self.old self.new (S.left src.old) (S.left src.new) }
         ensures ready { IfOk result (λ _. BetweenLines self.new (S.left src.new)) }
+        ensures onward { IfOk result (λ _. Onward self.new.ended (S.readable src.new)) }
         ensures number { self.new.number ≡ self.old.number }
         ensures few { result ≡ Ok Next.Line → self.new.number ≤ most_lines }
         ensures short { length self.new.line.items ≤ 255 }
@@ -105,7 +108,8 @@ impl Lines {
         }
     }
 
-    /// Takes what was read of the line already: up to LF, or as much as it may have. It takes nothing of a line past the last.
+    /// Takes what was read of the line already: up to LF, or as much as it may have. It takes
+    /// nothing of a line past the last.
     #[inline]
     #[tactic(auto, using(crate::proofs::BufferLaws::took_no_plain, crate::proofs::BufferLaws::plain_grows))]
     fn take_plain(&mut self)

@@ -1,15 +1,17 @@
-ghost use Rattle.std.specs.Prelude.{◌≡◌, ◌≤◌, ◌<◌, ◌+◌, [], false, Ok, length, IfOk};
+//! The lines of a source, each with its LF, within a number of bytes that the caller gives.
+ghost use Rattle.std.specs.Prelude.{◌≡◌, ◌≤◌, ◌<◌, ◌+◌, [], true, false, Ok, length, IfOk};
 ghost use Rattle.its_io.specs.Bytes.{HasCause};
 ghost use Rattle.its_session.specs.Events.{most_lines};
-ghost use Rattle.its_reader.specs.Bytes.{pending, BufferFits, TookPlain};
+ghost use Rattle.its_reader.specs.Bytes.{pending, BufferFits, Onward, TookPlain};
 ghost use Rattle.its_reader.specs.Lines.{last_of};
 ghost use Rattle.its_reader.specs.TextLines.{before_lf};
 ghost use Rattle.its_reader.specs.Texts.{PushedText, ReadsText, ReadyTexts};
 
 use super::buffer::Buffer;
-use super::lines::{MOST_LINES, Next, last};
+use super::lines::{Next, last};
 use arrayvec::ArrayVec;
 use its_io::{Failed, Source};
+use its_session::MOST_LINES;
 
 /// The lines of a source, each with the LF that ends it.
 #[derive(Debug, Drop)]
@@ -27,7 +29,8 @@ pub struct Texts {
 }
 
 impl Texts {
-    /// The lines of a source of which nothing was read, when each has so many bytes at most before its LF.
+    /// The lines of a source of which nothing was read, when each has so many bytes at most before
+    /// its LF.
     pub fn new(most: usize) -> Texts
         ensures fits { BufferFits result.buffer }
         ensures pending { pending result.buffer ≡ [] }
@@ -44,19 +47,22 @@ impl Texts {
         }
     }
 
-    /// What comes next: if it is a line, this is `text`, and `number` is its number. It is too long as soon as one byte too many was
-    /// read and is no LF.
+    /// What comes next: if it is a line, this is `text`, and `number` is its number. It is too long
+    /// as soon as one byte too many was read and is no LF.
     #[tactic(auto, using(crate::proofs::TextsLaws::reads_ended, crate::proofs::TextsLaws::reads_from))]
     pub fn next<S: Source>(&mut self, src: &mut S) -> Result<Next, Failed>
         requires ready { ReadyTexts self.old (S.left src.old) }
+        requires onward { Onward self.old.ended (S.readable src.old) }
         requires few { self.old.number ≤ most_lines }
         requires most { self.old.most ≤ 1543 }
         ensures reads { ReadsText result self.old self.new (S.left src.old) (S.left src.new) }
         ensures ready { IfOk result (λ _. ReadyTexts self.new (S.left src.new)) }
+        ensures onward { IfOk result (λ _. Onward self.new.ended (S.readable src.new)) }
         ensures number { self.new.number ≡ self.old.number + 1 }
         ensures most { self.new.most ≡ self.old.most }
         ensures few { result ≡ Ok Next.Line → self.new.number ≤ most_lines }
         ensures short { result ≡ Ok Next.Line → length (before_lf self.new.text.items) ≤ self.old.most }
+        ensures room { result ≡ Ok Next.Line → length self.new.text.items ≤ self.old.most + 1 }
         ensures cause { HasCause (S.faults src.old) (S.faults src.new) result }
     {
         self.text.clear();
@@ -68,19 +74,22 @@ impl Texts {
     }
 
     /// Reads up to the end of a line, or of the source.
-    #[tactic(auto, using(crate::proofs::TextsLaws::so_start, crate::proofs::TextsLaws::ready_open, crate::proofs::TextsLaws::ready_over, crate::proofs::TextsLaws::short_end, crate::proofs::TextsLaws::short_last))]
+    #[tactic(auto, using(crate::proofs::Groups::texts_read_on_laws))]
     fn read_on<S: Source>(&mut self, src: &mut S) -> Result<Next, Failed>
         requires fits { BufferFits self.old.buffer }
         requires empty { self.old.text.items ≡ [] }
         requires open { self.old.ended ≡ false }
+        requires readable { S.readable src.old ≡ true }
         requires first { self.old.number ≤ most_lines + 1 }
         requires most { self.old.most ≤ 1543 }
         ensures reads { ReadsText result self.old self.new (S.left src.old) (S.left src.new) }
         ensures ready { IfOk result (λ _. ReadyTexts self.new (S.left src.new)) }
+        ensures onward { IfOk result (λ _. Onward self.new.ended (S.readable src.new)) }
         ensures number { self.new.number ≡ self.old.number }
         ensures most { self.new.most ≡ self.old.most }
         ensures few { result ≡ Ok Next.Line → self.new.number ≤ most_lines }
         ensures short { result ≡ Ok Next.Line → length (before_lf self.new.text.items) ≤ self.old.most }
+        ensures room { result ≡ Ok Next.Line → length self.new.text.items ≤ self.old.most + 1 }
         ensures cause { HasCause (S.faults src.old) (S.faults src.new) result }
     {
         loop {
@@ -100,7 +109,8 @@ impl Texts {
         }
     }
 
-    /// Takes what was read of the line already: up to LF, or as much as it may have. It takes nothing of a line past the last.
+    /// Takes what was read of the line already: up to LF, or as much as it may have. It takes
+    /// nothing of a line past the last.
     #[inline]
     #[tactic(auto, using(crate::proofs::BufferLaws::took_no_plain, crate::proofs::BufferLaws::plain_grows))]
     fn take_plain(&mut self)

@@ -23,7 +23,8 @@ cut sup new gone s zero o h e = refl
 cut sup new gone s (suc n) None h e = refl
 cut sup new gone s (suc n) (Some k) h e =
     let both = or_none (k == s) (climbs_to sup s n (sup k)) e in
-    let rest : (b : Bool) → climbs_to new s n (if b then None else sup k) ≡ false = λ b. elim b as (λ x. climbs_to new s n (if x then None else sup k) ≡ false) [
+    let rest : (b : Bool) → climbs_to new s n (if b then None else sup k) ≡ false =
+    λ b. elim b as (λ x. climbs_to new s n (if x then None else sup k) ≡ false) [
       | true ↦ climb_end new s n
       | false ↦ cut sup new gone s n (sup k) h both.1
     ] in
@@ -72,7 +73,8 @@ record Level (sup : ℕ → Option ℕ) (r n : ℕ) : Type 0 where
   reached : climbs_to sup r (suc n) (Some slot) ≡ true
   before : climbs_to sup r n (Some slot) ≡ false
 
-level_of : (sup : ℕ → Option ℕ) (r n : ℕ) (o : Option ℕ) → IfSome o (λ s. s < slots) → climbs_to sup r (suc n) o ≡ true → climbs_to sup r n o ≡ false → Level sup r n
+level_of : (sup : ℕ → Option ℕ) (r n : ℕ) (o : Option ℕ) → IfSome o (λ s. s < slots) → climbs_to sup r (suc n) o ≡ true
+    → climbs_to sup r n o ≡ false → Level sup r n
 level_of sup r n (Some k) w h e = record { slot = k; within = w; reached = h; before = e }
 level_of sup r n None w h e = absurd (let no = climb_end sup r (suc n) in cc)
 
@@ -139,7 +141,8 @@ reaching sup r n = passing (λ k. climbs_to sup r n (Some k)) 0 slots
 grown : (sup : ℕ → Option ℕ) (r n : ℕ) → Level sup r n → reaching sup r n + 1 ≤ reaching sup r (suc n)
 unfolding reaching
 grown sup r n l =
-    one_more (λ k. climbs_to sup r n (Some k)) (λ k. climbs_to sup r (suc n) (Some k)) 0 slots l.slot (λ k h. more sup r n (Some k) h) (omega arith) (let w = l.within in omega arith) l.before l.reached
+    one_more (λ k. climbs_to sup r n (Some k)) (λ k. climbs_to sup r (suc n) (Some k)) 0 slots l.slot (λ k h. more sup r n (Some k) h)
+    (omega arith) (let w = l.within in omega arith) l.before l.reached
 
 levels : (sup : ℕ → Option ℕ) (r n : ℕ) → ((k : ℕ) → IfSome (sup k) (λ s. s < slots)) → Level sup r n → n ≤ reaching sup r n
 levels sup r zero few l = omega arith

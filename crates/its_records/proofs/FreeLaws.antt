@@ -12,7 +12,8 @@ unfolding free_from
 free_alike f g zero k h = refl
 free_alike f g (suc n) k h = ap (λ b. cond b (free_from f n (k + 1)) (Some k)) (h k) ∙ ap (λ r. cond (is_some (g k)) r (Some k)) (free_alike f g n (k + 1) h)
 
-pub least_alike : {X Y : Type 0} (limit : ℕ) (f : ℕ → Option X) (g : ℕ → Option Y) → ((i : ℕ) → is_some (f i) ≡ is_some (g i)) → least_free limit f ≡ least_free limit g
+pub least_alike : {X Y : Type 0} (limit : ℕ) (f : ℕ → Option X) (g : ℕ → Option Y) → ((i : ℕ) → is_some (f i) ≡ is_some (g i))
+    → least_free limit f ≡ least_free limit g
 unfolding least_free
 least_alike limit f g h = free_alike f g limit 0 h
 

@@ -1,3 +1,4 @@
 pub mod TreeLaws
 pub mod ClimbLaws
 pub mod FreeLaws
+pub mod ConstantLaws

@@ -16,7 +16,8 @@ full_next : {X : Type 0} (jobs : ℕ → Option X) (n k : ℕ) → is_some (jobs
 unfolding free_from
 full_next jobs n k h = rw h refl
 
-pub least_next : {X : Type 0} (jobs : ℕ → Option X) (limit k : ℕ) → k < limit → is_some (jobs k) ≡ true → free_from jobs (limit - k) k ≡ free_from jobs (limit - (k + 1)) (k + 1)
+pub least_next : {X : Type 0} (jobs : ℕ → Option X) (limit k : ℕ) → k < limit → is_some (jobs k) ≡ true
+    → free_from jobs (limit - k) k ≡ free_from jobs (limit - (k + 1)) (k + 1)
 least_next jobs limit k l h =
     let e : limit - k ≡ suc (limit - (k + 1)) = omega arith in
     ap (λ n. free_from jobs n k) e ∙ full_next jobs (limit - (k + 1)) k h
@@ -55,7 +56,8 @@ none_here : {X : Type 0} (jobs : ℕ → Option X) (n k : ℕ) → is_some (jobs
 unfolding none_from
 none_here jobs n k h = rw h refl
 
-pub none_next : {X : Type 0} (jobs : ℕ → Option X) (k : ℕ) → k < slots → is_some (jobs k) ≡ false → none_from jobs (slots - k) k ≡ none_from jobs (slots - (k + 1)) (k + 1)
+pub none_next : {X : Type 0} (jobs : ℕ → Option X) (k : ℕ) → k < slots → is_some (jobs k) ≡ false
+    → none_from jobs (slots - k) k ≡ none_from jobs (slots - (k + 1)) (k + 1)
 none_next jobs k l h =
     let e : slots - k ≡ suc (slots - (k + 1)) = omega arith in
     ap (λ n. none_from jobs n k) e ∙ none_here jobs (slots - (k + 1)) k h

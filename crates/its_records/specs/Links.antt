@@ -10,8 +10,8 @@ use Rattle.its_records.specs.declared.link.Link.{Link}
 abbrev pub most_links : ℕ
 most_links = 16
 
-abbrev pub most_linked : ℕ
-most_linked = 64
+abbrev pub most_link_words : ℕ
+most_link_words = 64
 
 -- the writing end of a link, or its reading end
 abbrev pub link_end : Bool → Link → End

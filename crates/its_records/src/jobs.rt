@@ -17,6 +17,9 @@ pub enum Channel {
     Link { link: u8, write: bool },
 }
 
+/// How many channels a job has; they go by the numbers below it.
+pub const CHANNELS: u8 = 16;
+
 /// The registers of a job: PC, flags (bits of the left half of a PC word), the stopped mark,
 /// pending words, masks and deferrals of its interrupts, its two names in SIXBIT, its console and
 /// its channels. Its core and its place in the tree of jobs are elsewhere.

@@ -18,7 +18,7 @@ mod session;
 mod show;
 
 pub use calls::{Arg, Ask, Block, Exit, Kind, Operand, Owed, Pace, Placed, Site, Source};
-pub use jobs::{Channel, Job};
+pub use jobs::{CHANNELS, Channel, Job};
 pub use link::{End, LINK_WORDS, LINKS, Link};
 pub use session::{Bad, Event, Place, Reason, Refusal};
 pub use show::{FileShow, JobShow, Peek, PeekState};

@@ -1,9 +1,8 @@
 -- The first slot that runs, and the turn.
-use Rattle.std.specs.Prelude.{cond, ℕ, zero, suc, ◌+◌, ◌-◌, ◌<◌, ◌≤◌, ◌≡◌, ◌≢◌, Bool, true, false, Option, Some, None, List, length, slice_index_or, refl}
+use Rattle.std.specs.Prelude.{cond, ℕ, zero, suc, ◌+◌, ◌-◌, ◌<◌, ◌≤◌, ◌≡◌, ◌≢◌, Bool, true, false, Option, Some, None, refl}
 use Rattle.std.proofs.Common.{sym, ◌∙◌, ap, subst, arith, inl, inr}
 use Rattle.std.proofs.lemmas.Bool.{cases_eq, cases_lt, lt-ltb, le-ltb}
 use Rattle.std.proofs.lemmas.Option.{none-some, same_Some}
-use Rattle.std.proofs.lemmas.List.{get_or_past}
 use Rattle.its_robin.specs.Robin.{first_running, or_else, robin, between, IsNext, Turn}
 
 -- slot k does not run
@@ -89,7 +88,8 @@ between_around n last s l = rw (le-ltb last s l) refl
 clash : (runs : ℕ → Bool) (k : ℕ) {P : Type 0} → runs k ≡ true → runs k ≡ false → P
 clash runs k a b = absurd (cc)
 
-nearest_behind : (runs : ℕ → Bool) (n last s : ℕ) → last < n → Found runs (n - (last + 1)) (last + 1) s → (k : ℕ) → k < n → runs k ≡ true → between n last s ≤ between n last k
+nearest_behind : (runs : ℕ → Bool) (n last s : ℕ) → last < n → Found runs (n - (last + 1)) (last + 1) s → (k : ℕ) → k < n → runs k ≡ true
+    → between n last s ≤ between n last k
 nearest_behind runs n last s l f k w r = elim (cases_lt last k) [
   | inl behind ↦ elim (cases_lt k s) [
     | inl before ↦ clash runs k r (f.before k (omega arith) before)
@@ -113,33 +113,27 @@ nearest_around runs n last s l none f k w r = elim (cases_lt last k) [
   ]
 ]
 
-next_around : (runs : ℕ → Bool) (n last s : ℕ) → last < n → first_running runs (n - (last + 1)) (last + 1) ≡ None → first_running runs (last + 1) 0 ≡ Some s → IsNext n runs last s
+next_around : (runs : ℕ → Bool) (n last s : ℕ) → last < n → first_running runs (n - (last + 1)) (last + 1) ≡ None
+    → first_running runs (last + 1) 0 ≡ Some s → IsNext n runs last s
 next_around runs n last s l none h =
     let f = first_some runs (last + 1) 0 s h in
     record { within = omega (arith, f.to); running = f.running; nearest = nearest_around runs n last s l none f }
 
--- who runs has an entry in the list
-entry_within : (xs : List Bool) (k : ℕ) → slice_index_or xs k false ≡ true → k < length xs
-entry_within xs k h = elim (cases_lt k (length xs)) [ inl l ↦ l | inr l ↦ clash (λ i. slice_index_or xs i false) k h (get_or_past xs k false l) ]
-
-all_rest : (xs : List Bool) (last : ℕ) → first_running (λ k. slice_index_or xs k false) (length xs - (last + 1)) (last + 1) ≡ None
-    → first_running (λ k. slice_index_or xs k false) (last + 1) 0 ≡ None → (k : ℕ) → slice_index_or xs k false ≡ false
-all_rest xs last behind around k = elim (cases_lt k (length xs)) [
-  | inr l ↦ get_or_past xs k false l
-  | inl l ↦ elim (cases_lt last k) [
-    | inl b ↦ first_none (λ i. slice_index_or xs i false) (length xs - (last + 1)) (last + 1) behind k (omega arith) (omega arith)
-    | inr a ↦ first_none (λ i. slice_index_or xs i false) (last + 1) 0 around k (omega arith) (omega arith)
-  ]
+-- no slot of either part of the circle runs
+all_rest : (runs : ℕ → Bool) (n last : ℕ) → first_running runs (n - (last + 1)) (last + 1) ≡ None → first_running runs (last + 1) 0 ≡ None
+    → (k : ℕ) → k < n → runs k ≡ false
+all_rest runs n last behind around k l = elim (cases_lt last k) [
+  | inl b ↦ first_none runs (n - (last + 1)) (last + 1) behind k (omega arith) (omega arith)
+  | inr a ↦ first_none runs (last + 1) 0 around k (omega arith) (omega arith)
 ]
 
 -- the turn if none after the last one runs
-pub around_is : (xs : List Bool) (last m : ℕ) (o : Option ℕ) → last < length xs → m ≡ last + 1
-    → first_running (λ k. slice_index_or xs k false) (length xs - (last + 1)) (last + 1) ≡ None
-    → o ≡ first_running (λ k. slice_index_or xs k false) m 0 → Turn (length xs) (λ k. slice_index_or xs k false) last o
-around_is xs last m None l e behind h =
-    record { none = all_rest xs last behind (ap (λ i. first_running (λ k. slice_index_or xs k false) i 0) (sym e) ∙ sym h) }
-around_is xs last m (Some s) l e behind h =
-    next_around (λ k. slice_index_or xs k false) (length xs) last s l behind (ap (λ i. first_running (λ k. slice_index_or xs k false) i 0) (sym e) ∙ sym h)
+pub around_is : (runs : ℕ → Bool) (n last m : ℕ) (o : Option ℕ) → last < n → m ≡ last + 1 → first_running runs (n - (last + 1)) (last + 1) ≡ None
+    → o ≡ first_running runs m 0 → Turn n runs last o
+around_is runs n last m None l e behind h =
+    record { none = all_rest runs n last behind (ap (λ i. first_running runs i 0) (sym e) ∙ sym h) }
+around_is runs n last m (Some s) l e behind h =
+    next_around runs n last s l behind (ap (λ i. first_running runs i 0) (sym e) ∙ sym h)
 
 -- whose turn it is depends on who runs of the n slots alone
 same_cond : (a b : Bool) (s : ℕ) (o p : Option ℕ) → a ≡ b → o ≡ p → cond a (Some s) o ≡ cond b (Some s) p
@@ -161,7 +155,8 @@ robin_same n last f g l h =
     ap (λ o. or_else o (first_running f (last + 1) 0)) behind ∙ ap (λ o. or_else (first_running g (n - (last + 1)) (last + 1)) o) around
 
 -- the slot whose turn it is is the nearest that runs
-next_by : (n last s : ℕ) (runs : ℕ → Bool) (o : Option ℕ) → last < n → first_running runs (n - (last + 1)) (last + 1) ≡ o → or_else o (first_running runs (last + 1) 0) ≡ Some s
+next_by : (n last s : ℕ) (runs : ℕ → Bool) (o : Option ℕ) → last < n → first_running runs (n - (last + 1)) (last + 1) ≡ o
+    → or_else o (first_running runs (last + 1) 0) ≡ Some s
     → IsNext n runs last s
 next_by n last s runs (Some t) l is h = subst (IsNext n runs last) (same_Some t s h) (next_behind runs n last t l is)
 next_by n last s runs None l is h = next_around runs n last s l is h

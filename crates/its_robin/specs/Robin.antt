@@ -28,11 +28,11 @@ pub record IsNext (n : ℕ) (runs : ℕ → Bool) (last s : ℕ) : Type 0 where
   pub running : runs s ≡ true
   pub nearest : (k : ℕ) → k < n → runs k ≡ true → between n last s ≤ between n last k
 
--- no slot runs
-pub record Nobody (runs : ℕ → Bool) : Type 0 where
-  pub none : (k : ℕ) → runs k ≡ false
+-- none of the n slots runs
+pub record Nobody (n : ℕ) (runs : ℕ → Bool) : Type 0 where
+  pub none : (k : ℕ) → k < n → runs k ≡ false
 
 -- whose turn it is after the last one: the nearest on the way, and nobody's exactly if no slot runs
 abbrev pub Turn : ℕ → (ℕ → Bool) → ℕ → Option ℕ → Type 0
 Turn n runs last (Some s) = IsNext n runs last s
-Turn n runs last None = Nobody runs
+Turn n runs last None = Nobody n runs

@@ -1,9 +1,9 @@
 -- Looking alike to a job is an equivalence; and which lines of the operator leave it.
 use Rattle.std.specs.Prelude.{◌≡◌, ℕ, Option, Some, None, refl}
 use Rattle.std.proofs.Common.{sym, ◌∙◌, ap, subst}
-use Rattle.its_plain.specs.Change.{channel_in, console_in}
+use Rattle.its_plain.specs.Machine.Change.{channel_in, console_in}
 use Rattle.its_plain.specs.Machine.{Chan, Shut, TtyIn, TtyOut, Reads, Writes, On, Linked, Pipe, Whole, Machine}
-use Rattle.its_plain.specs.CallFile.{file_named}
+use Rattle.its_plain.specs.Call.File.{file_named}
 use Rattle.its_security.specs.Alike.{SameThrough, SameAt, Alike}
 use Rattle.its_security.specs.OperatorParts.{Parts, OnlyParts}
 use Rattle.its_security.specs.Respect.{Unseen}
@@ -61,7 +61,8 @@ alike_back j m n h = record {
 pub alike_then : (j : ℕ) (l m n : Machine) → Alike j l m → Alike j m n → Alike j l n
 alike_then j l m n h k = record {
   own = k.own ∙ h.own;
-  channels = λ i. through_then l m n (channel_in (l.jobs j) i) (h.channels i) (subst (λ (o : Option Whole). SameThrough m n (channel_in o i)) h.own (k.channels i));
+  channels = λ i. through_then l m n (channel_in (l.jobs j) i) (h.channels i)
+      (subst (λ (o : Option Whole). SameThrough m n (channel_in o i)) h.own (k.channels i));
   console = at_then l m n (console_in (l.jobs j)) h.console (subst (λ (o : Option Whole). SameAt m n (console_in o)) h.own k.console);
   clock = k.clock ∙ h.clock;
 }

@@ -20,30 +20,30 @@ use Rattle.its_frame.specs.declared.decision.Wait.TheVariants.{Input, Output, Dr
 use Rattle.its_frame.specs.declared.name.CallName.{CallName}
 use Rattle.its_frame.specs.declared.name.CallName.TheVariants as calls
 use Rattle.its_frame.specs.declared.variable.Variable.{Variable}
-use Rattle.its_plain.specs.Arguments.{input, has_input, place_of_input}
-use Rattle.its_plain.specs.CallBasic.{ioc, Oneself, party_on, is_oneself, channel_at, by_oneself, set_own, own_variable, set_other, value_of_other, by_superior, other_variable, usrvar_of, usrvar, dismissed_by, dismiss_at, dismiss, told_superior, longest_period, is_negative, negated, alarm_of, sleep_tests, sleep, realt}
-use Rattle.its_plain.specs.CallCore.{page_changed, highest_operation, page_tests, pages_of, corblk_of, corblk}
-use Rattle.its_plain.specs.CallDevice.{open_by, open_call, close_on, close_call, iot_on, iot_call, siot_on, siot_call}
-use Rattle.its_plain.specs.CallFile.{disk_device, most_files, is_full, channels_in, has_file, is_read, words_of, names_from, is_output, opens_as, disk_tests, opens_disk, closes_draft, iot_read, siot_read, siot_write, access_to, access_on, access, end_of_core, fillen_on, fillen, file_tests, delete, rename}
-use Rattle.its_plain.specs.CallLink.{link_device, words_in, is_dry, is_ended, is_crowded, is_unread, can_open, link_named, joins, makes_link, opens_end, link_tests, opens_link, first_word, iot_receive, siot_receive, siot_send}
-use Rattle.its_plain.specs.CallTty.{view_console, has_console, can_take, is_holder, lands, ttylnd_of, ttylnd, input_waits, output_waits, output_left, first_typed, shown_byte, opens_on, open_tests, opens, siot_in, siot_out, finish_on, finish, listens, listen_on, listen}
-use Rattle.its_plain.specs.CallUsr.{usr_device, any_named, inferior_named, makes_job, opens_job, usr_tests, opens_usr, other_core, at_end, iot_peeks, iot_through, siot_peeks, siot_pokes, set_word, usrmem_tests, usrmem_on, usrmem, uclose_on, uclose}
-use Rattle.its_plain.specs.Decide.{call_named, decided_by, decided}
-use Rattle.its_plain.specs.Interrupt.{after_dismissal}
+use Rattle.its_plain.specs.Call.Arguments.{input, has_input, place_of_input}
+use Rattle.its_plain.specs.Call.Basic.{ioc, Oneself, party_on, is_oneself, channel_at, by_oneself, set_own, own_variable, set_other, value_of_other, by_superior, other_variable, usrvar_of, usrvar, dismissed_by, dismiss_at, dismiss, told_superior, longest_period, is_negative, negated, alarm_of, sleep_tests, sleep, realt}
+use Rattle.its_plain.specs.Call.Core.{page_changed, highest_operation, page_tests, pages_of, corblk_of, corblk}
+use Rattle.its_plain.specs.Call.Device.{open_by, open_call, close_on, close_call, iot_on, iot_call, siot_on, siot_call}
+use Rattle.its_plain.specs.Call.File.{disk_device, most_files, is_full, channels_in, has_file, is_read, words_of, names_from, is_output, opens_as, disk_tests, opens_disk, closes_draft, iot_read, siot_read, siot_write, access_to, access_on, access, end_of_core, fillen_on, fillen, file_tests, delete, rename}
+use Rattle.its_plain.specs.Call.Link.{link_device, words_in, is_dry, is_ended, is_crowded, is_unread, can_open, link_named, joins, makes_link, opens_end, link_tests, opens_link, first_word, iot_receive, siot_receive, siot_send}
+use Rattle.its_plain.specs.Call.Tty.{view_console, has_console, can_take, is_holder, lands, ttylnd_of, ttylnd, input_waits, output_waits, output_left, first_typed, shown_byte, opens_on, open_tests, opens, siot_in, siot_out, finish_on, finish, listens, listen_on, listen}
+use Rattle.its_plain.specs.Call.Usr.{usr_device, any_named, inferior_named, makes_job, opens_job, usr_tests, opens_usr, other_core, at_end, iot_peeks, iot_through, siot_peeks, siot_pokes, set_word, usrmem_tests, usrmem_on, usrmem, uclose_on, uclose}
+use Rattle.its_plain.specs.Call.Decide.{call_named, decided_by, decided}
+use Rattle.its_plain.specs.Unit.Interrupt.{after_dismissal}
 use Rattle.its_plain.specs.Machine.{File, Chan, Shut, TtyIn, TtyOut, Reads, Writes, On, Linked}
-use Rattle.its_plain.specs.Own.{names_of}
-use Rattle.its_plain.specs.Tests.{◌⇒◌, finishes, fails, goes, out}
-use Rattle.its_plain.specs.Transfer.{store_tests, read_tests, word_of, iot_ends, next_pointer, siot_tests, siot_by}
-use Rattle.its_plain.specs.View.{View}
-use Rattle.its_stepped.proofs.CallWays.{page_by}
-use Rattle.its_stepped.proofs.ChannelLaws.{free_channel}
-use Rattle.its_stepped.proofs.TestLaws.{by_test, first_holds}
+use Rattle.its_plain.specs.Machine.Own.{names_of}
+use Rattle.its_plain.specs.Call.Tests.{◌⇒◌, finishes, fails, goes, out}
+use Rattle.its_plain.specs.Call.Transfer.{store_tests, read_tests, word_of, iot_ends, next_pointer, siot_tests, siot_by}
+use Rattle.its_plain.specs.Machine.View.{View}
+use Rattle.its_stepped.proofs.Duties.CallWays.{page_by}
+use Rattle.its_stepped.proofs.Committing.ChannelLaws.{free_channel}
+use Rattle.its_stepped.proofs.Committing.TestLaws.{by_test, first_holds}
 
 -- a change that a call other than OPEN can make
 abbrev pub CanMake : Option CallName → Change → Type 0
 CanMake (Some calls.Close) (changes.Shut n) = Unit {0}
 CanMake (Some calls.Close) (changes.Close n) = Unit {0}
-CanMake (Some calls.Close) (changes.Part n l write) = Unit {0}
+CanMake (Some calls.Close) (changes.CloseEnd n l write) = Unit {0}
 CanMake (Some calls.Iot) (changes.Move n at) = Unit {0}
 CanMake (Some calls.Iot) (changes.Append n w) = Unit {0}
 CanMake (Some calls.Iot) (changes.Take c) = Unit {0}
@@ -134,7 +134,8 @@ module _ (x : View) (a : Ask) where
   own_variable_makes : (o : Option Variable) → Makes x (Some calls.Usrvar) (own_variable x a o)
   own_variable_makes None = tt
   own_variable_makes (Some y) =
-      by_test (Makes x (Some calls.Usrvar)) (has_input a 2 && not (by_oneself y)) (fails x a 0o22) (set_own x a y (has_input a 2)) (λ e. tt) (λ e. set_makes y (has_input a 2))
+      by_test (Makes x (Some calls.Usrvar)) (has_input a 2 && not (by_oneself y)) (fails x a 0o22) (set_own x a y (has_input a 2)) (λ e. tt)
+      (λ e. set_makes y (has_input a 2))
 
   set_other_makes : (s : ℕ) (y : Variable) (w : ℕ) (b : Bool) → AllMade x (Some calls.Usrvar) (set_other s y w b)
   set_other_makes s y w true = (tt, tt)
@@ -166,7 +167,8 @@ module _ (x : View) (a : Ask) where
   unfolding realt
   realt_makes =
       let n = input a 0 in
-      first_holds (Makes x (Some calls.Realt)) ((is_negative n || nat_lt longest_period n) ⇒ fails x a 0o22 ∷ []) (finishes x (changes.Arm (alarm_of x.clock n) ∷ []) [])
+      first_holds (Makes x (Some calls.Realt)) ((is_negative n || nat_lt longest_period n) ⇒ fails x a 0o22 ∷ [])
+      (finishes x (changes.Arm (alarm_of x.clock n) ∷ []) [])
       (λ t. tt, tt) (λ t. (tt, tt))
 
   -- OPEN
@@ -174,14 +176,16 @@ module _ (x : View) (a : Ask) where
   unfolding opens
   tty_opens =
       let control = unwrap_or a.control 0 in
-      first_holds (Makes x (Some calls.Open)) (open_tests x a (input a 0) (input a 1) control) (finishes x (changes.Open (input a 0) (opens_on control) ∷ []) [])
+      first_holds (Makes x (Some calls.Open)) (open_tests x a (input a 0) (input a 1) control)
+      (finishes x (changes.Open (input a 0) (opens_on control) ∷ []) [])
       (λ e. tt, (λ e. tt, (λ e. tt, (λ e. tt, tt)))) (λ e. free_channel x.own.channels (input a 0) e.0)
 
   disk_opens : Makes x (Some calls.Open) (opens_disk x a)
   unfolding opens_disk
   disk_opens =
       let control = unwrap_or a.control 0 in
-      first_holds (Makes x (Some calls.Open)) (disk_tests x a (input a 0) control) (finishes x (changes.Open (input a 0) (opens_as (is_output control) (input a 4) (input a 2) (input a 3)) ∷ []) [])
+      first_holds (Makes x (Some calls.Open)) (disk_tests x a (input a 0) control)
+      (finishes x (changes.Open (input a 0) (opens_as (is_output control) (input a 4) (input a 2) (input a 3)) ∷ []) [])
       (λ e. tt, (λ e. tt, (λ e. tt, tt))) (λ e. free_channel x.own.channels (input a 0) e.0)
 
   job_makes : (n u y : ℕ) (o : Option ℕ) → x.own.channels n ≡ Shut → least_free x.limit x.outlines ≡ o → Makes x (Some calls.Open) (makes_job x a n u y o)
@@ -191,7 +195,8 @@ module _ (x : View) (a : Ask) where
   job_opens : (n u y : ℕ) (write : Bool) (o : Option ℕ) → x.own.channels n ≡ Shut → Makes x (Some calls.Open) (opens_job x a n u y write o)
   job_opens n u y write (Some s) shut = shut
   job_opens n u y write None shut =
-      first_holds (Makes x (Some calls.Open)) (any_named x u y ⇒ fails x a 0o13 ∷ not write ⇒ fails x a 0o12 ∷ []) (makes_job x a n u y (least_free x.limit x.outlines))
+      first_holds (Makes x (Some calls.Open)) (any_named x u y ⇒ fails x a 0o13 ∷ not write ⇒ fails x a 0o12 ∷ [])
+      (makes_job x a n u y (least_free x.limit x.outlines))
       (λ e. tt, (λ e. tt, tt)) (λ e. job_makes n u y (least_free x.limit x.outlines) shut refl)
 
   usr_opens : Makes x (Some calls.Open) (opens_usr x a)
@@ -199,7 +204,8 @@ module _ (x : View) (a : Ask) where
   usr_opens =
       let control = unwrap_or a.control 0 in
       let named = inferior_named x (input a 2) (input a 3) in
-      first_holds (Makes x (Some calls.Open)) (usr_tests x a (input a 0) control) (opens_job x a (input a 0) (input a 2) (input a 3) (control == 1) named) (λ e. tt, (λ e. tt, tt))
+      first_holds (Makes x (Some calls.Open)) (usr_tests x a (input a 0) control)
+      (opens_job x a (input a 0) (input a 2) (input a 3) (control == 1) named) (λ e. tt, (λ e. tt, tt))
       (λ e. job_opens (input a 0) (input a 2) (input a 3) (control == 1) named (free_channel x.own.channels (input a 0) e.0))
 
   new_opens : (n : ℕ) (write : Bool) (u y : ℕ) (o : Option ℕ) → x.own.channels n ≡ Shut → Makes x (Some calls.Open) (makes_link x a n write u y o)
@@ -218,7 +224,8 @@ module _ (x : View) (a : Ask) where
       first_holds (Makes x (Some calls.Open)) (link_tests x a (input a 0) control)
       (opens_end x a (input a 0) (control == 1) (input a 2) (input a 3) (link_named x.links (input a 2) (input a 3)))
       (λ e. tt, (λ e. tt, tt))
-      (λ e. end_opens (input a 0) (control == 1) (input a 2) (input a 3) (link_named x.links (input a 2) (input a 3)) (free_channel x.own.channels (input a 0) e.0))
+      (λ e. end_opens (input a 0) (control == 1) (input a 2) (input a 3) (link_named x.links (input a 2) (input a 3))
+      (free_channel x.own.channels (input a 0) e.0))
 
   open_makes : Makes x (Some calls.Open) (open_call x a)
   unfolding open_call
@@ -234,7 +241,8 @@ module _ (x : View) (a : Ask) where
   draft_closes : (f : File) → Makes x (Some calls.Close) (closes_draft x a f)
   unfolding closes_draft
   draft_closes f =
-      first_holds (Makes x (Some calls.Close)) (is_read f.names (channels_in x) ⇒ fails x a 0o11 ∷ (not (has_file f.names x.files) && not (nat_lt (length x.files) most_files)) ⇒ fails x a 0o7 ∷ [])
+      first_holds (Makes x (Some calls.Close)) (is_read f.names (channels_in x) ⇒ fails x a 0o11
+      ∷ (not (has_file f.names x.files) && not (nat_lt (length x.files) most_files)) ⇒ fails x a 0o7 ∷ [])
       (finishes x (changes.Close (input a 0) ∷ []) []) (λ t. tt, (λ t. tt, tt)) (λ t. (tt, tt))
 
   close_makes : Makes x (Some calls.Close) (close_call x a)
@@ -288,19 +296,24 @@ module _ (x : View) (a : Ask) where
       go : (c : Chan) → Makes x (Some calls.Iot) (iot_on x e n c)
       go Shut = tt
       go TtyIn =
-          first_holds (Makes x (Some calls.Iot)) (store_tests x e ++ (input_waits x i ⇒ Waits (Input i) ∷ [])) (iot_ends x (changes.Take i ∷ []) (record { at = e; word = first_typed x i } ∷ []))
+          first_holds (Makes x (Some calls.Iot)) (store_tests x e ++ (input_waits x i ⇒ Waits (Input i) ∷ []))
+          (iot_ends x (changes.Take i ∷ []) (record { at = e; word = first_typed x i } ∷ []))
           (λ t. tt, (λ t. tt, (λ t. tt, tt))) (λ t. (tt, tt))
       go TtyOut =
-          first_holds (Makes x (Some calls.Iot)) (read_tests x e ++ (output_waits x i ⇒ Waits (Output i) ∷ [])) (iot_ends x (changes.Put i (shown_byte (word_of x e)) ∷ []) [])
+          first_holds (Makes x (Some calls.Iot)) (read_tests x e ++ (output_waits x i ⇒ Waits (Output i) ∷ []))
+          (iot_ends x (changes.Put i (shown_byte (word_of x e)) ∷ []) [])
           (λ t. tt, (λ t. tt, tt)) (λ t. (tt, tt))
       go (Reads f at) =
-          first_holds (Makes x (Some calls.Iot)) (store_tests x e) (iot_read x e n at (slice_get (words_of x f) at)) (λ t. tt, (λ t. tt, tt)) (λ t. read_moves e n at (slice_get (words_of x f) at))
+          first_holds (Makes x (Some calls.Iot)) (store_tests x e) (iot_read x e n at (slice_get (words_of x f) at))
+          (λ t. tt, (λ t. tt, tt)) (λ t. read_moves e n at (slice_get (words_of x f) at))
       go (Writes f) =
-          first_holds (Makes x (Some calls.Iot)) (read_tests x e ++ (is_full x.files (channels_in x) f.words ⇒ ioc x ∷ [])) (iot_ends x (changes.Append n (word_of x e) ∷ []) [])
+          first_holds (Makes x (Some calls.Iot)) (read_tests x e ++ (is_full x.files (channels_in x) f.words ⇒ ioc x ∷ []))
+          (iot_ends x (changes.Append n (word_of x e) ∷ []) [])
           (λ t. tt, (λ t. tt, tt)) (λ t. (tt, tt))
       go (On s write at) = through_moves e n s write at
       go (Linked l true) =
-          first_holds (Makes x (Some calls.Iot)) (read_tests x e ++ (is_unread (x.links l) ⇒ ioc x ∷ is_crowded (x.links l) ⇒ Waits (Room l) ∷ [])) (iot_ends x (changes.Send l (word_of x e) ∷ []) [])
+          first_holds (Makes x (Some calls.Iot)) (read_tests x e
+          ++ (is_unread (x.links l) ⇒ ioc x ∷ is_crowded (x.links l) ⇒ Waits (Room l) ∷ [])) (iot_ends x (changes.Send l (word_of x e) ∷ []) [])
           (λ t. tt, (λ t. tt, (λ t. tt, tt))) (λ t. (tt, tt))
       go (Linked l false) =
           first_holds (Makes x (Some calls.Iot)) (store_tests x e ++ (is_dry (x.links l) ⇒ Waits (Empty l) ∷ [])) (iot_receive x e l (words_in (x.links l)))
@@ -330,7 +343,8 @@ module _ (x : View) (a : Ask) where
 
       peeks : (at : ℕ) (o : Option ℕ) → Makes x (Some calls.Siot) (siot_peeks x a next k n at o)
       peeks at (Some w) =
-          first_holds (Makes x (Some calls.Siot)) (store_tests x (right_of next)) (goes (changes.Move n (at + 1) ∷ []) (Some (record { place = right_of next; byte = w })) (next ∷ (k - 1) ∷ []))
+          first_holds (Makes x (Some calls.Siot)) (store_tests x (right_of next))
+          (goes (changes.Move n (at + 1) ∷ []) (Some (record { place = right_of next; byte = w })) (next ∷ (k - 1) ∷ []))
           (λ t. tt, (λ t. tt, tt)) (λ t. (tt, tt))
       peeks at None = first_holds (Makes x (Some calls.Siot)) (store_tests x (right_of next)) (fails x a 0o16) (λ t. tt, (λ t. tt, tt)) (λ t. tt)
 
@@ -349,7 +363,8 @@ module _ (x : View) (a : Ask) where
       go (Reads f at) =
           let w = unwrap_or (slice_get (words_of x f) at) 0 in
           by_siot true (not (is_some (slice_get (words_of x f) at))) (siot_read x next k n at w)
-          (first_holds (Makes x (Some calls.Siot)) (store_tests x (right_of next)) (goes (changes.Move n (at + 1) ∷ []) (Some (record { place = right_of next; byte = w })) (next ∷ (k - 1) ∷ []))
+          (first_holds (Makes x (Some calls.Siot)) (store_tests x (right_of next))
+          (goes (changes.Move n (at + 1) ∷ []) (Some (record { place = right_of next; byte = w })) (next ∷ (k - 1) ∷ []))
           (λ t. tt, (λ t. tt, tt)) (λ t. (tt, tt)))
       go (Writes f) =
           by_siot true false (siot_write x a next k n f)
@@ -364,7 +379,8 @@ module _ (x : View) (a : Ask) where
       go (On s false at) = by_siot true (at_end at) (siot_peeks x a next k n at (word_at (other_core x) at)) (peeks at (word_at (other_core x) at))
       go (Linked l true) =
           by_siot false false (siot_send x a next k l)
-          (first_holds (Makes x (Some calls.Siot)) (read_tests x (right_of next) ++ (is_unread (x.links l) ⇒ fails x a 0o26 ∷ is_crowded (x.links l) ⇒ Waits (Room l) ∷ []))
+          (first_holds (Makes x (Some calls.Siot)) (read_tests x (right_of next)
+          ++ (is_unread (x.links l) ⇒ fails x a 0o26 ∷ is_crowded (x.links l) ⇒ Waits (Room l) ∷ []))
           (goes (changes.Send l (load_of next (word_of x (right_of next))) ∷ []) None (next ∷ (k - 1) ∷ []))
           (λ t. tt, (λ t. tt, (λ t. tt, tt))) (λ t. (tt, tt)))
       go (Linked l false) =
@@ -380,7 +396,8 @@ module _ (x : View) (a : Ask) where
     where
       go : (c : Chan) → Makes x (Some calls.Finish) (finish_on x a c)
       go TtyOut =
-          first_holds (Makes x (Some calls.Finish)) (output_left x (view_console x) ⇒ Waits (Drained (view_console x)) ∷ []) (finishes x [] []) (λ t. tt, tt) (λ t. tt)
+          first_holds (Makes x (Some calls.Finish)) (output_left x (view_console x) ⇒ Waits (Drained (view_console x)) ∷ [])
+          (finishes x [] []) (λ t. tt, tt) (λ t. tt)
       go Shut = tt
       go _ = tt
 
@@ -401,7 +418,8 @@ module _ (x : View) (a : Ask) where
 
   lands_makes : (may : Bool) (number s : ℕ) → Makes x (Some calls.Ttylnd) (lands x a may number s)
   lands_makes may number s =
-      first_holds (Makes x (Some calls.Ttylnd)) (not (has_console x) ⇒ fails x a 0o5 ∷ not may ⇒ fails x a number ∷ []) (finishes x (changes.Hold (view_console x) s ∷ []) [])
+      first_holds (Makes x (Some calls.Ttylnd)) (not (has_console x) ⇒ fails x a 0o5 ∷ not may ⇒ fails x a number ∷ [])
+      (finishes x (changes.Hold (view_console x) s ∷ []) [])
       (λ e. tt, (λ e. tt, tt)) (λ e. (tt, tt))
 
   ttylnd_makes : Makes x (Some calls.Ttylnd) (ttylnd x a)
@@ -420,7 +438,8 @@ module _ (x : View) (a : Ask) where
   -- ACCESS, FILLEN, DELETE and RENAME
   access_to_makes : (most : ℕ) → Makes x (Some calls.Access) (access_to x a most)
   access_to_makes most =
-      first_holds (Makes x (Some calls.Access)) (nat_lt most (input a 1) ⇒ fails x a 0o22 ∷ []) (finishes x (changes.Move (input a 0) (input a 1) ∷ []) []) (λ t. tt, tt) (λ t. (tt, tt))
+      first_holds (Makes x (Some calls.Access)) (nat_lt most (input a 1) ⇒ fails x a 0o22 ∷ [])
+      (finishes x (changes.Move (input a 0) (input a 1) ∷ []) []) (λ t. tt, tt) (λ t. (tt, tt))
 
   access_makes : Makes x (Some calls.Access) (access x a)
   unfolding access
@@ -451,8 +470,10 @@ module _ (x : View) (a : Ask) where
   rename_makes : Makes x (Some calls.Rename) (rename x a)
   unfolding rename
   rename_makes =
-      first_holds (Makes x (Some calls.Rename)) (file_tests x a (names_from a 1) ++ (has_file (names_of (input a 3) (input a 4) (input a 5)) x.files ⇒ fails x a 0o23 ∷ []))
-      (finishes x (changes.Rename (input a 3) (input a 1) (input a 2) (input a 4) (input a 5) ∷ []) []) (λ t. tt, (λ t. tt, (λ t. tt, (λ t. tt, tt)))) (λ t. (tt, tt))
+      first_holds (Makes x (Some calls.Rename)) (file_tests x a (names_from a 1)
+      ++ (has_file (names_of (input a 3) (input a 4) (input a 5)) x.files ⇒ fails x a 0o23 ∷ []))
+      (finishes x (changes.Rename (input a 3) (input a 1) (input a 2) (input a 4) (input a 5) ∷ []) [])
+      (λ t. tt, (λ t. tt, (λ t. tt, (λ t. tt, tt)))) (λ t. (tt, tt))
 
   -- USRMEM, UCLOSE and CORBLK
   set_word_makes : (s p w : ℕ) (new : Bool) → AllMade x (Some calls.Usrmem) (set_word s p w new)

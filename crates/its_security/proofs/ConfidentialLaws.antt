@@ -6,16 +6,16 @@ use Rattle.its_records.specs.Item.{Item}
 use Rattle.its_records.specs.declared.calls.Pace.{Pace}
 use Rattle.its_records.specs.declared.calls.Pace.TheVariants.{Step, Work, Wait, Off}
 use Rattle.its_print.specs.Printing.{Line}
-use Rattle.its_plain.specs.CallStep.{Transition, transition, transition_of, unless_stopped, step, moves_in, moves}
-use Rattle.its_plain.specs.Course.{Deed, Lines, Turns, Letter, Moment, run_of}
-use Rattle.its_plain.specs.Licence.{IsRunning, IsOff, Licensed}
+use Rattle.its_plain.specs.Call.Step.{Transition, transition, transition_of, unless_stopped, step, moves_in, moves}
+use Rattle.its_plain.specs.Transcript.Course.{Deed, Lines, Turns, Letter, Moment, run_of}
+use Rattle.its_plain.specs.Transcript.Licence.{IsRunning, IsOff, Licensed}
 use Rattle.its_plain.specs.Machine.{Whole, Machine}
-use Rattle.its_plain.specs.Stretch.{machine_at, Section, begin_of, end_of}
+use Rattle.its_plain.specs.Promise.Stretch.{machine_at, Section, begin_of, end_of}
 use Rattle.its_plain.specs.Transcript.{at_start}
-use Rattle.its_plain.specs.Turns.{highest}
+use Rattle.its_plain.specs.Transcript.Turns.{highest}
 use Rattle.its_stepped.specs.Forest.{Forest}
-use Rattle.its_stepped.proofs.CourseLaws.{Linked, EachMoment, run_course, linked_middle}
-use Rattle.its_stepped.proofs.ForestLaws.{forest_starts}
+use Rattle.its_stepped.proofs.Running.CourseLaws.{Linked, EachMoment, run_course, linked_middle}
+use Rattle.its_stepped.proofs.Keeping.ForestLaws.{forest_starts}
 use Rattle.its_security.specs.Alike.{Alike, SameTables, AlikeBy}
 use Rattle.its_security.specs.Confidential.{Occurs, Confidential}
 use Rattle.its_security.specs.OperatorParts.{touched}
@@ -81,7 +81,8 @@ module _ (j : ℕ) (m mn n nn : Machine) (d : Forest m) (h : Alike j m n) (look 
   both : AlikeBy j (transition m j) (transition n j)
   both = step_alike m n j d h look
 
-  stepped : (t : Transition) (o : Option Transition) → AlikeBy j (Some t) o → option_map (λ (u : Transition). u.machine) o ≡ Some nn → t.machine ≡ mn → transition m j ≡ Some t → transition n j ≡ o
+  stepped : (t : Transition) (o : Option Transition) → AlikeBy j (Some t) o → option_map (λ (u : Transition). u.machine) o ≡ Some nn
+      → t.machine ≡ mn → transition m j ≡ Some t → transition n j ≡ o
       → TickSame j Step m mn Step n nn
   unfolding moves
   stepped t (Some u) by e at is also = record {
@@ -163,7 +164,8 @@ skipped j t ts e = ap (λ (o : Option Pace). shown_then o t.machine j (shown_of 
 shown_first : (j : ℕ) (t : Moment) (ts : List Moment) (p : Pace) → tick_at j t.deed ≡ Some p → shown_of j (t ∷ ts) ≡ shown_at p t.machine j ∷ shown_of j ts
 shown_first j t ts p e = ap (λ (o : Option Pace). shown_then o t.machine j (shown_of j ts)) e
 
-beside : {j : ℕ} {ts us : List Moment} {m n : Machine} → SideBySide j ts m us n → Linked Stands ts m → Alike j (machine_at ts m) (machine_at us n) → ShowSame j ts m us n
+beside : {j : ℕ} {ts us : List Moment} {m n : Machine} → SideBySide j ts m us n → Linked Stands ts m
+    → Alike j (machine_at ts m) (machine_at us n) → ShowSame j ts m us n
 beside at_end l h = record { alike = h; shown = refl }
 beside {j = j} {m = m} {n = n} (first_alone {t = t} {ts = ts} {us = us} none e more) l h =
     let rest = beside more l.1 (alike_then j (machine_at ts m) t.machine (machine_at us n) (alike_back j t.machine (machine_at ts m) e) h) in
@@ -175,7 +177,8 @@ beside {j = j} (in_both {t = t} {u = u} {ts = ts} {us = us} none also e more) l 
     let rest = beside more l.1 (e h) in
     record { alike = rest.alike; shown = skipped j u us also ∙ rest.shown ∙ sym (skipped j t ts none) }
 beside {j = j} {m = m} {n = n} (tick_in_both {t = t} {u = u} {ts = ts} {us = us} p r is also may can look more) l h =
-    let one = tick_same j t.machine (machine_at ts m) u.machine (machine_at us n) l.0 h look p r (plain_tick j t.deed p is) (plain_tick j u.deed r also) may can in
+    let one = tick_same j t.machine (machine_at ts m) u.machine (machine_at us n) l.0 h look p r (plain_tick j t.deed p is)
+    (plain_tick j u.deed r also) may can in
     let rest = beside more l.1 one.alike in
     record {
       alike = rest.alike;

@@ -1,4 +1,5 @@
--- On two machines that look alike to a job, and of which the table is the same at which its call looks, the call decides the same.
+-- On two machines that look alike to a job, and of which the table is the same at which its call
+-- looks, the call decides the same.
 use Rattle.std.specs.Prelude.{if◌then◌else◌, ◌==◌, ◌||◌, ◌&&◌, ◌≡◌, ◌++◌, ◌-◌, ℕ, Bool, true, false, not, Option, Some, None, List, [], ◌∷◌, is_some, length, nat_lt, option_map, slice_get, slice_index_or, unwrap_or, refl}
 use Rattle.std.proofs.Common.{sym, ◌∙◌, ap, subst}
 use Rattle.its_word.specs.Byte.{load_of}
@@ -13,25 +14,25 @@ use Rattle.its_frame.specs.declared.change.Opened.TheVariants as opened
 use Rattle.its_frame.specs.declared.decision.Decision.{Decision}
 use Rattle.its_frame.specs.declared.name.CallName.{CallName}
 use Rattle.its_frame.specs.declared.name.CallName.TheVariants as calls
-use Rattle.its_plain.specs.Arguments.{input}
-use Rattle.its_plain.specs.CallBasic.{Party, Oneself, Nobody, Channel, party, channel_at, is_oneself, is_shut, is_superior, ioc, sleep, dismiss, usrvar, realt}
-use Rattle.its_plain.specs.CallCore.{page_changed, highest_operation, highest_page, makes, is_amiss, has_page, corblk_of, corblk}
-use Rattle.its_plain.specs.CallDevice.{open_by, open_call, close_on, close_call, iot_on, iot_call, siot_on, siot_call}
-use Rattle.its_plain.specs.CallFile.{disk_device, most_files, is_full, channels_by, channels_in, file_named, has_file, is_read, words_by, names_from, is_output, opens_as, opens_disk, closes_draft, iot_read, siot_reads, access_to, access_on, access, fillen_on, fillen, delete, rename}
-use Rattle.its_plain.specs.CallLink.{link_device, link_named, can_open, joins, makes_link, opens_end, link_tests, opens_link}
-use Rattle.its_plain.specs.CallTty.{view_console, opens, is_holder, finish_on, finish, listen_on, listen, lands, ttylnd_of, ttylnd}
-use Rattle.its_plain.specs.CallUsr.{usr_device, inferior_named, any_named, makes_job, opens_job, usr_tests, opens_usr, other_core, usrmem, uclose}
-use Rattle.its_plain.specs.Change.{channel_in, console_in}
-use Rattle.its_plain.specs.Decide.{call_named, inferior_on, reached_by, target_by, argument_of, target, decided_by, decided}
+use Rattle.its_plain.specs.Call.Arguments.{input}
+use Rattle.its_plain.specs.Call.Basic.{Party, Oneself, Nobody, Channel, party, channel_at, is_oneself, is_shut, is_superior, ioc, sleep, dismiss, usrvar, realt}
+use Rattle.its_plain.specs.Call.Core.{page_changed, highest_operation, highest_page, makes, is_amiss, has_page, corblk_of, corblk}
+use Rattle.its_plain.specs.Call.Device.{open_by, open_call, close_on, close_call, iot_on, iot_call, siot_on, siot_call}
+use Rattle.its_plain.specs.Call.File.{disk_device, most_files, is_full, channels_by, channels_in, file_named, has_file, is_read, words_by, names_from, is_output, opens_as, opens_disk, closes_draft, iot_read, siot_reads, access_to, access_on, access, fillen_on, fillen, delete, rename}
+use Rattle.its_plain.specs.Call.Link.{link_device, link_named, can_open, joins, makes_link, opens_end, link_tests, opens_link}
+use Rattle.its_plain.specs.Call.Tty.{view_console, opens, is_holder, finish_on, finish, listen_on, listen, lands, ttylnd_of, ttylnd}
+use Rattle.its_plain.specs.Call.Usr.{usr_device, inferior_named, any_named, makes_job, opens_job, usr_tests, opens_usr, other_core, usrmem, uclose}
+use Rattle.its_plain.specs.Machine.Change.{channel_in, console_in}
+use Rattle.its_plain.specs.Call.Decide.{call_named, inferior_on, reached_by, target_by, argument_of, target, decided_by, decided}
 use Rattle.its_plain.specs.Machine.{Names, File, Pipe, Chan, Shut, TtyIn, TtyOut, Reads, Writes, On, Linked, Whole, Machine, mapped, no_bytes}
-use Rattle.its_plain.specs.OperatorFiles.{channels_of}
-use Rattle.its_plain.specs.Own.{names_of}
-use Rattle.its_plain.specs.Tests.{◌⇒◌, first, finishes, fails, goes, out}
-use Rattle.its_plain.specs.Transfer.{store_tests, read_tests, word_of, iot_ends, next_pointer, siot_by}
-use Rattle.its_plain.specs.View.{View, outline, job_at, view}
+use Rattle.its_plain.specs.Operator.Files.{channels_of}
+use Rattle.its_plain.specs.Machine.Own.{names_of}
+use Rattle.its_plain.specs.Call.Tests.{◌⇒◌, first, finishes, fails, goes, out}
+use Rattle.its_plain.specs.Call.Transfer.{store_tests, read_tests, word_of, iot_ends, next_pointer, siot_by}
+use Rattle.its_plain.specs.Machine.View.{View, outline, job_at, view}
 use Rattle.its_stepped.specs.Forest.{Forest}
 use Rattle.its_security.specs.Alike.{SameThrough, Alike, SameNamed, SameLinked, SameHolder, SameDraft, SameClosed, SameOpened, TablesFor}
-use Rattle.its_stepped.proofs.CallWays.{OnConsole}
+use Rattle.its_stepped.proofs.Duties.CallWays.{OnConsole}
 use Rattle.its_security.proofs.WaysAlike.{console_is, console_seen, through_own}
 
 -- a view of the own job, the one that is reached, and the clock alone
@@ -68,13 +69,15 @@ abbrev pub siot_writes_by : View → Ask → ℕ → Bool → Decision
 siot_writes_by v a n full =
     let next = next_pointer (input a 1) in
     siot_by v a true false
-    (first (read_tests v (right_of next) ++ (full ⇒ fails v a 0o10 ∷ [])) (goes (changes.Append n (load_of next (word_of v (right_of next))) ∷ []) None (next ∷ (input a 2 - 1) ∷ [])))
+    (first (read_tests v (right_of next) ++ (full ⇒ fails v a 0o10 ∷ []))
+    (goes (changes.Append n (load_of next (word_of v (right_of next))) ∷ []) None (next ∷ (input a 2 - 1) ∷ [])))
 
 abbrev pub opens_disk_by : View → Ask → Bool → Decision
 opens_disk_by v a there =
     let n = input a 0 in
     let control = unwrap_or a.control 0 in
-    first (not (nat_lt n 16 && is_shut (channel_at v.own.channels n)) ⇒ fails v a 0o4 ∷ nat_lt 1 control ⇒ fails v a 0o22 ∷ (not (is_output control) && not there) ⇒ fails v a 0o6 ∷ [])
+    first (not (nat_lt n 16 && is_shut (channel_at v.own.channels n)) ⇒ fails v a 0o4 ∷ nat_lt 1 control ⇒ fails v a 0o22
+    ∷ (not (is_output control) && not there) ⇒ fails v a 0o6 ∷ [])
     (finishes v (changes.Open n (opens_as (is_output control) (input a 4) (input a 2) (input a 3)) ∷ []) [])
 
 abbrev pub opens_job_by : View → Ask → ℕ → ℕ → ℕ → Bool → Bool → Option ℕ → Option ℕ → Decision
@@ -91,11 +94,13 @@ opens_end_by v a n write x y links free (Some l) = first (not (can_open write (l
 opens_end_by v a n write x y links free None = makes_link v a n write x y free
 
 abbrev pub closes_draft_by : View → Ask → Bool → Bool → Bool → Decision
-closes_draft_by v a locked there room = first (locked ⇒ fails v a 0o11 ∷ (not there && not room) ⇒ fails v a 0o7 ∷ []) (finishes v (changes.Close (input a 0) ∷ []) [])
+closes_draft_by v a locked there room = first (locked ⇒ fails v a 0o11 ∷ (not there && not room) ⇒ fails v a 0o7 ∷ [])
+    (finishes v (changes.Close (input a 0) ∷ []) [])
 
 abbrev pub delete_by : View → Ask → Bool → Bool → Decision
 delete_by v a there locked =
-    first (not (input a 0 == disk_device) ⇒ fails v a 0o5 ∷ not there ⇒ fails v a 0o6 ∷ locked ⇒ fails v a 0o11 ∷ []) (finishes v (changes.Delete (input a 3) (input a 1) (input a 2) ∷ []) [])
+    first (not (input a 0 == disk_device) ⇒ fails v a 0o5 ∷ not there ⇒ fails v a 0o6 ∷ locked ⇒ fails v a 0o11 ∷ [])
+    (finishes v (changes.Delete (input a 3) (input a 1) (input a 2) ∷ []) [])
 
 abbrev pub rename_by : View → Ask → Bool → Bool → Bool → Decision
 rename_by v a there locked taken =
@@ -104,7 +109,8 @@ rename_by v a there locked taken =
 
 abbrev pub pages_by : View → Ask → ℕ → ℕ → Core → ℕ → Bool → Decision
 pages_by v a op s c k room =
-    first (nat_lt highest_page k ⇒ fails v a 0o22 ∷ is_amiss (makes op) (has_page c k) ⇒ fails v a 0o16 ∷ (makes op && not room) ⇒ fails v a 0o15 ∷ []) (finishes v (page_changed op s k ∷ []) [])
+    first (nat_lt highest_page k ⇒ fails v a 0o22 ∷ is_amiss (makes op) (has_page c k) ⇒ fails v a 0o16
+    ∷ (makes op && not room) ⇒ fails v a 0o15 ∷ []) (finishes v (page_changed op s k ∷ []) [])
 
 abbrev pub corblk_by : View → Ask → Bool → Party → Decision
 corblk_by v a room Oneself = pages_by v a (input a 0) v.slot v.own.core (input a 2) room
@@ -168,7 +174,8 @@ module _ (v : View) (a : Ask) where
   unfolding opens_disk
   opens_disk_is = refl
 
-  pub opens_usr_is : opens_usr v a ≡ opens_usr_by (bare v) a (inferior_named v (input a 2) (input a 3)) (any_named v (input a 2) (input a 3)) (least_free v.limit v.outlines)
+  pub opens_usr_is : opens_usr v a ≡ opens_usr_by (bare v) a (inferior_named v (input a 2) (input a 3))
+      (any_named v (input a 2) (input a 3)) (least_free v.limit v.outlines)
   unfolding opens_usr
   opens_usr_is =
       ap (first (usr_tests v a (input a 0) (unwrap_or a.control 0)))
@@ -176,13 +183,15 @@ module _ (v : View) (a : Ask) where
 
   pub opens_link_is : opens_link v a
       ≡ first (link_tests (bare v) a (input a 0) (unwrap_or a.control 0))
-      (opens_end_by (bare v) a (input a 0) (unwrap_or a.control 0 == 1) (input a 2) (input a 3) v.links (least_free most_links v.links) (link_named v.links (input a 2) (input a 3)))
+      (opens_end_by (bare v) a (input a 0) (unwrap_or a.control 0 == 1) (input a 2) (input a 3) v.links (least_free most_links v.links)
+      (link_named v.links (input a 2) (input a 3)))
   unfolding opens_link
   opens_link_is =
       ap (first (link_tests v a (input a 0) (unwrap_or a.control 0)))
       (opens_end_is v a (input a 0) (unwrap_or a.control 0 == 1) (input a 2) (input a 3) (link_named v.links (input a 2) (input a 3)))
 
-  pub closes_draft_is : (f : File) → closes_draft v a f ≡ closes_draft_by (bare v) a (is_read f.names (channels_in v)) (has_file f.names v.files) (nat_lt (length v.files) most_files)
+  pub closes_draft_is : (f : File) → closes_draft v a f ≡ closes_draft_by (bare v) a (is_read f.names (channels_in v))
+      (has_file f.names v.files) (nat_lt (length v.files) most_files)
   unfolding closes_draft
   closes_draft_is f = refl
 
@@ -190,11 +199,13 @@ module _ (v : View) (a : Ask) where
   unfolding delete
   delete_is = refl
 
-  pub rename_is : rename v a ≡ rename_by (bare v) a (has_file (names_from a 1) v.files) (is_read (names_from a 1) (channels_in v)) (has_file (names_of (input a 3) (input a 4) (input a 5)) v.files)
+  pub rename_is : rename v a ≡ rename_by (bare v) a (has_file (names_from a 1) v.files) (is_read (names_from a 1) (channels_in v))
+      (has_file (names_of (input a 3) (input a 4) (input a 5)) v.files)
   unfolding rename
   rename_is = refl
 
-  pub corblk_all_is : corblk v a ≡ first (nat_lt highest_operation (input a 0) ⇒ fails (bare v) a 0o22 ∷ []) (corblk_by (bare v) a (nat_lt v.pages most_pages) (party v (input a 1)))
+  pub corblk_all_is : corblk v a ≡ first (nat_lt highest_operation (input a 0) ⇒ fails (bare v) a 0o22 ∷ [])
+      (corblk_by (bare v) a (nat_lt v.pages most_pages) (party v (input a 1)))
   unfolding corblk
   corblk_all_is = ap (first (nat_lt highest_operation (input a 0) ⇒ fails v a 0o22 ∷ [])) (corblk_is v a (party v (input a 1)))
 
@@ -202,11 +213,13 @@ module _ (v : View) (a : Ask) where
   unfolding ttylnd
   ttylnd_is = go (party v (input a 0)) (v.holders (view_console v)) refl
     where
-      own : (h : Option ℕ) → v.holders (view_console v) ≡ h → ttylnd_of v a Oneself ≡ ttylnd_by (bare v) a (v.holders (view_console v)) (holder_inferior v (v.holders (view_console v))) Oneself
+      own : (h : Option ℕ) → v.holders (view_console v) ≡ h → ttylnd_of v a Oneself ≡ ttylnd_by (bare v) a (v.holders (view_console v))
+          (holder_inferior v (v.holders (view_console v))) Oneself
       own (Some h) e = rw e refl
       own None e = rw e refl
 
-      go : (p : Party) (h : Option ℕ) → v.holders (view_console v) ≡ h → ttylnd_of v a p ≡ ttylnd_by (bare v) a (v.holders (view_console v)) (holder_inferior v (v.holders (view_console v))) p
+      go : (p : Party) (h : Option ℕ) → v.holders (view_console v) ≡ h
+          → ttylnd_of v a p ≡ ttylnd_by (bare v) a (v.holders (view_console v)) (holder_inferior v (v.holders (view_console v))) p
       go Oneself h e = own h e
       go Nobody h e = refl
       go (Channel (On s write at)) h e = refl
@@ -232,11 +245,13 @@ channel_seen m n channels i h = go (nat_lt i 16)
 pub reached_seen : (m n : Machine) (q : Whole) (w : ℕ) → ((k : ℕ) → SameThrough m n (q.channels k)) → job_at n (reached_by q w) ≡ job_at m (reached_by q w)
 reached_seen m n q w h = go (is_oneself w)
   where
-    go : (b : Bool) → job_at n (if b then None else inferior_on (channel_at q.channels w)) ≡ job_at m (if b then None else inferior_on (channel_at q.channels w))
+    go : (b : Bool) → job_at n (if b then None else inferior_on (channel_at q.channels w)) ≡ job_at m
+        (if b then None else inferior_on (channel_at q.channels w))
     go true = refl
     go false = inferior_seen m n (channel_at q.channels w) (channel_seen m n q.channels w h)
 
-pub target_seen_by : (m n : Machine) (q : Whole) (a : Ask) (o : Option ℕ) → ((k : ℕ) → SameThrough m n (q.channels k)) → job_at n (target_by q a o) ≡ job_at m (target_by q a o)
+pub target_seen_by : (m n : Machine) (q : Whole) (a : Ask) (o : Option ℕ) → ((k : ℕ) → SameThrough m n (q.channels k))
+    → job_at n (target_by q a o) ≡ job_at m (target_by q a o)
 target_seen_by m n q a (Some k) h = reached_seen m n q (input a k) h
 target_seen_by m n q a None h = refl
 
@@ -254,7 +269,8 @@ target_seen m n q a h = go (a.fail == 0)
 pub own_channels : (m n : Machine) (j : ℕ) (q : Whole) → m.jobs j ≡ Some q → Alike j m n → (k : ℕ) → SameThrough m n (q.channels k)
 own_channels m n j q is h k = through_own m n j q k (q.channels k) is h refl
 
-module _ (m n : Machine) (j : ℕ) (q : Whole) (t : Option ℕ) (a : Ask) (d : Forest m) (is : m.jobs j ≡ Some q) (h : Alike j m n) (other : job_at n t ≡ job_at m t) where
+module _ (m n : Machine) (j : ℕ) (q : Whole) (t : Option ℕ) (a : Ask) (d : Forest m) (is : m.jobs j ≡ Some q) (h : Alike j m n)
+    (other : job_at n t ≡ job_at m t) where
   abbrev x : View
   x = view m j q t
 
@@ -263,15 +279,51 @@ module _ (m n : Machine) (j : ℕ) (q : Whole) (t : Option ℕ) (a : Ask) (d : F
 
   bares : bare y ≡ bare x
   unfolding view
-  bares = λ i. record { slot = j; own = q; other = other i; outlines = λ k. None; pages = 0; consoles = λ c. no_bytes; holders = λ c. None; files = []; clock = h.clock i; limit = 0; links = λ k. None }
+  bares = λ i. record {
+    slot = j;
+    own = q;
+    other = other i;
+    outlines = λ k. None;
+    pages = 0;
+    consoles = λ c. no_bytes;
+    holders = λ c. None;
+    files = [];
+    clock = h.clock i;
+    limit = 0;
+    links = λ k. None;
+  }
 
   ttys : (c : ℕ) → (n.consoles c ≡ m.consoles c) × (n.holders c ≡ m.holders c) → at_tty y c ≡ at_tty x c
   unfolding view
-  ttys c e = λ i. record { slot = j; own = q; other = other i; outlines = λ k. None; pages = 0; consoles = λ k. e.0 i; holders = λ k. e.1 i; files = []; clock = h.clock i; limit = 0; links = λ k. None }
+  ttys c e = λ i. record {
+    slot = j;
+    own = q;
+    other = other i;
+    outlines = λ k. None;
+    pages = 0;
+    consoles = λ k. e.0 i;
+    holders = λ k. e.1 i;
+    files = [];
+    clock = h.clock i;
+    limit = 0;
+    links = λ k. None;
+  }
 
   end_views : (l : ℕ) → n.links l ≡ m.links l → at_end y l ≡ at_end x l
   unfolding view
-  end_views l e = λ i. record { slot = j; own = q; other = other i; outlines = λ k. None; pages = 0; consoles = λ c. no_bytes; holders = λ c. None; files = []; clock = h.clock i; limit = 0; links = λ k. e i }
+  end_views l e = λ i. record {
+    slot = j;
+    own = q;
+    other = other i;
+    outlines = λ k. None;
+    pages = 0;
+    consoles = λ c. no_bytes;
+    holders = λ c. None;
+    files = [];
+    clock = h.clock i;
+    limit = 0;
+    links = λ k. e i;
+  }
 
   by_bare : (f : View → Decision) → ((v : View) → f v ≡ f (bare v)) → f y ≡ f x
   by_bare f e = e y ∙ ap f bares ∙ sym (e x)
@@ -280,7 +332,8 @@ module _ (m n : Machine) (j : ℕ) (q : Whole) (t : Option ℕ) (a : Ask) (d : F
   unfolding view
   tty_seen i c on is_tty = ttys (unwrap_or q.job.console 0) (console_seen m n j q i d is h (subst OnConsole (sym on) is_tty))
 
-  by_tty : (f : View → Decision) (i : ℕ) (c : Chan) → channel_at q.channels i ≡ c → OnConsole c → ((v : View) → f v ≡ f (at_tty v (view_console v))) → f y ≡ f x
+  by_tty : (f : View → Decision) (i : ℕ) (c : Chan) → channel_at q.channels i ≡ c → OnConsole c
+      → ((v : View) → f v ≡ f (at_tty v (view_console v))) → f y ≡ f x
   by_tty f i c on is_tty e = e y ∙ ap f (tty_seen i c on is_tty) ∙ sym (e x)
 
   seen_at : (i : ℕ) (c : Chan) → channel_at q.channels i ≡ c → SameThrough m n c
@@ -289,7 +342,8 @@ module _ (m n : Machine) (j : ℕ) (q : Whole) (t : Option ℕ) (a : Ask) (d : F
   by_end : (f : View → Decision) (i l : ℕ) (write : Bool) → channel_at q.channels i ≡ Linked l write → ((v : View) → f v ≡ f (at_end v l)) → f y ≡ f x
   by_end f i l write on e = e y ∙ ap f (end_views l (seen_at i (Linked l write) on)) ∙ sym (e x)
 
-  full_same : (words : List ℕ) → is_full n.files (channels_of n) words ≡ is_full m.files (channels_of m) words → is_full y.files (channels_in y) words ≡ is_full x.files (channels_in x) words
+  full_same : (words : List ℕ) → is_full n.files (channels_of n) words ≡ is_full m.files (channels_of m) words
+      → is_full y.files (channels_in y) words ≡ is_full x.files (channels_in x) words
   unfolding view
   full_same words e = ap (λ cs. is_full n.files cs words) (channels_seen n j q t) ∙ e ∙ sym (ap (λ cs. is_full m.files cs words) (channels_seen m j q t))
 
@@ -338,14 +392,16 @@ module _ (m n : Machine) (j : ℕ) (q : Whole) (t : Option ℕ) (a : Ask) (d : F
   end_same : (o : Option ℕ) → link_named m.links (input a 2) (input a 3) ≡ o → SameLinked m n (input a 2) (input a 3)
       → opens_end_by (bare y) a (input a 0) (unwrap_or a.control 0 == 1) (input a 2) (input a 3) n.links (least_free most_links n.links) o
       ≡ opens_end_by (bare x) a (input a 0) (unwrap_or a.control 0 == 1) (input a 2) (input a 3) m.links (least_free most_links m.links) o
-  end_same (Some l) e look = λ k. first (not (can_open (unwrap_or a.control 0 == 1) (look.link l e k)) ⇒ fails (bares k) a 0o24 ∷ []) (joins (bares k) (input a 0) l (unwrap_or a.control 0 == 1) (input a 2) (input a 3))
+  end_same (Some l) e look = λ k. first (not (can_open (unwrap_or a.control 0 == 1) (look.link l e k)) ⇒ fails (bares k) a 0o24 ∷ [])
+      (joins (bares k) (input a 0) l (unwrap_or a.control 0 == 1) (input a 2) (input a 3))
   end_same None e look = λ k. makes_link (bares k) a (input a 0) (unwrap_or a.control 0 == 1) (input a 2) (input a 3) (look.free k)
 
   link_same : SameLinked m n (input a 2) (input a 3) → opens_link y a ≡ opens_link x a
   unfolding view
   link_same look =
       opens_link_is y a
-      ∙ (λ k. first (link_tests (bare y) a (input a 0) (unwrap_or a.control 0)) (opens_end_by (bare y) a (input a 0) (unwrap_or a.control 0 == 1) (input a 2) (input a 3) n.links (least_free most_links n.links) (look.named k)))
+      ∙ (λ k. first (link_tests (bare y) a (input a 0) (unwrap_or a.control 0))
+      (opens_end_by (bare y) a (input a 0) (unwrap_or a.control 0 == 1) (input a 2) (input a 3) n.links (least_free most_links n.links) (look.named k)))
       ∙ (λ k. first (link_tests (bares k) a (input a 0) (unwrap_or a.control 0)) (end_same (link_named m.links (input a 2) (input a 3)) refl look k))
       ∙ sym (opens_link_is x a)
 
@@ -358,9 +414,11 @@ module _ (m n : Machine) (j : ℕ) (q : Whole) (t : Option ℕ) (a : Ask) (d : F
 
   -- TTYLND
   pub lands_none : (v : View) (may : Bool) (number s : ℕ) → is_some v.own.job.console ≡ false → lands v a may number s ≡ fails v a 0o5
-  lands_none v may number s e = ap (λ b. first (not b ⇒ fails v a 0o5 ∷ not may ⇒ fails v a number ∷ []) (finishes v (changes.Hold (view_console v) s ∷ []) [])) e
+  lands_none v may number s e = ap (λ b. first (not b ⇒ fails v a 0o5 ∷ not may ⇒ fails v a number ∷ [])
+      (finishes v (changes.Hold (view_console v) s ∷ []) [])) e
 
-  pub nobody_lands : (v : View) (holder : Option ℕ) (inferior : Bool) (p : Party) → is_some v.own.job.console ≡ false → ttylnd_by v a holder inferior p ≡ ttylnd_by v a None false p
+  pub nobody_lands : (v : View) (holder : Option ℕ) (inferior : Bool) (p : Party) → is_some v.own.job.console ≡ false
+      → ttylnd_by v a holder inferior p ≡ ttylnd_by v a None false p
   nobody_lands v holder inferior Oneself e = lands_none v (takes_by inferior v.slot holder) 0o13 v.slot e ∙ sym (lands_none v true 0o13 v.slot e)
   nobody_lands v holder inferior Nobody e = refl
   nobody_lands v holder inferior (Channel (On s write at)) e = lands_none v (is_holder v holder) 0o5 s e ∙ sym (lands_none v false 0o5 s e)
@@ -382,9 +440,11 @@ module _ (m n : Machine) (j : ℕ) (q : Whole) (t : Option ℕ) (a : Ask) (d : F
       p = party x (input a 0)
 
       held : (i : ℕ) → q.job.console ≡ Some i → n.holders c ≡ m.holders c
-      held i e = subst (λ (k : ℕ). n.holders k ≡ m.holders k) (sym (ap (λ (o : Option ℕ). unwrap_or o 0) e)) (console_is m n i (console_in (m.jobs j)) (ap console_in is ∙ e) h.console).1
+      held i e = subst (λ (k : ℕ). n.holders k ≡ m.holders k) (sym (ap (λ (o : Option ℕ). unwrap_or o 0) e))
+          (console_is m n i (console_in (m.jobs j)) (ap console_in is ∙ e) h.console).1
 
-      go : (o : Option ℕ) → q.job.console ≡ o → ttylnd_by (bare y) a (n.holders c) (holder_inferior y (n.holders c)) p ≡ ttylnd_by (bare x) a (m.holders c) (holder_inferior x (m.holders c)) p
+      go : (o : Option ℕ) → q.job.console ≡ o → ttylnd_by (bare y) a (n.holders c) (holder_inferior y (n.holders c)) p ≡ ttylnd_by (bare x)
+          a (m.holders c) (holder_inferior x (m.holders c)) p
       go (Some i) e =
           ap (λ o. ttylnd_by (bare y) a o (holder_inferior y o) p) (held i e)
           ∙ (λ k. ttylnd_by (bares k) a (m.holders c) (inferior_same (m.holders c) look k) p)
@@ -422,13 +482,15 @@ module _ (m n : Machine) (j : ℕ) (q : Whole) (t : Option ℕ) (a : Ask) (d : F
   fillen_same i (On s write at) on = by_bare (λ v. fillen_on v a (On s write at)) (λ v. refl)
   fillen_same i (Linked l write) on = by_bare (λ v. fillen_on v a (Linked l write)) (λ v. refl)
 
-  delete_same : (there : has_file (names_from a 1) n.files ≡ has_file (names_from a 1) m.files) (locked : is_read (names_from a 1) (channels_of n) ≡ is_read (names_from a 1) (channels_of m)) → delete y a ≡ delete x a
+  delete_same : (there : has_file (names_from a 1) n.files ≡ has_file (names_from a 1) m.files)
+      (locked : is_read (names_from a 1) (channels_of n) ≡ is_read (names_from a 1) (channels_of m)) → delete y a ≡ delete x a
   unfolding view
   delete_same there locked = delete_is y a ∙ (λ k. delete_by (bares k) a (there k) (read_same (names_from a 1) locked k)) ∙ sym (delete_is x a)
 
   rename_same : TablesFor j m n q a (Some calls.Rename) → rename y a ≡ rename x a
   unfolding view
-  rename_same look = rename_is y a ∙ (λ k. rename_by (bares k) a (is_some (look.0 k)) (read_same (names_from a 1) look.1.0 k) (look.1.1 k)) ∙ sym (rename_is x a)
+  rename_same look = rename_is y a ∙ (λ k. rename_by (bares k) a (is_some (look.0 k)) (read_same (names_from a 1) look.1.0 k) (look.1.1 k))
+      ∙ sym (rename_is x a)
 
   -- the tty calls without a table
   finish_same : finish y a ≡ finish x a

@@ -7,10 +7,10 @@ use Rattle.std.proofs.lemmas.List.Folds.{find-append}
 use Rattle.its_word.specs.Console.{Console}
 use Rattle.its_word.specs.Directory.{without_names, kept_file, with_changed, changed_if, named}
 use Rattle.its_word.proofs.NamesLaws.{same_sym, same_both}
-use Rattle.its_plain.specs.CallFile.{file_named}
-use Rattle.its_plain.specs.Change.{on_slot, in_job, channel_in, superiors, console_in, with_file, without_file, with_new_names, same_names, on_console, is_gone, chan_after_removal, job_after_removal, holder_after_removal, symbols_after_removal, ends_after_removal, after_removal, on_link}
+use Rattle.its_plain.specs.Call.File.{file_named}
+use Rattle.its_plain.specs.Machine.Change.{on_slot, in_job, channel_in, superiors, console_in, with_file, without_file, with_new_names, same_names, on_console, is_gone, chan_after_removal, job_after_removal, holder_after_removal, symbols_after_removal, ends_after_removal, after_removal, on_link}
 use Rattle.its_plain.specs.Machine.{Names, File, Pipe, Chan, Shut, TtyIn, TtyOut, Reads, Writes, On, Linked, Whole, Machine, changed}
-use Rattle.its_plain.specs.Own.{names_of, on_channel}
+use Rattle.its_plain.specs.Machine.Own.{names_of, on_channel}
 use Rattle.its_security.specs.Alike.{SameThrough, SameAt, Alike}
 
 -- what a change carries on, of whatever is the same before it
@@ -46,7 +46,8 @@ slot_console f true (Some q) h = h.console q
 slot_console f true None h = refl
 slot_console f false o h = refl
 
-console_same : (m n o p : Machine) (c : Option ℕ) → ((k : ℕ) → n.consoles k ≡ m.consoles k → p.consoles k ≡ o.consoles k) → ((k : ℕ) → n.holders k ≡ m.holders k → p.holders k ≡ o.holders k)
+console_same : (m n o p : Machine) (c : Option ℕ) → ((k : ℕ) → n.consoles k ≡ m.consoles k → p.consoles k ≡ o.consoles k)
+    → ((k : ℕ) → n.holders k ≡ m.holders k → p.holders k ≡ o.holders k)
     → SameAt m n c → SameAt o p c
 console_same m n o p (Some c) bytes held h = (bytes c h.0, held c h.1)
 console_same m n o p None bytes held h = tt
@@ -57,7 +58,8 @@ job_alike j s m n f pl h = record {
   own = same_jobs m n s j f h.own;
   channels = λ i.
       subst (SameThrough (in_job m s f) (in_job n s f)) (sym (slot_channel f (j == s) (m.jobs j) i pl))
-      (through m n (in_job m s f) (in_job n s f) (channel_in (m.jobs j) i) (record { jobs = λ k e. same_jobs m n s k f e; files = λ x e. e; links = λ k e. e }) (h.channels i));
+      (through m n (in_job m s f) (in_job n s f) (channel_in (m.jobs j) i)
+      (record { jobs = λ k e. same_jobs m n s k f e; files = λ x e. e; links = λ k e. e }) (h.channels i));
   console =
       subst (SameAt (in_job m s f) (in_job n s f)) (sym (slot_console f (j == s) (m.jobs j) pl))
       (console_same m n (in_job m s f) (in_job n s f) (console_in (m.jobs j)) (λ k e. e) (λ k e. e) h.console);
@@ -72,7 +74,8 @@ through_if : (m n : Machine) (b : Bool) (c d : Chan) → (b ≡ true → SameThr
 through_if m n true c d h k = h refl
 through_if m n false c d h k = k refl
 
-channel_through : (m n : Machine) (g : Chan → Chan) (k i : ℕ) (o : Option Whole) → ((c : Chan) → SameThrough m n c → SameThrough m n (g c)) → SameThrough m n (channel_in o i) → SameThrough m n (channel_in o k)
+channel_through : (m n : Machine) (g : Chan → Chan) (k i : ℕ) (o : Option Whole) → ((c : Chan) → SameThrough m n c → SameThrough m n (g c))
+    → SameThrough m n (channel_in o i) → SameThrough m n (channel_in o k)
     → SameThrough m n (channel_in (option_map (on_channel k g) o) i)
 channel_through m n g k i (Some q) h e d = through_if m n (i == k) (g (q.channels k)) (q.channels i) (λ t. h (q.channels k) d) (λ t. e)
 channel_through m n g k i None h e d = tt
@@ -81,7 +84,8 @@ channel_console : (k : ℕ) (g : Chan → Chan) (o : Option Whole) → console_i
 channel_console k g (Some q) = refl
 channel_console k g None = refl
 
-pub channel_alike : (j k : ℕ) (m n : Machine) (g : Chan → Chan) → ((c : Chan) → SameThrough m n c → SameThrough (in_job m j (on_channel k g)) (in_job n j (on_channel k g)) (g c)) → Alike j m n
+pub channel_alike : (j k : ℕ) (m n : Machine) (g : Chan → Chan)
+    → ((c : Chan) → SameThrough m n c → SameThrough (in_job m j (on_channel k g)) (in_job n j (on_channel k g)) (g c)) → Alike j m n
     → Alike j (in_job m j (on_channel k g)) (in_job n j (on_channel k g))
 channel_alike j k m n g keeps h =
     let o = in_job m j (on_channel k g) in
@@ -98,18 +102,21 @@ channel_alike j k m n g keeps h =
     }
   where
     carry : (c : Chan) → SameThrough m n c → SameThrough (in_job m j (on_channel k g)) (in_job n j (on_channel k g)) c
-    carry c e = through m n (in_job m j (on_channel k g)) (in_job n j (on_channel k g)) c (record { jobs = λ s e. same_jobs m n j s (on_channel k g) e; files = λ x e. e; links = λ l e. e }) e
+    carry c e = through m n (in_job m j (on_channel k g)) (in_job n j (on_channel k g)) c
+        (record { jobs = λ s e. same_jobs m n j s (on_channel k g) e; files = λ x e. e; links = λ l e. e }) e
 
     go : (i : ℕ) (w : Option Whole) → SameThrough m n (channel_in w i) → SameThrough m n (channel_in w k)
         → SameThrough (in_job m j (on_channel k g)) (in_job n j (on_channel k g)) (channel_in (option_map (on_channel k g) w) i)
-    go i (Some q) e d = through_if (in_job m j (on_channel k g)) (in_job n j (on_channel k g)) (i == k) (g (q.channels k)) (q.channels i) (λ t. keeps (q.channels k) d) (λ t. carry (q.channels i) e)
+    go i (Some q) e d = through_if (in_job m j (on_channel k g)) (in_job n j (on_channel k g)) (i == k) (g (q.channels k)) (q.channels i)
+        (λ t. keeps (q.channels k) d) (λ t. carry (q.channels i) e)
     go i None e d = tt
 
 -- what jobs share: a console
 pub console_alike : (j c : ℕ) (m n : Machine) (f : Console → Console) → Alike j m n → Alike j (on_console m c f) (on_console n c f)
 console_alike j c m n f h = record {
   own = h.own;
-  channels = λ i. through m n (on_console m c f) (on_console n c f) (channel_in (m.jobs j) i) (record { jobs = λ s e. e; files = λ x e. e; links = λ k e. e }) (h.channels i);
+  channels = λ i. through m n (on_console m c f) (on_console n c f) (channel_in (m.jobs j) i)
+      (record { jobs = λ s e. e; files = λ x e. e; links = λ k e. e }) (h.channels i);
   console = console_same m n (on_console m c f) (on_console n c f) (console_in (m.jobs j)) (λ k e. same k e) (λ k e. e) h.console;
   clock = h.clock;
 }
@@ -121,7 +128,8 @@ console_alike j c m n f h = record {
     ]
 
 -- the holder of one
-pub holder_alike : (j c : ℕ) (x : Option ℕ) (m n : Machine) → Alike j m n → Alike j (record m { holders = changed m.holders c x }) (record n { holders = changed n.holders c x })
+pub holder_alike : (j c : ℕ) (x : Option ℕ) (m n : Machine) → Alike j m n
+    → Alike j (record m { holders = changed m.holders c x }) (record n { holders = changed n.holders c x })
 holder_alike j c x m n h =
     let o = record m { holders = changed m.holders c x } in
     let p = record n { holders = changed n.holders c x } in
@@ -136,7 +144,8 @@ holder_alike j c x m n h =
 pub link_alike : (j l : ℕ) (m n : Machine) (f : Option Pipe → Option Pipe) → Alike j m n → Alike j (on_link m l f) (on_link n l f)
 link_alike j l m n f h = record {
   own = h.own;
-  channels = λ i. through m n (on_link m l f) (on_link n l f) (channel_in (m.jobs j) i) (record { jobs = λ s e. e; files = λ x e. e; links = same }) (h.channels i);
+  channels = λ i. through m n (on_link m l f) (on_link n l f) (channel_in (m.jobs j) i)
+      (record { jobs = λ s e. e; files = λ x e. e; links = same }) (h.channels i);
   console = console_same m n (on_link m l f) (on_link n l f) (console_in (m.jobs j)) (λ k e. e) (λ k e. e) h.console;
   clock = h.clock;
 }
@@ -148,7 +157,8 @@ link_alike j l m n f h = record {
     ]
 
 -- the directory
-pub files_alike : (j : ℕ) (m n : Machine) (fs gs : List File) → ((x : Names) → file_named x n.files ≡ file_named x m.files → file_named x gs ≡ file_named x fs) → Alike j m n
+pub files_alike : (j : ℕ) (m n : Machine) (fs gs : List File)
+    → ((x : Names) → file_named x n.files ≡ file_named x m.files → file_named x gs ≡ file_named x fs) → Alike j m n
     → Alike j (record m { files = fs }) (record n { files = gs })
 files_alike j m n fs gs same h =
     let o = record m { files = fs } in
@@ -182,7 +192,8 @@ pub deleted_same : (x y : Names) (fs gs : List File) → file_named x gs ≡ fil
 unfolding without_file
 deleted_same x y fs gs e = without_is x y gs ∙ ap (cond (same_names x y) None) e ∙ sym (without_is x y fs)
 
-pub closed_same : (x : Names) (f : File) (fs gs : List File) → file_named x gs ≡ file_named x fs → file_named x (with_file f gs) ≡ file_named x (with_file f fs)
+pub closed_same : (x : Names) (f : File) (fs gs : List File) → file_named x gs ≡ file_named x fs
+    → file_named x (with_file f gs) ≡ file_named x (with_file f fs)
 closed_same x f fs gs e =
     find-append (λ g. same_names x g.names) (without_file f.names gs) (f ∷ [])
     ∙ ap (λ o. option_or o (file_named x (f ∷ []))) (deleted_same x f.names fs gs e)
@@ -190,7 +201,8 @@ closed_same x f fs gs e =
 
 -- a file that gets names which no file has
 renamed_is : (z old new : Names) (fs : List File) → file_named new fs ≡ None
-    → file_named z (with_changed old (named new) fs) ≡ cond (same_names z new) (option_map (named new) (file_named old fs)) (cond (same_names z old) None (file_named z fs))
+    → file_named z (with_changed old (named new) fs) ≡ cond (same_names z new) (option_map (named new) (file_named old fs))
+    (cond (same_names z old) None (file_named z fs))
 renamed_is z old new [] none = elim (cases_Bool (same_names z new)) [
   | inl t ↦ rw t refl
   | inr e ↦ rw e (elim (cases_Bool (same_names z old)) [ inl t ↦ rw t refl | inr f ↦ rw f refl ])
@@ -209,17 +221,22 @@ renamed_is z old new (g ∷ fs) none =
     head : (a : Bool) → Option File
     head a = cond (same_names z (changed_if a g (named new g)).names) (Some (changed_if a g (named new g))) rest
 
-    go : (a b c d : Bool) → same_names old g.names ≡ a → same_names z g.names ≡ b → same_names z new ≡ c → same_names z old ≡ d → same_names new g.names ≡ false
+    go : (a b c d : Bool) → same_names old g.names ≡ a → same_names z g.names ≡ b → same_names z new ≡ c → same_names z old ≡ d
+        → same_names new g.names ≡ false
         → rest ≡ cond (same_names z new) (option_map (named new) (file_named old fs)) (cond (same_names z old) None (file_named z fs))
         → head a ≡ cond c (option_map (named new) (cond a (Some g) (file_named old fs))) (cond d None (cond b (Some g) (file_named z fs)))
     go true b true d ea eb ec ed other more = ap (λ t. cond t (Some (named new g)) rest) ec
-    go true true false true ea eb ec ed other more = ap (λ t. cond t (Some (named new g)) rest) ec ∙ more ∙ (λ i. cond (ec i) (option_map (named new) (file_named old fs)) (cond (ed i) None (file_named z fs)))
-    go true true false false ea eb ec ed other more = absurd (let no : false ≡ true = sym ed ∙ same_both g.names z old (same_sym z g.names eb) (same_sym old g.names ea) in cc)
-    go true false false d ea eb ec ed other more = ap (λ t. cond t (Some (named new g)) rest) ec ∙ more ∙ (λ i. cond (ec i) (option_map (named new) (file_named old fs)) (cond (ed i) None (file_named z fs)))
+    go true true false true ea eb ec ed other more = ap (λ t. cond t (Some (named new g)) rest) ec ∙ more
+        ∙ (λ i. cond (ec i) (option_map (named new) (file_named old fs)) (cond (ed i) None (file_named z fs)))
+    go true true false false ea eb ec ed other more = absurd
+        (let no : false ≡ true = sym ed ∙ same_both g.names z old (same_sym z g.names eb) (same_sym old g.names ea) in cc)
+    go true false false d ea eb ec ed other more = ap (λ t. cond t (Some (named new g)) rest) ec ∙ more
+        ∙ (λ i. cond (ec i) (option_map (named new) (file_named old fs)) (cond (ed i) None (file_named z fs)))
     go false true true d ea eb ec ed other more = absurd (let no : false ≡ true = sym other ∙ same_both z new g.names ec eb in cc)
     go false true false true ea eb ec ed other more = absurd (let no : false ≡ true = sym ea ∙ same_both z old g.names ed eb in cc)
     go false true false false ea eb ec ed other more = ap (λ t. cond t (Some g) rest) eb
-    go false false c d ea eb ec ed other more = ap (λ t. cond t (Some g) rest) eb ∙ more ∙ (λ i. cond (ec i) (option_map (named new) (file_named old fs)) (cond (ed i) None (file_named z fs)))
+    go false false c d ea eb ec ed other more = ap (λ t. cond t (Some g) rest) eb ∙ more
+        ∙ (λ i. cond (ec i) (option_map (named new) (file_named old fs)) (cond (ed i) None (file_named z fs)))
 
 pub renamed_same : (z : Names) (d x y u v : ℕ) (fs gs : List File) → file_named (names_of d u v) fs ≡ None → file_named (names_of d u v) gs ≡ None
     → file_named (names_of d x y) gs ≡ file_named (names_of d x y) fs → file_named z gs ≡ file_named z fs
@@ -240,8 +257,10 @@ cut gone heir m = record m {
   links = λ l. ends_after_removal gone (m.links l);
 }
 
-left_through : (m n : Machine) (gone : ℕ → Bool) (heir : Option ℕ) (c : Chan) → SameThrough m n c → SameThrough (cut gone heir m) (cut gone heir n) (chan_after_removal gone c)
-left_through m n gone heir (On s write at) e = through_if (cut gone heir m) (cut gone heir n) (gone s) Shut (On s write at) (λ t. tt) (λ t. ap (job_after_removal gone (gone s)) e)
+left_through : (m n : Machine) (gone : ℕ → Bool) (heir : Option ℕ) (c : Chan) → SameThrough m n c
+    → SameThrough (cut gone heir m) (cut gone heir n) (chan_after_removal gone c)
+left_through m n gone heir (On s write at) e = through_if (cut gone heir m) (cut gone heir n) (gone s) Shut (On s write at) (λ t. tt)
+    (λ t. ap (job_after_removal gone (gone s)) e)
 left_through m n gone heir (Linked k write) e = ap (ends_after_removal gone) e
 left_through m n gone heir (Reads x at) e = e
 left_through m n gone heir Shut e = tt
@@ -257,7 +276,8 @@ cut_alike j m n gone heir h = record {
   clock = h.clock;
 }
   where
-    go : (i : ℕ) (b : Bool) (o : Option Whole) → SameThrough m n (channel_in o i) → SameThrough (cut gone heir m) (cut gone heir n) (channel_in (job_after_removal gone b o) i)
+    go : (i : ℕ) (b : Bool) (o : Option Whole) → SameThrough m n (channel_in o i)
+        → SameThrough (cut gone heir m) (cut gone heir n) (channel_in (job_after_removal gone b o) i)
     go i true o e = tt
     go i false (Some q) e = left_through m n gone heir (q.channels i) e
     go i false None e = tt
@@ -267,7 +287,8 @@ cut_alike j m n gone heir h = record {
     at false (Some q) e = console_same m n (cut gone heir m) (cut gone heir n) q.job.console (λ k e. e) (λ k e. ap (holder_after_removal gone heir) e) e
     at false None e = tt
 
-pub removed_alike : (j s : ℕ) (m n : Machine) → ((k : ℕ) → is_gone (superiors n) s k ≡ is_gone (superiors m) s k) → superiors n s ≡ superiors m s → Alike j m n
+pub removed_alike : (j s : ℕ) (m n : Machine) → ((k : ℕ) → is_gone (superiors n) s k ≡ is_gone (superiors m) s k)
+    → superiors n s ≡ superiors m s → Alike j m n
     → Alike j (after_removal (superiors m) s m) (after_removal (superiors n) s n)
 unfolding after_removal
 removed_alike j s m n gone heir h =

@@ -11,9 +11,9 @@ use Rattle.its_records.specs.Links.{most_links}
 use Rattle.its_records.specs.Tree.{least_free, fresh_job}
 use Rattle.its_records.specs.declared.session.Event.TheVariants as events
 use Rattle.its_records.proofs.FreeLaws.{least_empty}
-use Rattle.its_plain.specs.CallCore.{has_page}
-use Rattle.its_plain.specs.CallLink.{has_link_names, link_named, can_open}
-use Rattle.its_plain.specs.Change.{channel_in, console_in, superior_in, superiors, is_gone, after_shut, job_after_removal, holder_after_removal, ends_after_removal, after_removal, on_slot, with_inf, poke, link_or_new, with_end_opened, after_end_close, with_sent, with_received}
+use Rattle.its_plain.specs.Call.Core.{has_page}
+use Rattle.its_plain.specs.Call.Link.{has_link_names, link_named, can_open}
+use Rattle.its_plain.specs.Machine.Change.{channel_in, console_in, superior_in, superiors, is_gone, after_shut, job_after_removal, holder_after_removal, ends_after_removal, after_removal, on_slot, with_inf, poke, link_or_new, with_end_opened, after_end_close, with_sent, with_received}
 use Rattle.its_plain.specs.Machine.{File, Chan, Shut, TtyIn, TtyOut, Reads, Writes, On, Linked, Pipe, Whole, Machine, limit}
 use Rattle.its_plain.specs.Operator.{Block}
 use Rattle.its_security.specs.Integrity.{Written, word_stored, variable_set, page_made, page_dropped, page_marked, with_inf_in, Removes, nobody, by_logout, by_uclose, IsStopped, NoJobNamed, JobMay, job_written, superior_informed, job_made, HolderMay, holder_same, console_taken, console_given, JobsMay, others_same, one_changes, IsOpenAt, MayBeOn, IsFresh, ChannelMay, channel_same, file_moves, inferior_moves, word_added, channel_closed, channel_opened, Keeps, OwnMay, own_kept, own_gone, LinkFor, is_there, is_new, LinkMay, end_opened, word_sent, word_received, end_shut, LinksMay, links_same, one_link_changes, MayStep}
@@ -43,7 +43,8 @@ words_in (Writes f) = f.words
 words_in _ = []
 
 module _ (m n : Machine) (j : ℕ) (h : MayStep m j n) where
-  -- what becomes of another job: what the removal leaves, or, if nobody is removed, what JobMay says
+  -- what becomes of another job: what the removal leaves, or, if nobody is removed, what JobMay
+  -- says
   pub other_job : (k : ℕ) → k ≢ j → (n.jobs k ≡ h.left.jobs k) ⊎ ((h.left ≡ m) × JobMay m n j k)
   other_job k ne = go h.jobs
     where
@@ -76,7 +77,8 @@ module _ (m n : Machine) (j : ℕ) (h : MayStep m j n) where
       go (job_made u x least free on) = some_is_not_none (m.jobs k) q is (least_empty (limit m) m.jobs k least)
 
   -- without a channel with leave to write an inferior is not changed
-  pub no_write_without_leave : (k : ℕ) (q : Whole) → k ≢ j → m.jobs k ≡ Some q → superiors m j ≢ Some k → ((i at : ℕ) → channel_in (m.jobs j) i ≢ On k true at) → n.jobs k ≡ h.left.jobs k
+  pub no_write_without_leave : (k : ℕ) (q : Whole) → k ≢ j → m.jobs k ≡ Some q → superiors m j ≢ Some k
+      → ((i at : ℕ) → channel_in (m.jobs j) i ≢ On k true at) → n.jobs k ≡ h.left.jobs k
   no_write_without_leave k q ne is superior none = elim (other_job k ne) [ inl e ↦ e | inr x ↦ absurd (go x.1) ]
     where
       go : JobMay m n j k → ⊥
@@ -85,7 +87,8 @@ module _ (m n : Machine) (j : ℕ) (h : MayStep m j n) where
       go (job_made u x least free on) = some_is_not_none (m.jobs k) q is (least_empty (limit m) m.jobs k least)
 
   -- a superior that is not an inferior gets no INF while j is there and is not stopped
-  pub no_needless_INF : (k : ℕ) (q r : Whole) → k ≢ j → m.jobs k ≡ Some q → superiors m k ≢ Some j → n.jobs j ≡ Some r → r.job.stopped ≡ false → n.jobs k ≡ h.left.jobs k
+  pub no_needless_INF : (k : ℕ) (q r : Whole) → k ≢ j → m.jobs k ≡ Some q → superiors m k ≢ Some j → n.jobs j ≡ Some r
+      → r.job.stopped ≡ false → n.jobs k ≡ h.left.jobs k
   no_needless_INF k q r ne is inferior there runs = elim (other_job k ne) [ inl e ↦ e | inr x ↦ absurd (go x.1) ]
     where
       go : JobMay m n j k → ⊥
@@ -110,7 +113,8 @@ module _ (m n : Machine) (j : ℕ) (h : MayStep m j n) where
           it k kj changed ∙ sym (it i ij changes)
 
   -- a new job takes the least empty slot, and has names that no job has
-  pub no_name_twice : (k : ℕ) (r : Whole) → k ≢ j → h.left.jobs k ≡ None → n.jobs k ≡ Some r → (least_free (limit m) m.jobs ≡ Some k) × NoJobNamed m r.job.uname r.job.jname
+  pub no_name_twice : (k : ℕ) (r : Whole) → k ≢ j → h.left.jobs k ≡ None → n.jobs k ≡ Some r → (least_free (limit m) m.jobs ≡ Some k)
+      × NoJobNamed m r.job.uname r.job.jname
   unfolding fresh_job
   no_name_twice k r ne none new = elim (other_job k ne) [
     | inl e ↦ absurd (some_is_not_none (n.jobs k) r new (e ∙ none))
@@ -127,7 +131,8 @@ module _ (m n : Machine) (j : ℕ) (h : MayStep m j n) where
   own_kept_by q r is there = go h.own
     where
       go : OwnMay m h.left n j → Keeps n j q r
-      go (own_kept a b at on keep) = subst (λ (x : Whole). Keeps n j x r) (same_some a q (sym at ∙ is)) (subst (Keeps n j a) (same_some b r (sym on ∙ there)) keep)
+      go (own_kept a b at on keep) = subst (λ (x : Whole). Keeps n j x r) (same_some a q (sym at ∙ is))
+          (subst (Keeps n j a) (same_some b r (sym on ∙ there)) keep)
       go (own_gone left gone) = absurd (some_is_not_none (n.jobs j) r there gone)
 
   pub no_other_console : (q r : Whole) → m.jobs j ≡ Some q → n.jobs j ≡ Some r → r.job.console ≡ q.job.console
@@ -158,7 +163,8 @@ module _ (m n : Machine) (j : ℕ) (h : MayStep m j n) where
   no_console_without_one i is = channel_on i TtyIn (λ e. cc) is
 
   -- an open channel stays on its job, and gets no leave to write
-  pub no_other_leave : (q r : Whole) (i s t from to : ℕ) (write leave : Bool) → m.jobs j ≡ Some q → n.jobs j ≡ Some r → q.channels i ≡ On s write from → r.channels i ≡ On t leave to → (t ≡ s) × (leave ≡ write)
+  pub no_other_leave : (q r : Whole) (i s t from to : ℕ) (write leave : Bool) → m.jobs j ≡ Some q → n.jobs j ≡ Some r
+      → q.channels i ≡ On s write from → r.channels i ≡ On t leave to → (t ≡ s) × (leave ≡ write)
   no_other_leave q r i s t from to write leave is there on now = go (q.channels i) (r.channels i) ((own_kept_by q r is there).channels i) on now
     where
       go : (c d : Chan) → ChannelMay c d → c ≡ On s write from → d ≡ On t leave to → (t ≡ s) × (leave ≡ write)
@@ -170,7 +176,8 @@ module _ (m n : Machine) (j : ℕ) (h : MayStep m j n) where
       go c d (channel_opened e fresh) was is = cc
 
   -- nor on another file, another draft, another console or another end of a link
-  pub no_other_channel : (q r : Whole) (i : ℕ) → m.jobs j ≡ Some q → n.jobs j ≡ Some r → q.channels i ≢ Shut → r.channels i ≢ Shut → on_what (r.channels i) ≡ on_what (q.channels i)
+  pub no_other_channel : (q r : Whole) (i : ℕ) → m.jobs j ≡ Some q → n.jobs j ≡ Some r → q.channels i ≢ Shut → r.channels i ≢ Shut
+      → on_what (r.channels i) ≡ on_what (q.channels i)
   no_other_channel q r i is there = go (q.channels i) (r.channels i) ((own_kept_by q r is there).channels i)
     where
       go : (c d : Chan) → ChannelMay c d → c ≢ Shut → d ≢ Shut → on_what d ≡ on_what c
@@ -182,7 +189,8 @@ module _ (m n : Machine) (j : ℕ) (h : MayStep m j n) where
       go c d (channel_opened e fresh) was is = absurd (was refl)
 
   -- a draft keeps its words, and gets one more at most
-  pub no_draft_rewritten : (q r : Whole) (i : ℕ) (f g : File) → m.jobs j ≡ Some q → n.jobs j ≡ Some r → q.channels i ≡ Writes f → r.channels i ≡ Writes g → (g.words ≡ f.words) ⊎ ((w : ℕ) × (g.words ≡ f.words ++ w ∷ []))
+  pub no_draft_rewritten : (q r : Whole) (i : ℕ) (f g : File) → m.jobs j ≡ Some q → n.jobs j ≡ Some r → q.channels i ≡ Writes f
+      → r.channels i ≡ Writes g → (g.words ≡ f.words) ⊎ ((w : ℕ) × (g.words ≡ f.words ++ w ∷ []))
   no_draft_rewritten q r i f g is there on now = go (q.channels i) (r.channels i) ((own_kept_by q r is there).channels i) on now
     where
       go : (c d : Chan) → ChannelMay c d → c ≡ Writes f → d ≡ Writes g → (g.words ≡ f.words) ⊎ ((w : ℕ) × (g.words ≡ f.words ++ w ∷ []))
@@ -194,7 +202,8 @@ module _ (m n : Machine) (j : ℕ) (h : MayStep m j n) where
       go c d (channel_opened e fresh) was is = cc
 
   -- and a new one has none
-  pub no_draft_with_words : (q r : Whole) (i : ℕ) (g : File) → m.jobs j ≡ Some q → n.jobs j ≡ Some r → q.channels i ≡ Shut → r.channels i ≡ Writes g → g.words ≡ []
+  pub no_draft_with_words : (q r : Whole) (i : ℕ) (g : File) → m.jobs j ≡ Some q → n.jobs j ≡ Some r → q.channels i ≡ Shut
+      → r.channels i ≡ Writes g → g.words ≡ []
   no_draft_with_words q r i g is there on now = go (q.channels i) (r.channels i) ((own_kept_by q r is there).channels i) on now
     where
       go : (c d : Chan) → ChannelMay c d → c ≡ Shut → d ≡ Writes g → g.words ≡ []
@@ -206,12 +215,14 @@ module _ (m n : Machine) (j : ℕ) (h : MayStep m j n) where
       go c d (channel_opened e fresh) was is = subst IsFresh is fresh
 
   -- an end of a link that is open at a channel of j is what this channel is on
-  pub no_end_without_channel : (q r : Whole) (i k : ℕ) (write : Bool) → m.jobs j ≡ Some q → n.jobs j ≡ Some r → IsOpenAt j i write (n.links k) → r.channels i ≡ Linked k write
+  pub no_end_without_channel : (q r : Whole) (i k : ℕ) (write : Bool) → m.jobs j ≡ Some q → n.jobs j ≡ Some r
+      → IsOpenAt j i write (n.links k) → r.channels i ≡ Linked k write
   no_end_without_channel q r i k write is there = (own_kept_by q r is there).ends i k write
 
   -- links: one of which j has no end, and both ends of which have been opened, is as the removal
   -- leaves it
-  pub no_foreign_link_changed : (k : ℕ) → ((i : ℕ) (write : Bool) → IsOpenAt j i write (m.links k) → ⊥) → ((write : Bool) → can_open write (m.links k) ≡ false) → n.links k ≡ h.left.links k
+  pub no_foreign_link_changed : (k : ℕ) → ((i : ℕ) (write : Bool) → IsOpenAt j i write (m.links k) → ⊥)
+      → ((write : Bool) → can_open write (m.links k) ≡ false) → n.links k ≡ h.left.links k
   no_foreign_link_changed k none opened = elim (any_link k) [ inl e ↦ e | inr x ↦ absurd (go x.1) ]
     where
       go : LinkMay m n j k → ⊥
@@ -221,7 +232,8 @@ module _ (m n : Machine) (j : ℕ) (h : MayStep m j n) where
       go (end_shut i write at e) = none i write at.end
 
   -- and so is one that no channel of j is on
-  pub no_link_changed_without_channel : (k : ℕ) → ((i : ℕ) (write : Bool) → channel_in (m.jobs j) i ≢ Linked k write) → ((write : Bool) → can_open write (m.links k) ≡ false) → n.links k ≡ h.left.links k
+  pub no_link_changed_without_channel : (k : ℕ) → ((i : ℕ) (write : Bool) → channel_in (m.jobs j) i ≢ Linked k write)
+      → ((write : Bool) → can_open write (m.links k) ≡ false) → n.links k ≡ h.left.links k
   no_link_changed_without_channel k none opened = elim (any_link k) [ inl e ↦ e | inr x ↦ absurd (go x.1) ]
     where
       go : LinkMay m n j k → ⊥
@@ -231,7 +243,8 @@ module _ (m n : Machine) (j : ℕ) (h : MayStep m j n) where
       go (end_shut i write at e) = none i write at.is
 
   -- a new link gets the least free number, and names that no link has
-  pub no_link_name_twice : (k : ℕ) (p : Pipe) → h.left.links k ≡ None → n.links k ≡ Some p → (least_free most_links m.links ≡ Some k) × (link_named m.links p.link.x p.link.y ≡ None)
+  pub no_link_name_twice : (k : ℕ) (p : Pipe) → h.left.links k ≡ None → n.links k ≡ Some p → (least_free most_links m.links ≡ Some k)
+      × (link_named m.links p.link.x p.link.y ≡ None)
   no_link_name_twice k p none new = elim (any_link k) [
     | inl e ↦ absurd (some_is_not_none (n.links k) p new (e ∙ none))
     | inr x ↦ go x.1 (ap (λ (l : Machine). l.links k) (sym x.0) ∙ none)
@@ -245,11 +258,13 @@ module _ (m n : Machine) (j : ℕ) (h : MayStep m j n) where
       y_is x y i true = refl
       y_is x y i false = refl
 
-      made : (x y i : ℕ) (write : Bool) → LinkFor m.links x y k → m.links k ≡ None → n.links k ≡ Some (with_end_opened write j i (link_or_new x y (m.links k)))
+      made : (x y i : ℕ) (write : Bool) → LinkFor m.links x y k → m.links k ≡ None
+          → n.links k ≡ Some (with_end_opened write j i (link_or_new x y (m.links k)))
           → (least_free most_links m.links ≡ Some k) × (link_named m.links p.link.x p.link.y ≡ None)
       made x y i write (is_there has) empty e = absurd (let no : false ≡ true = sym (ap (has_link_names x y) empty) ∙ has in cc)
       made x y i write (is_new free least) empty e =
-          let is : p ≡ with_end_opened write j i (link_or_new x y None) = same_some p _ (sym new ∙ e ∙ ap (λ (o : Option Pipe). Some (with_end_opened write j i (link_or_new x y o))) empty) in (
+          let is : p ≡ with_end_opened write j i (link_or_new x y None) =
+          same_some p _ (sym new ∙ e ∙ ap (λ (o : Option Pipe). Some (with_end_opened write j i (link_or_new x y o))) empty) in (
             least,
             ap (λ (r : Pipe). link_named m.links r.link.x r.link.y) is
                 ∙ ap (λ u. link_named m.links u (with_end_opened write j i (link_or_new x y None)).link.y) (x_is x y i write)
@@ -269,7 +284,8 @@ pub record RemovedBy (m n : Machine) (j k root : ℕ) : Type 0 where
   pub root_is : ((root ≡ j) × (n.jobs j ≡ None)) ⊎ (superiors m root ≡ Some j)
   pub below : is_gone (superiors m) root k ≡ true
   pub gone : (i : ℕ) → i ≢ j → is_gone (superiors m) root i ≡ true → n.jobs i ≡ None
-  pub channels : (i : ℕ) → i ≢ j → superiors m j ≢ Some i → is_gone (superiors m) root i ≡ false → n.jobs i ≡ option_map (after_shut (is_gone (superiors m) root)) (m.jobs i)
+  pub channels : (i : ℕ) → i ≢ j → superiors m j ≢ Some i → is_gone (superiors m) root i ≡ false
+      → n.jobs i ≡ option_map (after_shut (is_gone (superiors m) root)) (m.jobs i)
   pub holders : (c : ℕ) → n.holders c ≡ holder_after_removal (is_gone (superiors m) root) (superiors m root) (m.holders c)
   pub ends : (i : ℕ) → n.links i ≡ ends_after_removal (is_gone (superiors m) root) (m.links i)
 
@@ -278,7 +294,8 @@ record LeftBy (m n l : Machine) (j k root : ℕ) : Type 0 where
   root_is : ((root ≡ j) × (n.jobs j ≡ None)) ⊎ (superiors m root ≡ Some j)
   below : is_gone (superiors m) root k ≡ true
   gone : (i : ℕ) → is_gone (superiors m) root i ≡ true → l.jobs i ≡ None
-  channels : (i : ℕ) → superiors m j ≢ Some i → is_gone (superiors m) root i ≡ false → l.jobs i ≡ option_map (after_shut (is_gone (superiors m) root)) (m.jobs i)
+  channels : (i : ℕ) → superiors m j ≢ Some i → is_gone (superiors m) root i ≡ false
+      → l.jobs i ≡ option_map (after_shut (is_gone (superiors m) root)) (m.jobs i)
   holders : (c : ℕ) → l.holders c ≡ holder_after_removal (is_gone (superiors m) root) (superiors m root) (m.holders c)
   ends : (i : ℕ) → l.links i ≡ ends_after_removal (is_gone (superiors m) root) (m.links i)
 
@@ -316,11 +333,13 @@ gone_is : (m : Machine) (r k : ℕ) → is_gone (superiors m) r k ≡ true → (
 unfolding after_removal
 gone_is m r k e = rw e refl
 
-stays_is : (m : Machine) (r k : ℕ) → is_gone (superiors m) r k ≡ false → (after_removal (superiors m) r m).jobs k ≡ option_map (after_shut (is_gone (superiors m) r)) (m.jobs k)
+stays_is : (m : Machine) (r k : ℕ) → is_gone (superiors m) r k ≡ false
+    → (after_removal (superiors m) r m).jobs k ≡ option_map (after_shut (is_gone (superiors m) r)) (m.jobs k)
 unfolding after_removal
 stays_is m r k e = ap (λ b. job_after_removal (is_gone (superiors m) r) b (m.jobs k)) e
 
-holders_are : (m : Machine) (r c : ℕ) → (after_removal (superiors m) r m).holders c ≡ holder_after_removal (is_gone (superiors m) r) (superiors m r) (m.holders c)
+holders_are : (m : Machine) (r c : ℕ) → (after_removal (superiors m) r m).holders c ≡ holder_after_removal (is_gone (superiors m) r)
+    (superiors m r) (m.holders c)
 unfolding after_removal
 holders_are m r c = refl
 
@@ -333,7 +352,8 @@ unfolding after_removal
 is_removed m r k q is e = elim (cases_Bool (is_gone (superiors m) r k)) [
   | inl t ↦ t
   | inr f ↦ absurd (
-      let stays : job_after_removal (is_gone (superiors m) r) (is_gone (superiors m) r k) (m.jobs k) ≡ Some (after_shut (is_gone (superiors m) r) q) = rw (f, is) refl in
+      let stays : job_after_removal (is_gone (superiors m) r) (is_gone (superiors m) r k) (m.jobs k) ≡ Some
+      (after_shut (is_gone (superiors m) r) q) = rw (f, is) refl in
       some_is_not_none _ _ stays e
       )
 ]
@@ -383,7 +403,8 @@ informed_core : (o : Option ℕ) (l : Machine) (k : ℕ) → cores ((with_inf_in
 informed_core (Some s) l k = elim (cases_Bool (k == s)) [ inl t ↦ rw t (inf_cores (l.jobs k)) | inr t ↦ rw t refl ]
 informed_core None l k = refl
 
-removed_core : (m : Machine) (root k : ℕ) (r : Whole) → (after_removal (superiors m) root m).jobs k ≡ Some r → cores ((after_removal (superiors m) root m).jobs k) ≡ cores (m.jobs k)
+removed_core : (m : Machine) (root k : ℕ) (r : Whole) → (after_removal (superiors m) root m).jobs k ≡ Some r
+    → cores ((after_removal (superiors m) root m).jobs k) ≡ cores (m.jobs k)
 removed_core m root k r e = elim (cases_Bool (is_gone (superiors m) root k)) [
   | inl t ↦ absurd (some_is_not_none _ r e (gone_is m root k t))
   | inr t ↦ ap cores (stays_is m root k t) ∙ shut_cores (is_gone (superiors m) root) (m.jobs k)
@@ -400,7 +421,8 @@ left_core : (m n : Machine) (j k : ℕ) (q r : Whole) (l : Machine) → m.jobs k
 left_core m n j k q r l is nobody e = ap (λ (x : Whole). x.core) (same_some r q (sym e ∙ is))
 left_core m n j k q r l is (by_logout gone) e =
     let before = before_informed (superiors m j) (after_removal (superiors m) j m) k r e in
-    same_core r.core q.core (sym (ap cores e) ∙ informed_core (superiors m j) (after_removal (superiors m) j m) k ∙ removed_core m j k before.0 before.1 ∙ ap cores is)
+    same_core r.core q.core (sym (ap cores e) ∙ informed_core (superiors m j) (after_removal (superiors m) j m) k
+    ∙ removed_core m j k before.0 before.1 ∙ ap cores is)
 left_core m n j k q r l is (by_uclose i s at write on up) e = same_core r.core q.core (sym (ap cores e) ∙ removed_core m s k r e ∙ ap cores is)
 
 -- the pages and words of a job that is written in
@@ -465,7 +487,8 @@ page_or_same c k b o = elim (cases_Bool (nat_lt b 16)) [
 on_page : (c : Core) (k b v : ℕ) → nat_lt b 16 ≡ false → b / 1024 ≡ k → word_at c b ≡ Some v → word_in (page_of c k) (b % 1024) ≡ Some v
 on_page c k b v t e is = ap (λ a. word_in (page_of c a) (b % 1024)) (sym e) ∙ sym (in_page c b t) ∙ is
 
-same_after : (c : Core) (k b u v : ℕ) (o : Option Page) → word_at c b ≡ Some u → word_at (with_page c k o) b ≡ Some v → (nat_lt b 16 ≡ false → b / 1024 ≡ k → u ≡ v) → u ≡ v
+same_after : (c : Core) (k b u v : ℕ) (o : Option Page) → word_at c b ≡ Some u → word_at (with_page c k o) b ≡ Some v
+    → (nat_lt b 16 ≡ false → b / 1024 ≡ k → u ≡ v) → u ≡ v
 same_after c k b u v o was now here = elim (page_or_same c k b o) [ inl e ↦ same_word u v (sym was ∙ sym e ∙ now) | inr x ↦ here x.0 x.1 ]
 
 no_word : (o : Option Page) (i u : ℕ) → is_some o ≡ false → word_in o i ≡ Some u → ⊥
@@ -480,26 +503,31 @@ marked_word : (o : Option Page) (w : Bool) (i : ℕ) → word_in (marked o w) i 
 marked_word (Some y) w i = refl
 marked_word None w i = refl
 
-word_changed : (q r : Whole) (b u v : ℕ) → ((a : ℕ) → can_store q.core a ≡ true → a < 2 ^ 18) → word_at q.core b ≡ Some u → word_at r.core b ≡ Some v → u ≢ v → Written q r
+word_changed : (q r : Whole) (b u v : ℕ) → ((a : ℕ) → can_store q.core a ≡ true → a < 2 ^ 18) → word_at q.core b ≡ Some u
+    → word_at r.core b ≡ Some v → u ≢ v → Written q r
     → (can_store q.core b ≡ true) × (r.core ≡ store q.core b v)
 word_changed q r b u v near was now new (word_stored a w can) =
     let one = stored_one q.core a w (near a can) in
     elim (cases_eq b a) [
       | inl at ↦ (
-          let is : w ≡ v = same_word w v (sym (word_at-store_same q.core a w can) ∙ ap (word_at (store q.core a w)) (sym at) ∙ ap (λ (c : Core). word_at c b) (sym one) ∙ now) in
+          let is : w ≡ v = same_word w v (sym (word_at-store_same q.core a w can) ∙ ap (word_at (store q.core a w)) (sym at)
+          ∙ ap (λ (c : Core). word_at c b) (sym one) ∙ now) in
           (ap (can_store q.core) at ∙ can, one ∙ ap (λ i. store q.core i w) (sym at) ∙ ap (store q.core b) is)
           )
       | inr ne ↦ absurd (new (same_word u v (sym was ∙ sym (word_at-store_other q.core a b w ne) ∙ ap (λ (c : Core). word_at c b) (sym one) ∙ now)))
     ]
 word_changed q r b u v near was now new (variable_set x w may) = absurd (new (same_word u v (sym was ∙ now)))
 word_changed q r b u v near was now new (page_made k free) =
-    absurd (new (same_after q.core k b u v (Some zero_page) was now (λ t e. absurd (no_word (page_of q.core k) (b % 1024) u free (on_page q.core k b u t e was)))))
+    absurd (new (same_after q.core k b u v (Some zero_page) was now
+    (λ t e. absurd (no_word (page_of q.core k) (b % 1024) u free (on_page q.core k b u t e was)))))
 word_changed q r b u v near was now new (page_dropped k) = absurd (new (same_after q.core k b u v None was now (λ t e.
-    absurd (no_word (page_of (with_page q.core k None) k) (b % 1024) v (ap (λ (o : Option Page). is_some o) (page_of-with_page_none q.core k)) (on_page (with_page q.core k None) k b v t e now)))))
+    absurd (no_word (page_of (with_page q.core k None) k) (b % 1024) v
+    (ap (λ (o : Option Page). is_some o) (page_of-with_page_none q.core k)) (on_page (with_page q.core k None) k b v t e now)))))
 word_changed q r b u v near was now new (page_marked k w) = absurd (new (same_after q.core k b u v (marked (page_of q.core k) w) was now (λ t e.
     let old = on_page q.core k b u t e was in
     same_word u v (sym old ∙ sym (marked_word (page_of q.core k) w (b % 1024))
-    ∙ ap (λ (o : Option Page). word_in o (b % 1024)) (sym (page_of-with_page_present q.core k (marked (page_of q.core k) w) (has_word (page_of q.core k) (b % 1024) u old)))
+    ∙ ap (λ (o : Option Page). word_in o (b % 1024)) (sym (page_of-with_page_present q.core k (marked (page_of q.core k) w)
+    (has_word (page_of q.core k) (b % 1024) u old)))
     ∙ on_page (with_page q.core k (marked (page_of q.core k) w)) k b v t e now))))
 
 module _ (m n : Machine) (j : ℕ) (h : MayStep m j n) where
@@ -554,7 +582,8 @@ module _ (m n : Machine) (j : ℕ) (h : MayStep m j n) where
 
   -- and none takes effect without being one: if every job is there afterwards, no channel, holder
   -- or end of a link changes by a removal
-  pub no_removal_of_nobody : (q : Whole) → m.jobs j ≡ Some q → superiors m j ≢ Some j → ((k : ℕ) → is_some (m.jobs k) ≡ true → is_some (n.jobs k) ≡ true) → h.left ≡ m
+  pub no_removal_of_nobody : (q : Whole) → m.jobs j ≡ Some q → superiors m j ≢ Some j
+      → ((k : ℕ) → is_some (m.jobs k) ≡ true → is_some (n.jobs k) ≡ true) → h.left ≡ m
   no_removal_of_nobody q is apart stay = go h.left h.removes h.jobs
     where
       there : (s : ℕ) → superiors m s ≡ Some j → is_some (m.jobs s) ≡ true
@@ -573,7 +602,8 @@ module _ (m n : Machine) (j : ℕ) (h : MayStep m j n) where
       removed : (l : Machine) → Removes m n j l → ((k : ℕ) → k ≢ j → n.jobs k ≡ l.jobs k) → l ≡ m
       removed l nobody e = refl
       removed l (by_logout gone) e = absurd (is_lost j (ap (λ (o : Option Whole). is_some o) is) gone)
-      removed l (by_uclose i s at write on up) e = absurd (is_lost s (there s up) (e s (λ same. apart (ap (superiors m) (sym same) ∙ up)) ∙ gone_is m s s (root_gone s)))
+      removed l (by_uclose i s at write on up) e = absurd (is_lost s (there s up)
+          (e s (λ same. apart (ap (superiors m) (sym same) ∙ up)) ∙ gone_is m s s (root_gone s)))
 
       go : (l : Machine) → Removes m n j l → JobsMay m l n j → l ≡ m
       go l removes (others_same e) = removed l removes e
@@ -587,19 +617,23 @@ module _ (m n : Machine) (j : ℕ) (h : MayStep m j n) where
   ]
     where
       go : JobMay m n j k → Written q r ⊎ (r.core ≡ q.core)
-      go (job_written a b leave at on w) = inl (subst (λ (x : Whole). Written x r) (same_some a q (sym at ∙ is)) (subst (Written a) (same_some b r (sym on ∙ there)) w))
-      go (superior_informed a up over at on) = inr (ap (λ (x : Whole). x.core) (same_some r (with_inf a) (sym there ∙ on)) ∙ ap (λ (x : Whole). x.core) (same_some a q (sym at ∙ is)))
+      go (job_written a b leave at on w) = inl (subst (λ (x : Whole). Written x r) (same_some a q (sym at ∙ is))
+          (subst (Written a) (same_some b r (sym on ∙ there)) w))
+      go (superior_informed a up over at on) = inr (ap (λ (x : Whole). x.core) (same_some r (with_inf a) (sym there ∙ on))
+          ∙ ap (λ (x : Whole). x.core) (same_some a q (sym at ∙ is)))
       go (job_made u x least free on) = absurd (some_is_not_none (m.jobs k) q is (least_empty (limit m) m.jobs k least))
 
   -- a page that another job gets is of zeros
-  pub no_page_with_words : (k i : ℕ) (q r : Whole) (x : Page) → k ≢ j → m.jobs k ≡ Some q → n.jobs k ≡ Some r → has_page q.core i ≡ false → page_of r.core i ≡ Some x → x ≡ zero_page
+  pub no_page_with_words : (k i : ℕ) (q r : Whole) (x : Page) → k ≢ j → m.jobs k ≡ Some q → n.jobs k ≡ Some r → has_page q.core i ≡ false
+      → page_of r.core i ≡ Some x → x ≡ zero_page
   no_page_with_words k i q r x ne is there none new = elim (core_kept k q r ne is there) [
     | inl w ↦ page_of_zeros q r i x none new w
     | inr e ↦ absurd (is_absent (page_of q.core i) x none (ap (λ (c : Core). page_of c i) (sym e) ∙ new))
   ]
 
   -- at most one word of another job is changed, and it is one that can be stored
-  pub no_word_changed_but_one : (k b u v : ℕ) (q r : Whole) → k ≢ j → m.jobs k ≡ Some q → n.jobs k ≡ Some r → ((a : ℕ) → can_store q.core a ≡ true → a < 2 ^ 18)
+  pub no_word_changed_but_one : (k b u v : ℕ) (q r : Whole) → k ≢ j → m.jobs k ≡ Some q → n.jobs k ≡ Some r
+      → ((a : ℕ) → can_store q.core a ≡ true → a < 2 ^ 18)
       → word_at q.core b ≡ Some u → word_at r.core b ≡ Some v → u ≢ v → (can_store q.core b ≡ true) × (r.core ≡ store q.core b v)
   no_word_changed_but_one k b u v q r ne is there near was now new = elim (core_kept k q r ne is there) [
     | inl w ↦ word_changed q r b u v near was now new w
@@ -611,15 +645,21 @@ not_this : (o : Option ℕ) (k : ℕ) → o ≢ Some k → is_this o k ≡ false
 not_this (Some s) k ne = ne_eqb k s (λ e. ne (ap Some (sym e)))
 not_this None k ne = refl
 
-pub no_other_slot_loaded : (m n : Machine) (b : Block) (u x : ℕ) (console : Option ℕ) (k : ℕ) → OnlyParts (touched m b (events.Load u x console)) m n → least_free (limit m) m.jobs ≢ Some k
+pub no_other_slot_loaded : (m n : Machine) (b : Block) (u x : ℕ) (console : Option ℕ) (k : ℕ)
+    → OnlyParts (touched m b (events.Load u x console)) m n → least_free (limit m) m.jobs ≢ Some k
     → (n.jobs k ≡ m.jobs k) × (n.symbols k ≡ m.symbols k)
-no_other_slot_loaded m n b u x console k h ne = (h.jobs k (not_this (least_free (limit m) m.jobs) k ne), h.symbols k (not_this (least_free (limit m) m.jobs) k ne))
+no_other_slot_loaded m n b u x console k h ne = (
+  h.jobs k (not_this (least_free (limit m) m.jobs) k ne),
+  h.symbols k (not_this (least_free (limit m) m.jobs) k ne),
+)
 
 -- and no console but that of its line, if nobody holds it
-pub no_other_console_loaded : (m n : Machine) (b : Block) (u x : ℕ) (console : Option ℕ) (c : ℕ) → OnlyParts (touched m b (events.Load u x console)) m n → console ≢ Some c → n.holders c ≡ m.holders c
+pub no_other_console_loaded : (m n : Machine) (b : Block) (u x : ℕ) (console : Option ℕ) (c : ℕ)
+    → OnlyParts (touched m b (events.Load u x console)) m n → console ≢ Some c → n.holders c ≡ m.holders c
 no_other_console_loaded m n b u x console c h ne = h.holders c (ap (λ t. t && is_none (m.holders c)) (not_this console c ne))
 
-pub no_holder_replaced : (m n : Machine) (b : Block) (u x : ℕ) (console : Option ℕ) (c s : ℕ) → OnlyParts (touched m b (events.Load u x console)) m n → m.holders c ≡ Some s → n.holders c ≡ m.holders c
+pub no_holder_replaced : (m n : Machine) (b : Block) (u x : ℕ) (console : Option ℕ) (c s : ℕ)
+    → OnlyParts (touched m b (events.Load u x console)) m n → m.holders c ≡ Some s → n.holders c ≡ m.holders c
 no_holder_replaced m n b u x console c s h held = h.holders c (ap (λ o. is_this console c && is_none o) held ∙ and_false (is_this console c))
   where
     and_false : (t : Bool) → t && false ≡ false

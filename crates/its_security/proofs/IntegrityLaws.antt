@@ -2,11 +2,11 @@
 use Rattle.std.specs.Prelude.{◌≡◌, ℕ, Bool, true, false, Option, Some, None, is_some, refl}
 use Rattle.std.proofs.Common.{sym, ◌∙◌, ap, subst, inl, inr}
 use Rattle.its_records.specs.declared.link.End.TheVariants.{Opened}
-use Rattle.its_plain.specs.CallStep.{step}
-use Rattle.its_plain.specs.Change.{console_in, channel_in}
+use Rattle.its_plain.specs.Call.Step.{step}
+use Rattle.its_plain.specs.Machine.Change.{console_in, channel_in}
 use Rattle.its_plain.specs.Machine.{Chan, Shut, TtyIn, TtyOut, Reads, Writes, On, Linked, Pipe, Whole, Machine}
 use Rattle.its_stepped.specs.Forest.{OnInferior, OnConsole, OnLink, end_at, Forest}
-use Rattle.its_stepped.proofs.FitLaws.{forest_steps}
+use Rattle.its_stepped.proofs.Duties.FitLaws.{forest_steps}
 use Rattle.its_security.specs.Integrity.{Removes, nobody, IsOpenAt, MayBeOn, Keeps, OwnMay, own_kept, own_gone, MayStep}
 use Rattle.its_security.proofs.OthersLaws.{open_at, Fate, Others, no_others, step_others}
 use Rattle.its_security.proofs.OwnJobLaws.{Stays, StaysBy, unchanged, step_stays}
@@ -32,13 +32,15 @@ keeps n j q r d at h = record {
   console = h.names.console;
   superior = h.superior;
   channels = h.channels;
-  reach = λ i. subst (λ (o : Option Whole). MayBeOn n j i (channel_in o i)) at (may_be_on n j i (channel_in (n.jobs j) i) (d.consoles j i) (d.channels j i) (d.links.channels j i));
+  reach = λ i. subst (λ (o : Option Whole). MayBeOn n j i (channel_in o i)) at
+      (may_be_on n j i (channel_in (n.jobs j) i) (d.consoles j i) (d.channels j i) (d.links.channels j i));
   ends = λ i k write open_. ap (λ (o : Option Whole). channel_in o i) (sym at) ∙ d.links.ends k j i write (at_open_end j i write (n.links k) open_);
 }
 
 own_may : (m l n : Machine) (j : ℕ) (q : Whole) (o : Option Whole) → Forest n → m.jobs j ≡ Some q → n.jobs j ≡ o → StaysBy q o → Fate m l n j → OwnMay m l n j
 own_may m l n j q (Some r) d is at h fate = own_kept q r is at (keeps n j q r d at h)
-own_may m l n j q None d is at h (inl e) = absurd (let no : false ≡ true = sym (ap (λ (p : Option Whole). is_some p) at) ∙ e ∙ ap (λ (p : Option Whole). is_some p) is in cc)
+own_may m l n j q None d is at h (inl e) = absurd (let no : false ≡ true = sym (ap (λ (p : Option Whole). is_some p) at) ∙ e
+    ∙ ap (λ (p : Option Whole). is_some p) is in cc)
 own_may m l n j q None d is at h (inr gone) = own_gone gone at
 
 may_step : (m l n : Machine) (j : ℕ) → Removes m n j l → Others m l j n → OwnMay m l n j → MayStep m j n

@@ -24,37 +24,37 @@ use Rattle.its_word.specs.declared.plan.Store.{Store}
 use Rattle.its_frame.specs.declared.decision.Decision.{Decision}
 use Rattle.its_frame.specs.declared.decision.Decision.TheVariants.{Waits, Ends}
 use Rattle.its_frame.specs.declared.variable.Variable.{Variable}
-use Rattle.its_plain.specs.Arguments.{input, has_input, place_of_input}
-use Rattle.its_plain.specs.CallBasic.{ioc, dismissed_by, dismiss_at, dismiss, Oneself, by_oneself, by_superior, set_own, own_variable, set_other, value_of_other, other_variable, usrvar_of, party_on, is_oneself, usrvar, logout, told_superior, channel_at, alarm_of, is_superior}
-use Rattle.its_plain.specs.CallFile.{channels_in, channels_by, is_read}
-use Rattle.its_plain.specs.CallStep.{after_moves, acted, decision, Transition, informs, step}
-use Rattle.its_plain.specs.CallTty.{view_console, has_console, can_take, is_holder, lands, ttylnd_of, ttylnd}
-use Rattle.its_plain.specs.Transfer.{iot_ends}
-use Rattle.its_plain.specs.CallUsr.{other_core, has_names, any_named, inferior_named, makes_job, opens_job, usr_tests, opens_usr, uclose_on, uclose}
-use Rattle.its_plain.specs.Change.{with_page_at, on_slot, in_job, channel_in, superior_in, superiors, console_in, after_take, after_put, on_console, is_gone, chan_after_removal, after_shut, job_after_removal, after_removal, with_inf, after_end_close, with_sent, with_received, on_link, effect, effects}
-use Rattle.its_plain.specs.Decide.{call_row, call_named, decided_by, decided, target, reach}
+use Rattle.its_plain.specs.Call.Arguments.{input, has_input, place_of_input}
+use Rattle.its_plain.specs.Call.Basic.{ioc, dismissed_by, dismiss_at, dismiss, Oneself, by_oneself, by_superior, set_own, own_variable, set_other, value_of_other, other_variable, usrvar_of, party_on, is_oneself, usrvar, logout, told_superior, channel_at, alarm_of, is_superior}
+use Rattle.its_plain.specs.Call.File.{channels_in, channels_by, is_read}
+use Rattle.its_plain.specs.Call.Step.{after_moves, acted, decision, Transition, informs, step}
+use Rattle.its_plain.specs.Call.Tty.{view_console, has_console, can_take, is_holder, lands, ttylnd_of, ttylnd}
+use Rattle.its_plain.specs.Call.Transfer.{iot_ends}
+use Rattle.its_plain.specs.Call.Usr.{other_core, has_names, any_named, inferior_named, makes_job, opens_job, usr_tests, opens_usr, uclose_on, uclose}
+use Rattle.its_plain.specs.Machine.Change.{with_page_at, on_slot, in_job, channel_in, superior_in, superiors, console_in, after_take, after_put, on_console, is_gone, chan_after_removal, after_shut, job_after_removal, after_removal, with_inf, after_end_close, with_sent, with_received, on_link, effect, effects}
+use Rattle.its_plain.specs.Call.Decide.{call_row, call_named, decided_by, decided, target, reach}
 use Rattle.its_security.specs.Integrity.{MayWrite, Written, word_stored, variable_set, page_made, page_dropped, page_marked, with_inf_in, Removes, nobody, by_logout, by_uclose, IsStopped, NoJobNamed, JobMay, job_written, superior_informed, job_made, JobsMay, others_same, one_changes, IsOpenAt, Uses, ConsoleMay, bytes_same, byte_taken, byte_put, CanTake, from_nobody, from_itself, from_inferior, HolderMay, holder_same, console_taken, console_given, FilesMay, files_same, draft_closed, file_deleted, file_renamed, SymbolsMay, symbols_same, symbols_none, LinkFor, is_there, is_new, AtEnd, LinkMay, end_opened, word_sent, word_received, end_shut, LinksMay, links_same, one_link_changes}
-use Rattle.its_plain.specs.Interrupt.{after_dismissal, Delivered, delivered, unguarded, through_table, by_table, by_length, by_entry, by_pointer, by_stores, pushed, entries_of, first_entry, Entry}
+use Rattle.its_plain.specs.Unit.Interrupt.{after_dismissal, Delivered, delivered, unguarded, through_table, by_table, by_length, by_entry, by_pointer, by_stores, pushed, entries_of, first_entry, Entry}
 use Rattle.its_plain.specs.Machine.{core_of, Chan, Shut, TtyIn, TtyOut, Reads, Writes, On, Linked, Pipe, Whole, Machine, changed, limit}
-use Rattle.its_plain.specs.OperatorFiles.{channels_of}
-use Rattle.its_plain.specs.Own.{on_channel}
-use Rattle.its_plain.specs.Tests.{◌⇒◌, finishes, fails, faults, goes, out}
-use Rattle.its_plain.specs.View.{View, job_at, outline, view}
+use Rattle.its_plain.specs.Operator.Files.{channels_of}
+use Rattle.its_plain.specs.Machine.Own.{on_channel}
+use Rattle.its_plain.specs.Call.Tests.{◌⇒◌, finishes, fails, faults, goes, out}
+use Rattle.its_plain.specs.Machine.View.{View, job_at, outline, view}
 use Rattle.its_frame.specs.declared.name.CallName.{CallName}
-use Rattle.its_plain.specs.CallCore.{has_page}
-use Rattle.its_plain.specs.CallLink.{has_link_names, link_named}
+use Rattle.its_plain.specs.Call.Core.{has_page}
+use Rattle.its_plain.specs.Call.Link.{has_link_names, link_named}
 use Rattle.its_records.specs.Links.{most_links}
 use Rattle.its_records.specs.declared.link.End.TheVariants as ends
 use Rattle.its_plain.proofs.TargetLaws.{target_on}
 use Rattle.its_plain.proofs.StepLaws.{AllOf, EachCase, step_has}
 use Rattle.its_stepped.specs.Forest.{OnInferior, OnConsole, end_at, Forest}
-use Rattle.its_stepped.proofs.ChannelLaws.{at_open}
-use Rattle.its_stepped.proofs.JoinedLaws.{opened_link, linked_at}
-use Rattle.its_stepped.proofs.CallWays.{Writable, AtConsole, Closable, AtLink, Joinable, Mild, AllStill, AllMild, Ways, Apart, call_ways}
-use Rattle.its_stepped.proofs.CallWays as ways
-use Rattle.its_stepped.proofs.FitLaws.{superior_outlined}
-use Rattle.its_stepped.proofs.ForestLaws.{on_inferior, forest_below, job_few}
-use Rattle.its_stepped.proofs.TestLaws.{by_test, first_holds}
+use Rattle.its_stepped.proofs.Committing.ChannelLaws.{at_open}
+use Rattle.its_stepped.proofs.Keeping.JoinedLaws.{opened_link, linked_at}
+use Rattle.its_stepped.proofs.Duties.CallWays.{Writable, AtConsole, Closable, AtLink, Joinable, Mild, AllStill, AllMild, Ways, Apart, call_ways}
+use Rattle.its_stepped.proofs.Duties.CallWays as ways
+use Rattle.its_stepped.proofs.Duties.FitLaws.{superior_outlined}
+use Rattle.its_stepped.proofs.Keeping.ForestLaws.{on_inferior, forest_below, job_few}
+use Rattle.its_stepped.proofs.Committing.TestLaws.{by_test, first_holds}
 use Rattle.its_security.proofs.ReaderLaws.{any_below}
 
 -- what a step may do to others it may do with a change of the own job after it
@@ -174,7 +174,8 @@ stays_all : (m : Machine) (j : ℕ) (n : Machine) → Others m m j n → Outer m
 stays_all m j n h = record { left = m; removes = nobody; others = h }
 
 -- a step that changes the jobs alone
-others_alone : (m : Machine) (j : ℕ) (jobs : ℕ → Option Whole) → is_some (jobs j) ≡ is_some (m.jobs j) → JobsMay m m (record m { jobs = jobs }) j → Others m m j (record m { jobs = jobs })
+others_alone : (m : Machine) (j : ℕ) (jobs : ℕ → Option Whole) → is_some (jobs j) ≡ is_some (m.jobs j)
+    → JobsMay m m (record m { jobs = jobs }) j → Others m m j (record m { jobs = jobs })
 others_alone m j jobs same h = record {
   fate = inl same;
   jobs = h;
@@ -187,7 +188,8 @@ others_alone m j jobs same h = record {
   version = refl;
 }
 
-jobs_alone : (m : Machine) (j : ℕ) (jobs : ℕ → Option Whole) → is_some (jobs j) ≡ is_some (m.jobs j) → JobsMay m m (record m { jobs = jobs }) j → Outer m j (record m { jobs = jobs })
+jobs_alone : (m : Machine) (j : ℕ) (jobs : ℕ → Option Whole) → is_some (jobs j) ≡ is_some (m.jobs j)
+    → JobsMay m m (record m { jobs = jobs }) j → Outer m j (record m { jobs = jobs })
 jobs_alone m j jobs same h = stays_all m j (record m { jobs = jobs }) (others_alone m j jobs same h)
 
 pub no_others : (m : Machine) (j : ℕ) → Others m m j m
@@ -224,7 +226,8 @@ writes m j s f leave w = elim (cases_eq s j) [
   ])
 ]
 
-writes_or_own : (m : Machine) (j s : ℕ) (f : Whole → Whole) → (s ≡ j) ⊎ MayWrite m j s → ((q : Whole) → m.jobs s ≡ Some q → Written q (f q)) → Outer m j (in_job m s f)
+writes_or_own : (m : Machine) (j s : ℕ) (f : Whole → Whole) → (s ≡ j) ⊎ MayWrite m j s → ((q : Whole) → m.jobs s ≡ Some q → Written q (f q))
+    → Outer m j (in_job m s f)
 writes_or_own m j s f (inl same) w = subst (λ (i : ℕ). Outer m j (in_job m i f)) (sym same) (own m j f)
 writes_or_own m j s f (inr leave) w = writes m j s f leave w
 
@@ -292,7 +295,8 @@ channels_seen : (m : Machine) (j : ℕ) (q : Whole) (t : Option ℕ) → channel
 unfolding view
 channels_seen m j q t = λ i. λ k. λ n. channels_seen_at (m.jobs k) n i
 
-unread_seen : (m : Machine) (j : ℕ) (q : Whole) (t : Option ℕ) (names : List ℕ) → is_read names (channels_in (view m j q t)) ≡ false → is_read names (channels_of m) ≡ false
+unread_seen : (m : Machine) (j : ℕ) (q : Whole) (t : Option ℕ) (names : List ℕ) → is_read names (channels_in (view m j q t)) ≡ false
+    → is_read names (channels_of m) ≡ false
 unread_seen m j q t names h = ap (is_read names) (sym (channels_seen m j q t)) ∙ h
 
 own_channel : (m : Machine) (j : ℕ) (q : Whole) (n : ℕ) (c : Chan) → m.jobs j ≡ Some q → channel_at q.channels n ≡ c → c ≢ Shut → channel_in (m.jobs j) n ≡ c
@@ -311,11 +315,13 @@ may_write m j q t s d is w = record {
   up = on_inferior m j q w.channel s w.position true d is w.is;
 }
 
-console_some : (o : Option ℕ) → is_some o ≡ true → o ≡ Some (unwrap_or o 0)
+-- a channel on the console is of a job that has one
+pub console_some : (o : Option ℕ) → is_some o ≡ true → o ≡ Some (unwrap_or o 0)
 console_some (Some c) h = refl
 console_some None h = cc
 
-on_console_open : (o : Option ℕ) (channels : ℕ → Chan) (n : ℕ) → ways.OnConsole (channel_at channels n) → ((i : ℕ) → OnConsole o (channels i)) → is_some o ≡ true
+pub on_console_open : (o : Option ℕ) (channels : ℕ → Chan) (n : ℕ) → ways.OnConsole (channel_at channels n)
+    → ((i : ℕ) → OnConsole o (channels i)) → is_some o ≡ true
 on_console_open o channels n h each = go (nat_lt n 16) h
   where
     on : (c : Chan) → ways.OnConsole c → OnConsole o c → is_some o ≡ true
@@ -331,13 +337,14 @@ on_console_open o channels n h each = go (nat_lt n 16) h
     go true h = on (channels n) h (each n)
     go false h = absurd h
 
-each_console : (m : Machine) (j : ℕ) (q : Whole) → Forest m → m.jobs j ≡ Some q → (i : ℕ) → OnConsole q.job.console (q.channels i)
+pub each_console : (m : Machine) (j : ℕ) (q : Whole) → Forest m → m.jobs j ≡ Some q → (i : ℕ) → OnConsole q.job.console (q.channels i)
 each_console m j q d is i = subst (λ (o : Option Whole). OnConsole (console_in o) (channel_in o i)) is (d.consoles j i)
 
 uses : (m : Machine) (j : ℕ) (q : Whole) (t : Option ℕ) (c : ℕ) → Forest m → m.jobs j ≡ Some q → AtConsole (view m j q t) c → Uses m j c
 unfolding view
 uses m j q t c d is h = record {
-  own = ap console_in is ∙ console_some q.job.console (on_console_open q.job.console q.channels h.channel h.is (each_console m j q d is)) ∙ ap Some (sym h.own);
+  own = ap console_in is ∙ console_some q.job.console (on_console_open q.job.console q.channels h.channel h.is (each_console m j q d is))
+      ∙ ap Some (sym h.own);
   free = h.free;
 }
 
@@ -382,7 +389,8 @@ module _ (m : Machine) (j : ℕ) (q : Whole) (t : Option ℕ) (d : Forest m) (is
   own_link n c on = ap (λ (o : Option Whole). channel_in o n) is ∙ on
 
   own_end : (n l : ℕ) (write : Bool) → q.channels n ≡ Linked l write → AtEnd m j n l write
-  own_end n l write on = let at = own_link n (Linked l write) on in record { is = at; end = open_at j n write (m.links l) (linked_at m j n l write d.links at).1 }
+  own_end n l write on = let at = own_link n (Linked l write) on in record
+      { is = at; end = open_at j n write (m.links l) (linked_at m j n l write d.links at).1 }
 
   joins_may : (n l : ℕ) (write : Bool) (x y : ℕ) → Joinable (view m j q t) n l write x y → Outer m j (effect (changes.Join n l write x y) j m)
   unfolding effect view
@@ -394,7 +402,7 @@ module _ (m : Machine) (j : ℕ) (q : Whole) (t : Option ℕ) (d : Forest m) (is
       named (inl has) = is_there has
       named (inr fresh) = is_new fresh.1 fresh.0
 
-  parts_may : (n l : ℕ) (write : Bool) → Mild (Reached t) (view m j q t) (changes.Part n l write) → Outer m j (effect (changes.Part n l write) j m)
+  parts_may : (n l : ℕ) (write : Bool) → Mild (Reached t) (view m j q t) (changes.CloseEnd n l write) → Outer m j (effect (changes.CloseEnd n l write) j m)
   unfolding effect view
   parts_may n l write h =
       link_alone m j l (on_channel n (λ c. Shut)) (after_end_close write) (λ q. refl)
@@ -412,10 +420,12 @@ module _ (m : Machine) (j : ℕ) (q : Whole) (t : Option ℕ) (d : Forest m) (is
       words_alone m j l (option_map with_received)
       (word_received h.channel (own_end h.channel l false h.is) (link_here m l (option_map with_received)))
 
-  maps_may : (s k : ℕ) → (s ≡ (view m j q t).slot) ⊎ (Writable (Reached t) (view m j q t) s × (has_page (other_core (view m j q t)) k ≡ false)) → Outer m j (effect (changes.Map s k) j m)
+  maps_may : (s k : ℕ) → (s ≡ (view m j q t).slot) ⊎ (Writable (Reached t) (view m j q t) s
+      × (has_page (other_core (view m j q t)) k ≡ false)) → Outer m j (effect (changes.Map s k) j m)
   unfolding effect view
   maps_may s k (inl same) = subst (λ (i : ℕ). Outer m j (in_job m i (with_page_at k (Some zero_page)))) (sym same) (own m j (with_page_at k (Some zero_page)))
-  maps_may s k (inr h) = writes m j s (with_page_at k (Some zero_page)) (may_write m j q t s d is h.0) (λ r at. page_made k (ap (λ (c : Core). has_page c k) (sym (other_is s r h.0.reached at)) ∙ h.1))
+  maps_may s k (inr h) = writes m j s (with_page_at k (Some zero_page)) (may_write m j q t s d is h.0)
+      (λ r at. page_made k (ap (λ (c : Core). has_page c k) (sym (other_is s r h.0.reached at)) ∙ h.1))
 
   mild_may : (c : Change) → Mild (Reached t) (view m j q t) c → Outer m j (effect c j m)
   unfolding effect
@@ -426,14 +436,15 @@ module _ (m : Machine) (j : ℕ) (q : Whole) (t : Option ℕ) (d : Forest m) (is
   mild_may (changes.Close n) h = closes_may n h
   mild_may (changes.Take c) h = bytes_alone m j c after_take (byte_taken (uses m j q t c d is h) (console_here m c after_take))
   mild_may (changes.Put c b) h = bytes_alone m j c (after_put b) (byte_put b (uses m j q t c d is h) (console_here m c (after_put b)))
-  mild_may (changes.Poke s p w) h = writes m j s _ (may_write m j q t s d is h.0) (λ r at. word_stored p w (ap (λ (c : Core). can_store c p) (sym (other_is s r h.0.reached at)) ∙ h.1))
+  mild_may (changes.Poke s p w) h = writes m j s _ (may_write m j q t s d is h.0)
+      (λ r at. word_stored p w (ap (λ (c : Core). can_store c p) (sym (other_is s r h.0.reached at)) ∙ h.1))
   mild_may (changes.Map s k) h = maps_may s k h
   mild_may (changes.Unmap s k) h = writes_or_own m j s _ (own_or s h) (λ r at. page_dropped k)
   mild_may (changes.Protect s k w) h = writes_or_own m j s _ (own_or s h) (λ r at. page_marked k w)
   mild_may (changes.Delete e x y) h = files_alone m j _ refl (file_deleted _ (unread_seen m j q t _ h) refl)
   mild_may (changes.Rename e x y u v) h = renames_may e x y u v h
   mild_may (changes.Join n l write x y) h = joins_may n l write x y h
-  mild_may (changes.Part n l write) h = parts_may n l write h
+  mild_may (changes.CloseEnd n l write) h = parts_may n l write h
   mild_may (changes.Send l w) h = sends_may l w h
   mild_may (changes.Receive l) h = receives_may l h
   mild_may _ h = absurd h
@@ -444,7 +455,8 @@ still_may m n j [] h may = may
 still_may m n j (changes.Move i at ∷ cs) h may = still_may m (effect (changes.Move i at) j n) j cs h.1 (then_own m n j _ (λ q. refl) may)
 still_may m n j (c ∷ cs) h may = absurd h.0
 
-all_may : (m : Machine) (j : ℕ) (q : Whole) (t : Option ℕ) (cs : List Change) → Forest m → m.jobs j ≡ Some q → AllMild (Reached t) (view m j q t) cs → Outer m j (effects cs j m)
+all_may : (m : Machine) (j : ℕ) (q : Whole) (t : Option ℕ) (cs : List Change) → Forest m → m.jobs j ≡ Some q
+    → AllMild (Reached t) (view m j q t) cs → Outer m j (effects cs j m)
 all_may m j q t [] d is h = nothing m j
 all_may m j q t (c ∷ cs) d is h = still_may m (effect c j m) j cs h.1 (mild_may m j q t d is c h.0)
 
@@ -537,7 +549,8 @@ stays_below sup r s k up stays root = elim (cases_Bool (is_gone sup r s)) [
       ])
 ]
 
-channel_stays : (m : Machine) (r k : ℕ) (c : Chan) → OnInferior m k c → is_gone (superiors m) r k ≡ false → superiors m r ≢ Some k → chan_after_removal (is_gone (superiors m) r) c ≡ c
+channel_stays : (m : Machine) (r k : ℕ) (c : Chan) → OnInferior m k c → is_gone (superiors m) r k ≡ false → superiors m r ≢ Some k
+    → chan_after_removal (is_gone (superiors m) r) c ≡ c
 channel_stays m r k (On s write at) h stays root = rw (stays_below (superiors m) r s k h stays root) refl
 channel_stays m r k Shut h stays root = refl
 channel_stays m r k TtyIn h stays root = refl
@@ -553,7 +566,8 @@ pub left_same : (m : Machine) (r k : ℕ) (o : Option Whole) → m.jobs k ≡ o 
     → job_after_removal (is_gone (superiors m) r) false o ≡ o
 left_same m r k None is d stays root = refl
 left_same m r k (Some q) is d stays root =
-    ap Some (shut_same (is_gone (superiors m) r) q (λ n. channel_stays m r k (q.channels n) (subst (λ (o : Option Whole). OnInferior m k (channel_in o n)) is (d.channels k n)) stays root))
+    ap Some (shut_same (is_gone (superiors m) r) q (λ n. channel_stays m r k (q.channels n)
+    (subst (λ (o : Option Whole). OnInferior m k (channel_in o n)) is (d.channels k n)) stays root))
 
 -- what is left, and nothing more
 left_alone : (m l : Machine) (j : ℕ) → l.consoles ≡ m.consoles → l.files ≡ m.files → l.clock ≡ m.clock → l.version ≡ m.version → Fate m l l j → Others m l j l
@@ -599,7 +613,8 @@ unfolding effect after_removal
 told_may m j None up = record {
   left = with_inf_in (superiors m j) (after_removal (superiors m) j m);
   removes = by_logout (own_gone m j);
-  others = subst (λ (o : Option ℕ). Others m (with_inf_in o (after_removal (superiors m) j m)) j (after_removal (superiors m) j m)) (sym up) (left_alone m (after_removal (superiors m) j m) j refl refl refl refl (inr (own_gone m j)));
+  others = subst (λ (o : Option ℕ). Others m (with_inf_in o (after_removal (superiors m) j m)) j (after_removal (superiors m) j m)) (sym up)
+      (left_alone m (after_removal (superiors m) j m) j refl refl refl refl (inr (own_gone m j)));
 }
 told_may m j (Some s) up =
     let n = in_job (after_removal (superiors m) j m) s with_inf in
@@ -607,7 +622,8 @@ told_may m j (Some s) up =
     record {
       left = with_inf_in (superiors m j) (after_removal (superiors m) j m);
       removes = by_logout gone;
-      others = subst (λ (o : Option ℕ). Others m (with_inf_in o (after_removal (superiors m) j m)) j n) (sym up) (left_alone m n j refl refl refl refl (inr gone));
+      others = subst (λ (o : Option ℕ). Others m (with_inf_in o (after_removal (superiors m) j m)) j n) (sym up)
+          (left_alone m n j refl refl refl refl (inr gone));
     }
 
 -- DISMIS
@@ -627,20 +643,23 @@ dismiss_may m j x a = go (place_of_input a 0)
 own_variable_may : (m : Machine) (j : ℕ) (x : View) (a : Ask) (o : Option Variable) → Permitted m j (own_variable x a o)
 own_variable_may m j x a None = ends_may m j x a 0o22
 own_variable_may m j x a (Some y) =
-    by_test (Permitted m j) (has_input a 2 && not (by_oneself y)) (fails x a 0o22) (set_own x a y (has_input a 2)) (λ t. ends_may m j x a 0o22) (λ t. go (has_input a 2))
+    by_test (Permitted m j) (has_input a 2 && not (by_oneself y)) (fails x a 0o22) (set_own x a y (has_input a 2))
+    (λ t. ends_may m j x a 0o22) (λ t. go (has_input a 2))
   where
     go : (b : Bool) → Permitted m j (set_own x a y b)
     go true = left_may m j _ _
     go false = finish_may m j x [] _ (nothing m j)
 
-set_may : (m : Machine) (j s : ℕ) (y : Variable) (w : ℕ) (new write : Bool) → (write ≡ true → MayWrite m j s) → (new && not write) ≡ false → (new && not (by_superior y)) ≡ false
+set_may : (m : Machine) (j s : ℕ) (y : Variable) (w : ℕ) (new write : Bool) → (write ≡ true → MayWrite m j s) → (new && not write) ≡ false
+    → (new && not (by_superior y)) ≡ false
     → Outer m j (effects (set_other s y w new) j m)
 unfolding effect
 set_may m j s y w false write leave may can = nothing m j
 set_may m j s y w true true leave may can = writes m j s _ (leave refl) (λ r at. variable_set y w (not-false (by_superior y) can))
 set_may m j s y w true false leave may can = cc
 
-other_variable_may : (m : Machine) (j s : ℕ) (x : View) (a : Ask) (write : Bool) (o : Option Variable) → (write ≡ true → MayWrite m j s) → Permitted m j (other_variable x a s write o)
+other_variable_may : (m : Machine) (j s : ℕ) (x : View) (a : Ask) (write : Bool) (o : Option Variable) → (write ≡ true → MayWrite m j s)
+    → Permitted m j (other_variable x a s write o)
 other_variable_may m j s x a write None leave = ends_may m j x a 0o22
 other_variable_may m j s x a write (Some y) leave =
     let cs = set_other s y (input a 2) (has_input a 2) in
@@ -651,7 +670,8 @@ other_variable_may m j s x a write (Some y) leave =
     (λ t. finish_may m j x cs _ (set_may m j s y (input a 2) (has_input a 2) write leave t.0 t.1.0))
 
 -- a channel of the caller
-leave_of : (m : Machine) (j : ℕ) (q : Whole) (n s at : ℕ) (write : Bool) → Forest m → m.jobs j ≡ Some q → channel_at q.channels n ≡ On s write at → write ≡ true → MayWrite m j s
+leave_of : (m : Machine) (j : ℕ) (q : Whole) (n s at : ℕ) (write : Bool) → Forest m → m.jobs j ≡ Some q
+    → channel_at q.channels n ≡ On s write at → write ≡ true → MayWrite m j s
 leave_of m j q n s at write d is on w = record {
   channel = n;
   position = at;
@@ -778,11 +798,14 @@ module _ (m : Machine) (j : ℕ) (q : Whole) (t : Option ℕ) (a : Ask) (d : For
   unfolding view
   own_console h = ap console_in is ∙ console_some q.job.console h
 
-  lands_may : (may : Bool) (number s : ℕ) → (has_console x ≡ true → may ≡ true → HolderMay m m (effect (changes.Hold (view_console x) s) j m) j (view_console x)) → Permitted m j (lands x a may number s)
+  lands_may : (may : Bool) (number s : ℕ) → (has_console x ≡ true → may ≡ true
+      → HolderMay m m (effect (changes.Hold (view_console x) s) j m) j (view_console x)) → Permitted m j (lands x a may number s)
   lands_may may number s h =
-      first_holds (Permitted m j) (not (has_console x) ⇒ fails x a 0o5 ∷ not may ⇒ fails x a number ∷ []) (finishes x (changes.Hold (view_console x) s ∷ []) [])
+      first_holds (Permitted m j) (not (has_console x) ⇒ fails x a 0o5 ∷ not may ⇒ fails x a number ∷ [])
+      (finishes x (changes.Hold (view_console x) s ∷ []) [])
       (λ e. ends_may m j x a 0o5, (λ e. ends_may m j x a number, tt))
-      (λ e. finish_may m j x (changes.Hold (view_console x) s ∷ []) [] (holds_may (view_console x) s (h (not-false (has_console x) e.0) (not-false may e.1.0))))
+      (λ e. finish_may m j x (changes.Hold (view_console x) s ∷ []) []
+      (holds_may (view_console x) s (h (not-false (has_console x) e.0) (not-false may e.1.0))))
 
   takes : (c : ℕ) (o : Option ℕ) → m.holders c ≡ o → can_take x o ≡ true → CanTake m j c
   unfolding view
@@ -812,7 +835,8 @@ module _ (m : Machine) (j : ℕ) (q : Whole) (t : Option ℕ) (a : Ask) (d : For
       on_channel Shut on = ends_may m j x a 0o4
       on_channel (On s write at) on =
           lands_may (is_holder x (x.holders c)) 0o5 s
-          (λ has may. console_given s refl (own_console has) (holder_is c (m.holders c) refl may) (on_inferior m j q (input a 0) s at write d is on) (held_here c s))
+          (λ has may. console_given s refl (own_console has) (holder_is c (m.holders c) refl may)
+          (on_inferior m j q (input a 0) s at write d is on) (held_here c s))
       on_channel _ on = ends_may m j x a 0o5
 
       go : (b : Bool) (k : Chan) → channel_at q.channels (input a 0) ≡ k → Permitted m j (ttylnd_of x a (if b then Oneself else party_on k))
@@ -827,7 +851,8 @@ module _ (m : Machine) (j : ℕ) (q : Whole) (t : Option ℕ) (a : Ask) (d : For
   uclose_may = go (channel_at q.channels (input a 0)) refl
     where
       goes_may : (s : ℕ) (write : Bool) (at : ℕ) → channel_at q.channels (input a 0) ≡ On s write at → Outer m j (effects (changes.Remove s ∷ []) j m)
-      goes_may s write at on = uclosed_may m j s (input a 0) at write d (own_channel m j q (input a 0) (On s write at) is on (λ e. cc)) (on_inferior m j q (input a 0) s at write d is on)
+      goes_may s write at on = uclosed_may m j s (input a 0) at write d (own_channel m j q (input a 0) (On s write at) is on (λ e. cc))
+          (on_inferior m j q (input a 0) s at write d is on)
 
       go : (c : Chan) → channel_at q.channels (input a 0) ≡ c → Permitted m j (uclose_on x a c)
       go (On s write at) on = finish_may m j x (changes.Remove s ∷ []) [] (goes_may s write at on)
@@ -858,11 +883,13 @@ module _ (m : Machine) (j : ℕ) (q : Whole) (t : Option ℕ) (a : Ask) (d : For
     uclose = uclose_may;
   }
 
-  decided_may : (a.fail ≡ 0 → (c : CallName) (i s at : ℕ) (write : Bool) → call_named a.name ≡ Some c → (call_row c).reaches ≡ Some i → channel_at q.channels (input a i) ≡ On s write at → t ≡ Some s) → Permitted m j (decided x a)
+  decided_may : (a.fail ≡ 0 → (c : CallName) (i s at : ℕ) (write : Bool) → call_named a.name ≡ Some c → (call_row c).reaches ≡ Some i
+      → channel_at q.channels (input a i) ≡ On s write at → t ≡ Some s) → Permitted m j (decided x a)
   unfolding decided view
   decided_may see =
       let o = call_named a.name in
-      by_test (Permitted m j) (a.fail == 0) (decided_by x a o) (fails x a a.fail) (λ e. call_ways (Permitted m j) (Reached t) x a o ways_may (see (eqb-true a.fail 0 e)) (waits_may m j) apart_may) (λ e. ends_may m j x a a.fail)
+      by_test (Permitted m j) (a.fail == 0) (decided_by x a o) (fails x a a.fail)
+      (λ e. call_ways (Permitted m j) (Reached t) x a o ways_may (see (eqb-true a.fail 0 e)) (waits_may m j) apart_may) (λ e. ends_may m j x a a.fail)
 
 decision_may : (m : Machine) (j : ℕ) (q : Whole) (a : Ask) → Forest m → m.jobs j ≡ Some q → Permitted m j (decision m j q a)
 unfolding decision
@@ -898,7 +925,8 @@ delivery_stops : (c : Core) (k : Job) → StopsOnly (delivered c k)
 unfolding delivered through_table
 delivery_stops c k = elim (cases_Bool (unguarded k == 0)) [ inl t ↦ rw t (table_stop c k (word_at c 0o42)) | inr t ↦ rw t (λ e. refl) ]
 
-informs_may : (m : Machine) (j : ℕ) (f : Whole → Whole) (b : Bool) (o : Option ℕ) → Forest m → is_some (m.jobs j) ≡ true → superiors m j ≡ o → (b ≡ true → (q : Whole) → (f q).job.stopped ≡ true)
+informs_may : (m : Machine) (j : ℕ) (f : Whole → Whole) (b : Bool) (o : Option ℕ) → Forest m → is_some (m.jobs j) ≡ true → superiors m j ≡ o
+    → (b ≡ true → (q : Whole) → (f q).job.stopped ≡ true)
     → Outer m j (in_job (effects (informs b o) j m) j f)
 unfolding effect
 informs_may m j f false o d there up over = own m j f
@@ -917,11 +945,13 @@ informs_may m j f true (Some s) d there up over =
     mapped None h = cc
 
     is_over : IsStopped (on_slot (on_slot m.jobs s with_inf) j f j)
-    is_over = subst IsStopped (sym (here (on_slot m.jobs s with_inf) j j f refl)) (mapped (on_slot m.jobs s with_inf j) (some_then m.jobs s j with_inf ∙ there))
+    is_over = subst IsStopped (sym (here (on_slot m.jobs s with_inf) j j f refl))
+        (mapped (on_slot m.jobs s with_inf j) (some_then m.jobs s j with_inf ∙ there))
 
 each_may : (m : Machine) (j : ℕ) (q : Whole) → Forest m → m.jobs j ≡ Some q → EachCase (λ (t : Transition). Outer m j t.machine) m j q
 each_may m j q d is = record {
-  delivers = (let e = delivered q.core q.job in informs_may m j _ e.stops q.superior d (ap (λ (o : Option Whole). is_some o) is) (ap superior_in is) (λ s q. delivery_stops _ _ s));
+  delivers = (let e = delivered q.core q.job in informs_may m j _ e.stops q.superior d (ap (λ (o : Option Whole). is_some o) is)
+      (ap superior_in is) (λ s q. delivery_stops _ _ s));
   changes = λ c k e. own m j _;
   faults = λ f. own m j _;
   calls = λ a. decision_may m j q a d is a (reach m j q a);

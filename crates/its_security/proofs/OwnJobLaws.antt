@@ -23,24 +23,24 @@ use Rattle.its_frame.specs.declared.decision.Held.{Held}
 use Rattle.its_frame.specs.declared.decision.Wait.{Wait}
 use Rattle.its_frame.specs.declared.variable.Variable.{Variable}
 use Rattle.its_frame.specs.declared.variable.Variable.TheVariants.{Upc, Ustp, Pirqc, Ifpir, Mask, Msk2, Df1, Df2}
-use Rattle.its_plain.specs.Arguments.{input, has_input, place_of_input}
-use Rattle.its_plain.specs.CallBasic.{dismissed_by, dismiss_at, dismiss, Oneself, by_oneself, by_superior, set_own, own_variable, set_other, value_of_other, other_variable, usrvar_of, party_on, is_oneself, usrvar, logout, told_superior, channel_at, alarm_of}
-use Rattle.its_plain.specs.CallStep.{after_moves, acted, decision, Transition, informs, step}
-use Rattle.its_plain.specs.CallTty.{view_console, has_console, can_take, is_holder, lands, ttylnd_of, ttylnd}
-use Rattle.its_plain.specs.CallUsr.{any_named, inferior_named, makes_job, opens_job, usr_tests, opens_usr, uclose_on, uclose}
-use Rattle.its_plain.specs.Change.{on_slot, in_job, chan_after_removal, after_shut, job_after_removal, after_removal, superiors, with_inf, effect, effects}
-use Rattle.its_plain.specs.Decide.{call_named, decided_by, decided, target, reach}
-use Rattle.its_plain.specs.Interrupt.{after_dismissal, delivered, unguarded, through_table, by_table, by_length, by_entry, by_pointer, by_stores, undelivered, pushed, entries_of, first_entry, Entry, at_handler}
+use Rattle.its_plain.specs.Call.Arguments.{input, has_input, place_of_input}
+use Rattle.its_plain.specs.Call.Basic.{dismissed_by, dismiss_at, dismiss, Oneself, by_oneself, by_superior, set_own, own_variable, set_other, value_of_other, other_variable, usrvar_of, party_on, is_oneself, usrvar, logout, told_superior, channel_at, alarm_of}
+use Rattle.its_plain.specs.Call.Step.{after_moves, acted, decision, Transition, informs, step}
+use Rattle.its_plain.specs.Call.Tty.{view_console, has_console, can_take, is_holder, lands, ttylnd_of, ttylnd}
+use Rattle.its_plain.specs.Call.Usr.{any_named, inferior_named, makes_job, opens_job, usr_tests, opens_usr, uclose_on, uclose}
+use Rattle.its_plain.specs.Machine.Change.{on_slot, in_job, chan_after_removal, after_shut, job_after_removal, after_removal, superiors, with_inf, effect, effects}
+use Rattle.its_plain.specs.Call.Decide.{call_named, decided_by, decided, target, reach}
+use Rattle.its_plain.specs.Unit.Interrupt.{after_dismissal, delivered, unguarded, through_table, by_table, by_length, by_entry, by_pointer, by_stores, undelivered, pushed, entries_of, first_entry, Entry, at_handler}
 use Rattle.its_plain.specs.Machine.{Chan, Shut, TtyIn, TtyOut, Reads, Writes, On, Linked, Whole, Machine}
-use Rattle.its_plain.specs.Own.{after_exit, on_channel, at_position, with_word, opened_on, with_variable}
-use Rattle.its_plain.specs.Tests.{◌⇒◌, finishes, fails, goes, out}
-use Rattle.its_plain.specs.View.{View, outline, view}
+use Rattle.its_plain.specs.Machine.Own.{after_exit, on_channel, at_position, with_word, opened_on, with_variable}
+use Rattle.its_plain.specs.Call.Tests.{◌⇒◌, finishes, fails, goes, out}
+use Rattle.its_plain.specs.Machine.View.{View, outline, view}
 use Rattle.its_plain.specs.Unit.{Changed, unit}
 use Rattle.its_plain.proofs.StepLaws.{AllOf, EachCase, step_has}
 use Rattle.its_plain.proofs.UnitLaws.{unit_keeps}
-use Rattle.its_stepped.proofs.ChannelLaws.{free_channel}
-use Rattle.its_stepped.proofs.CallWays.{Any, Mild, AllStill, AllMild, Ways, Apart, call_ways, OpensMildly}
-use Rattle.its_stepped.proofs.TestLaws.{by_test, first_holds}
+use Rattle.its_stepped.proofs.Committing.ChannelLaws.{free_channel}
+use Rattle.its_stepped.proofs.Duties.CallWays.{Any, Mild, AllStill, AllMild, Ways, Apart, call_ways, OpensMildly}
+use Rattle.its_stepped.proofs.Committing.TestLaws.{by_test, first_holds}
 use Rattle.its_security.specs.Integrity.{ChannelMay, channel_same, file_moves, inferior_moves, word_added, channel_closed, channel_opened}
 
 -- names and console stay
@@ -138,7 +138,8 @@ moves_own q jobs j n at h = subst (StaysBy q) (sym (here_is jobs j (on_channel n
 -- opened from closed
 opened_shape : (c : Chan) (on : Opened) → OpensMildly on → c ≡ Shut → ChannelMay c (opened_on on)
 opened_shape c (opened.Reading d x y) h e = subst (λ (i : Chan). ChannelMay i (Reads (d ∷ x ∷ y ∷ []) 0)) (sym e) (channel_opened _ tt)
-opened_shape c (opened.Writing d x y) h e = subst (λ (i : Chan). ChannelMay i (Writes (record { names = d ∷ x ∷ y ∷ []; words = [] }))) (sym e) (channel_opened _ refl)
+opened_shape c (opened.Writing d x y) h e = subst (λ (i : Chan). ChannelMay i (Writes (record { names = d ∷ x ∷ y ∷ []; words = [] })))
+    (sym e) (channel_opened _ refl)
 opened_shape c _ h e = absurd h
 
 -- a word that comes after those of a draft
@@ -164,7 +165,8 @@ variable_names Df1 w j = record { uname = refl; jname = refl; console = refl }
 variable_names Df2 w j = record { uname = refl; jname = refl; console = refl }
 variable_names _ w j = record { uname = refl; jname = refl; console = refl }
 
-core_calm : (f : Whole → Whole) → ((q : Whole) → (f q).job ≡ q.job) → ((q : Whole) → (f q).superior ≡ q.superior) → ((q : Whole) → (f q).channels ≡ q.channels) → Calm f
+core_calm : (f : Whole → Whole) → ((q : Whole) → (f q).job ≡ q.job) → ((q : Whole) → (f q).superior ≡ q.superior)
+    → ((q : Whole) → (f q).channels ≡ q.channels) → Calm f
 core_calm f job superior channels = record {
   names = λ q. record { uname = ap (λ (k : Job). k.uname) (job q); jname = ap (λ (k : Job). k.jname) (job q); console = ap (λ (k : Job). k.console) (job q) };
   superior = superior;
@@ -213,7 +215,7 @@ module _ (m : Machine) (j : ℕ) (q : Whole) (t : Option ℕ) (is : m.jobs j ≡
   mild_stays (changes.Delete e x y) h = unchanged_at q (m.jobs j) is
   mild_stays (changes.Rename e x y u v) h = unchanged_at q (m.jobs j) is
   mild_stays (changes.Join n l write x y) h = channel_at_own m j n q (λ c. Linked l write) is (linked_shape n l write h.shut)
-  mild_stays (changes.Part n l write) h = channel_at_own m j n q (λ c. Shut) is (channel_closed _)
+  mild_stays (changes.CloseEnd n l write) h = channel_at_own m j n q (λ c. Shut) is (channel_closed _)
   mild_stays (changes.Send l w) h = unchanged_at q (m.jobs j) is
   mild_stays (changes.Receive l) h = unchanged_at q (m.jobs j) is
   mild_stays _ h = absurd h
@@ -224,7 +226,8 @@ still_stays n j q [] h k = k
 still_stays n j q (changes.Move i at ∷ cs) h k = still_stays (effect (changes.Move i at) j n) j q cs h.1 (moves_own q n.jobs j i at k)
 still_stays n j q (c ∷ cs) h k = absurd h.0
 
-all_stay : (m : Machine) (j : ℕ) (q : Whole) (t : Option ℕ) (cs : List Change) → m.jobs j ≡ Some q → AllMild Any (view m j q t) cs → StaysBy q ((effects cs j m).jobs j)
+all_stay : (m : Machine) (j : ℕ) (q : Whole) (t : Option ℕ) (cs : List Change) → m.jobs j ≡ Some q → AllMild Any (view m j q t) cs
+    → StaysBy q ((effects cs j m).jobs j)
 all_stay m j q t [] is h = unchanged_at q (m.jobs j) is
 all_stay m j q t (c ∷ cs) is h = still_stays (effect c j m) j q cs h.1 (mild_stays m j q t is c h.0)
 
@@ -240,7 +243,8 @@ moves_calm a None vs = core_calm _ (λ r. refl) (λ r. refl) (λ r. refl)
 moves_calm a (Some b) vs = core_calm _ (λ r. refl) (λ r. refl) (λ r. refl)
 
 module _ (m : Machine) (j : ℕ) (q : Whole) (is : m.jobs j ≡ Some q) where
-  ends_stay : (cs : List Change) (ss : List Store) (e : Exit) → StaysBy q ((effects cs j m).jobs j) → Permitted m j q (Ends (record { items = cs }) (record { items = ss }) e)
+  ends_stay : (cs : List Change) (ss : List Store) (e : Exit) → StaysBy q ((effects cs j m).jobs j)
+      → Permitted m j q (Ends (record { items = cs }) (record { items = ss }) e)
   unfolding acted
   ends_stay cs ss e h = λ b ks. slot_then q (effects cs j m).jobs j j _ (end_calm ss e) h
 
@@ -275,7 +279,8 @@ module _ (m : Machine) (j : ℕ) (q : Whole) (is : m.jobs j ≡ Some q) where
   unfolding acted effect after_removal
   leaves None = λ b ks. left_stays _ _ q (m.jobs j) is
   leaves (Some s) = λ b ks.
-      slot_then q (after_removal (superiors m) j m).jobs s j with_inf (record { names = λ r. record { uname = refl; jname = refl; console = refl }; superior = λ r. refl; channels = λ r. refl })
+      slot_then q (after_removal (superiors m) j m).jobs s j with_inf
+      (record { names = λ r. record { uname = refl; jname = refl; console = refl }; superior = λ r. refl; channels = λ r. refl })
       (left_stays _ _ q (m.jobs j) is)
 
   sets : (s : ℕ) (y : Variable) (w : ℕ) (new : Bool) → StaysBy q ((effects (set_other s y w new) j m).jobs j)
@@ -283,7 +288,8 @@ module _ (m : Machine) (j : ℕ) (q : Whole) (is : m.jobs j ≡ Some q) where
   sets s y w true = core_then m j s q _ is (record { names = λ r. variable_names y w r.job; superior = λ r. refl; channels = λ r. refl })
   sets s y w false = unchanged_at q (m.jobs j) is
 
-  makes_other : (s u y n : ℕ) → m.jobs s ≡ None → q.channels n ≡ Shut → StaysBy q ((effects (changes.Make s u y ∷ changes.Open n (opened.Usr s true) ∷ []) j m).jobs j)
+  makes_other : (s u y n : ℕ) → m.jobs s ≡ None → q.channels n ≡ Shut
+      → StaysBy q ((effects (changes.Make s u y ∷ changes.Open n (opened.Usr s true) ∷ []) j m).jobs j)
   unfolding effect
   makes_other s u y n none shut =
       let other : (j == s) ≡ false = ne_eqb j s (λ at. let no : None ≡ Some q = sym none ∙ ap m.jobs (sym at) ∙ is in cc) in
@@ -317,7 +323,8 @@ module _ (m : Machine) (j : ℕ) (q : Whole) (t : Option ℕ) (a : Ask) (is : m.
   own_variable_stays : (o : Option Variable) → Permitted m j q (own_variable x a o)
   own_variable_stays None = fail_stays 0o22
   own_variable_stays (Some y) =
-      by_test (Permitted m j q) (has_input a 2 && not (by_oneself y)) (fails x a 0o22) (set_own x a y (has_input a 2)) (λ e. fail_stays 0o22) (λ e. set_stays y (has_input a 2))
+      by_test (Permitted m j q) (has_input a 2 && not (by_oneself y)) (fails x a 0o22) (set_own x a y (has_input a 2))
+      (λ e. fail_stays 0o22) (λ e. set_stays y (has_input a 2))
 
   other_variable_stays : (s : ℕ) (write : Bool) (o : Option Variable) → Permitted m j q (other_variable x a s write o)
   other_variable_stays s write None = fail_stays 0o22
@@ -353,7 +360,8 @@ module _ (m : Machine) (j : ℕ) (q : Whole) (t : Option ℕ) (a : Ask) (is : m.
 
   makes_stays : (n u y : ℕ) (o : Option ℕ) → q.channels n ≡ Shut → least_free x.limit x.outlines ≡ o → Permitted m j q (makes_job x a n u y o)
   unfolding view
-  makes_stays n u y (Some s) shut e = ends_stay m j q is _ _ _ (makes_other m j q is s u y n (no_outline (m.jobs s) (least_empty x.limit x.outlines s e)) shut)
+  makes_stays n u y (Some s) shut e = ends_stay m j q is _ _ _
+      (makes_other m j q is s u y n (no_outline (m.jobs s) (least_empty x.limit x.outlines s e)) shut)
   makes_stays n u y None shut e = fail_stays 0o14
 
   usr_shape : (n s : ℕ) (write : Bool) → q.channels n ≡ Shut → ChannelMay (q.channels n) (On s write 0)
@@ -371,12 +379,14 @@ module _ (m : Machine) (j : ℕ) (q : Whole) (t : Option ℕ) (a : Ask) (is : m.
       let control = unwrap_or a.control 0 in
       let named = inferior_named x (input a 2) (input a 3) in
       first_holds (Permitted m j q) (usr_tests x a (input a 0) control) (opens_job x a (input a 0) (input a 2) (input a 3) (control == 1) named)
-      (λ e. fail_stays 0o4, (λ e. fail_stays 0o22, tt)) (λ e. opens_stays (input a 0) (input a 2) (input a 3) (control == 1) named (free_channel q.channels (input a 0) e.0))
+      (λ e. fail_stays 0o4, (λ e. fail_stays 0o22, tt)) (λ e. opens_stays (input a 0) (input a 2) (input a 3) (control == 1) named
+      (free_channel q.channels (input a 0) e.0))
 
   -- TTYLND
   lands_stays : (may : Bool) (number s : ℕ) → Permitted m j q (lands x a may number s)
   lands_stays may number s =
-      first_holds (Permitted m j q) (not (has_console x) ⇒ fails x a 0o5 ∷ not may ⇒ fails x a number ∷ []) (finishes x (changes.Hold (view_console x) s ∷ []) [])
+      first_holds (Permitted m j q) (not (has_console x) ⇒ fails x a 0o5 ∷ not may ⇒ fails x a number ∷ [])
+      (finishes x (changes.Hold (view_console x) s ∷ []) [])
       (λ e. fail_stays 0o5, (λ e. fail_stays number, tt)) (λ e. ends_stay m j q is _ _ _ (holds m j q is (view_console x) s))
 
   ttylnd_stays : Permitted m j q (ttylnd x a)
@@ -435,7 +445,8 @@ module _ (m : Machine) (j : ℕ) (q : Whole) (t : Option ℕ) (a : Ask) (is : m.
   unfolding decided
   decided_stays =
       let o = call_named a.name in
-      by_test (Permitted m j q) (a.fail == 0) (decided_by x a o) (fails x a a.fail) (λ e. call_ways (Permitted m j q) Any x a o ways_stay (λ c i s at write e r on. tt) (waits_stay m j q is) apart_stays) (λ e. fail_stays a.fail)
+      by_test (Permitted m j q) (a.fail == 0) (decided_by x a o) (fails x a a.fail)
+      (λ e. call_ways (Permitted m j q) Any x a o ways_stay (λ c i s at write e r on. tt) (waits_stay m j q is) apart_stays) (λ e. fail_stays a.fail)
 
 -- a delivery
 stores_names : (c : Core) (k : Job) (e : Entry) (ss : List Store) (o : Option Fault) → SameNames k (by_stores c k e ss o).job
@@ -465,10 +476,15 @@ table_names c k None = unmade k c
 
 pub delivered_names : (c : Core) (k : Job) → SameNames k (delivered c k).job
 unfolding delivered through_table
-delivered_names c k = elim (cases_Bool (unguarded k == 0)) [ inl t ↦ rw t (table_names c k (word_at c 0o42)) | inr t ↦ rw t (record { uname = refl; jname = refl; console = refl }) ]
+delivered_names c k = elim (cases_Bool (unguarded k == 0)) [
+  | inl t ↦ rw t (table_names c k (word_at c 0o42))
+  | inr t ↦ rw t
+      (record { uname = refl; jname = refl; console = refl })
+]
 
 -- a job whose core and registers are others
-put_stays : (q : Whole) (jobs : ℕ → Option Whole) (j : ℕ) (f : Whole → Whole) → StaysBy q (jobs j) → ((r : Whole) → SameNames q.job (f r).job) → ((r : Whole) → (f r).superior ≡ r.superior) → ((r : Whole) → (f r).channels ≡ r.channels)
+put_stays : (q : Whole) (jobs : ℕ → Option Whole) (j : ℕ) (f : Whole → Whole) → StaysBy q (jobs j)
+    → ((r : Whole) → SameNames q.job (f r).job) → ((r : Whole) → (f r).superior ≡ r.superior) → ((r : Whole) → (f r).channels ≡ r.channels)
     → StaysBy q (on_slot jobs j f j)
 put_stays q jobs j f h names superior channels = subst (StaysBy q) (sym (here_is jobs j f)) (go (jobs j) h)
   where
@@ -484,7 +500,8 @@ informed_stays : (m : Machine) (j : ℕ) (q : Whole) (b : Bool) (o : Option ℕ)
 unfolding effect
 informed_stays m j q false o is = unchanged_at q (m.jobs j) is
 informed_stays m j q true None is = unchanged_at q (m.jobs j) is
-informed_stays m j q true (Some s) is = core_then m j s q with_inf is (record { names = λ r. record { uname = refl; jname = refl; console = refl }; superior = λ r. refl; channels = λ r. refl })
+informed_stays m j q true (Some s) is = core_then m j s q with_inf is
+    (record { names = λ r. record { uname = refl; jname = refl; console = refl }; superior = λ r. refl; channels = λ r. refl })
 
 unit_names : (c : Core) (k : Job) (d : Core) (l : Job) → unit c k ≡ Changed d l → SameNames k l
 unit_names c k d l e = let u = (unit_keeps c k d l e).registers in record { uname = u.uname; jname = u.jname; console = u.console }
@@ -493,9 +510,14 @@ each_stays : (m : Machine) (j : ℕ) (q : Whole) → m.jobs j ≡ Some q → Eac
 unfolding decision
 each_stays m j q is = record {
   delivers = (let e = delivered q.core q.job in
-      put_stays q (effects (informs e.stops q.superior) j m).jobs j _ (informed_stays m j q e.stops q.superior is) (λ r. delivered_names q.core q.job) (λ r. refl) (λ r. refl));
+      put_stays q (effects (informs e.stops q.superior) j m).jobs j _ (informed_stays m j q e.stops q.superior is)
+      (λ r. delivered_names q.core q.job) (λ r. refl) (λ r. refl));
   changes = λ c k e. put_stays q m.jobs j _ (unchanged_at q (m.jobs j) is) (λ r. unit_names q.core q.job c k e) (λ r. refl) (λ r. refl);
-  faults = λ f. core_then m j j q _ is (record { names = λ r. record { uname = refl; jname = refl; console = refl }; superior = λ r. refl; channels = λ r. refl });
+  faults = λ f. core_then m j j q _ is (record {
+    names = λ r. record { uname = refl; jname = refl; console = refl };
+    superior = λ r. refl;
+    channels = λ r. refl;
+  });
   calls = λ a. decided_stays m j q (target q a) a is a (reach m j q a);
 }
 
@@ -503,11 +525,13 @@ each_stays m j q is = record {
 pub step_stays : (m n : Machine) (j : ℕ) → step m j ≡ Some n → (q : Whole) × ((m.jobs j ≡ Some q) × StaysBy q (n.jobs j))
 step_stays m n j e = step_has (λ (x : Machine). (q : Whole) × ((m.jobs j ≡ Some q) × StaysBy q (x.jobs j))) m n j (λ q is. lift q is (each_stays m j q is)) e
   where
-    all : (q : Whole) → m.jobs j ≡ Some q → (o : Option Transition) → AllOf (λ (t : Transition). StaysBy q (t.machine.jobs j)) o → AllOf (λ (t : Transition). (r : Whole) × ((m.jobs j ≡ Some r) × StaysBy r (t.machine.jobs j))) o
+    all : (q : Whole) → m.jobs j ≡ Some q → (o : Option Transition) → AllOf (λ (t : Transition). StaysBy q (t.machine.jobs j)) o
+        → AllOf (λ (t : Transition). (r : Whole) × ((m.jobs j ≡ Some r) × StaysBy r (t.machine.jobs j))) o
     all q is (Some t) h = (q, (is, h))
     all q is None h = tt
 
-    lift : (q : Whole) → m.jobs j ≡ Some q → EachCase (λ (t : Transition). StaysBy q (t.machine.jobs j)) m j q → EachCase (λ (t : Transition). (r : Whole) × ((m.jobs j ≡ Some r) × StaysBy r (t.machine.jobs j))) m j q
+    lift : (q : Whole) → m.jobs j ≡ Some q → EachCase (λ (t : Transition). StaysBy q (t.machine.jobs j)) m j q
+        → EachCase (λ (t : Transition). (r : Whole) × ((m.jobs j ≡ Some r) × StaysBy r (t.machine.jobs j))) m j q
     lift q is h = record {
       delivers = (q, (is, h.delivers));
       changes = λ c k u. (q, (is, h.changes c k u));

@@ -16,24 +16,24 @@ use Rattle.its_frame.specs.declared.decision.Decision.{Decision}
 use Rattle.its_frame.specs.declared.decision.Decision.TheVariants.{Waits, Goes, Ends, Gone}
 use Rattle.its_frame.specs.declared.name.CallName.{CallName}
 use Rattle.its_frame.specs.declared.name.CallName.TheVariants as calls
-use Rattle.its_plain.specs.Arguments.{input}
-use Rattle.its_plain.specs.CallBasic.{logout, told_superior, channel_at}
-use Rattle.its_plain.specs.CallStep.{acted, decision, informs, by_ask, by_unit, by_delivery, unless_stopped, transition_of, transition}
-use Rattle.its_plain.specs.CallUsr.{uclose_on, uclose}
-use Rattle.its_plain.specs.Change.{on_slot, channel_in, superiors, is_gone, chan_after_removal, after_shut, after_removal, inferior, with_inf, effect, effects}
-use Rattle.its_plain.specs.Decide.{call_named, decided_by, decided, target_by, argument_of, target, reach}
-use Rattle.its_plain.specs.Decode.{ask}
-use Rattle.its_plain.specs.Interrupt.{deliverable, delivered}
+use Rattle.its_plain.specs.Call.Arguments.{input}
+use Rattle.its_plain.specs.Call.Basic.{logout, told_superior, channel_at}
+use Rattle.its_plain.specs.Call.Step.{acted, decision, informs, by_ask, by_unit, by_delivery, unless_stopped, transition_of, transition}
+use Rattle.its_plain.specs.Call.Usr.{uclose_on, uclose}
+use Rattle.its_plain.specs.Machine.Change.{on_slot, channel_in, superiors, is_gone, chan_after_removal, after_shut, after_removal, inferior, with_inf, effect, effects}
+use Rattle.its_plain.specs.Call.Decide.{call_named, decided_by, decided, target_by, argument_of, target, reach}
+use Rattle.its_plain.specs.Call.Decode.{ask}
+use Rattle.its_plain.specs.Unit.Interrupt.{deliverable, delivered}
 use Rattle.its_plain.specs.Machine.{Chan, Shut, TtyIn, TtyOut, Reads, Writes, On, Linked, Whole, Machine}
-use Rattle.its_plain.specs.Tests.{fails}
+use Rattle.its_plain.specs.Call.Tests.{fails}
 use Rattle.its_plain.specs.Unit.{Outcome, Changed, Faulted, Called, unit}
-use Rattle.its_plain.specs.View.{View, view}
+use Rattle.its_plain.specs.Machine.View.{View, view}
 use Rattle.its_stepped.specs.Forest.{OnInferior, Forest}
-use Rattle.its_stepped.proofs.ForestLaws.{on_inferior, forest_below}
+use Rattle.its_stepped.proofs.Keeping.ForestLaws.{on_inferior, forest_below}
 use Rattle.its_security.specs.Looks.{Looks, LooksAlike, OwnBy}
 use Rattle.its_security.proofs.LooksLaws.{named_looks}
 use Rattle.its_security.proofs.CallChanges.{CanMake, Opens, AllMake, AllMade, Informs, Makes, call_makes}
-use Rattle.its_security.proofs.WaysAlike.{each_console}
+use Rattle.its_security.proofs.OthersLaws.{each_console}
 
 -- a change that removes nobody does the same to the own job
 abbrev Lasting : Change → Type 0
@@ -67,7 +67,7 @@ own_effect m n j (changes.Remove s) l e = absurd l
 own_effect m n j (changes.Inform s) l e = slot_same m n s j _ e
 own_effect m n j (changes.Arm o) l e = slot_same m n j j _ e
 own_effect m n j (changes.Join k l write x y) t e = slot_same m n j j _ e
-own_effect m n j (changes.Part k l write) t e = slot_same m n j j _ e
+own_effect m n j (changes.CloseEnd k l write) t e = slot_same m n j j _ e
 own_effect m n j (changes.Send l w) t e = e
 own_effect m n j (changes.Receive l) t e = e
 own_effect m n j (changes.Delete d x y) l e = e
@@ -144,7 +144,8 @@ gone_is m s k j d up also =
 
 shut_as : (m n : Machine) (s j : ℕ) (c : Chan) → Forest m → Forest n → superiors m s ≡ Some j → superiors n s ≡ Some j → OnInferior m j c → OnInferior n j c
     → chan_after_removal (is_gone (superiors n) s) c ≡ chan_after_removal (is_gone (superiors m) s) c
-shut_as m n s j (On k write at) d e up also on also_on = ap (λ b. if b then Shut else On k write at) (gone_is n s k j e also also_on ∙ sym (gone_is m s k j d up on))
+shut_as m n s j (On k write at) d e up also on also_on = ap (λ b. if b then Shut else On k write at)
+    (gone_is n s k j e also also_on ∙ sym (gone_is m s k j d up on))
 shut_as m n s j Shut d e up also on also_on = refl
 shut_as m n s j TtyIn d e up also on also_on = refl
 shut_as m n s j TtyOut d e up also on also_on = refl
@@ -152,7 +153,8 @@ shut_as m n s j (Reads x at) d e up also on also_on = refl
 shut_as m n s j (Writes f) d e up also on also_on = refl
 shut_as m n s j (Linked l write) d e up also on also_on = refl
 
-own_removed : (m : Machine) (s j : ℕ) (q : Whole) → Forest m → superiors m s ≡ Some j → m.jobs j ≡ Some q → (after_removal (superiors m) s m).jobs j ≡ Some (after_shut (is_gone (superiors m) s) q)
+own_removed : (m : Machine) (s j : ℕ) (q : Whole) → Forest m → superiors m s ≡ Some j → m.jobs j ≡ Some q
+    → (after_removal (superiors m) s m).jobs j ≡ Some (after_shut (is_gone (superiors m) s) q)
 unfolding after_removal
 own_removed m s j q d up is = rw (forest_below m s j d up, is) refl
 
@@ -167,7 +169,8 @@ module _ (m n : Machine) (j : ℕ) (q : Whole) (a : Ask) (d : Forest m) (e : For
   on_n : (i : ℕ) → OnInferior n j (q.channels i)
   on_n i = subst (λ (o : Option Whole). OnInferior n j (channel_in o i)) also (e.channels j i)
 
-  shuts_tree : (s : ℕ) → superiors m s ≡ Some j → superiors n s ≡ Some j → (effects (changes.Remove s ∷ []) j n).jobs j ≡ (effects (changes.Remove s ∷ []) j m).jobs j
+  shuts_tree : (s : ℕ) → superiors m s ≡ Some j → superiors n s ≡ Some j
+      → (effects (changes.Remove s ∷ []) j n).jobs j ≡ (effects (changes.Remove s ∷ []) j m).jobs j
   unfolding effect
   shuts_tree s up down =
       own_removed n s j q e down also
@@ -175,16 +178,21 @@ module _ (m n : Machine) (j : ℕ) (q : Whole) (a : Ask) (d : Forest m) (e : For
       ∙ sym (own_removed m s j q d up is)
 
   ends_own : (cs : List Change) (ss : List Store) (x : Exit) (ks ls : List ℕ) → (effects cs j n).jobs j ≡ (effects cs j m).jobs j
-      → OwnBy j (acted m j a ks (Ends (record { items = cs }) (record { items = ss }) x)) (acted n j a ls (Ends (record { items = cs }) (record { items = ss }) x))
+      → OwnBy j (acted m j a ks (Ends (record { items = cs }) (record { items = ss }) x))
+      (acted n j a ls (Ends (record { items = cs }) (record { items = ss }) x))
   unfolding acted
   ends_own cs ss x ks ls h = slot_same (effects cs j m) (effects cs j n) j j _ h
 
-  uclose_own : (ks ls : List ℕ) → OwnBy j (acted m j a ks (uclose (view m j q (target_by q a (Some 0))) a)) (acted n j a ls (uclose (view n j q (target_by q a (Some 0))) a))
+  uclose_own : (ks ls : List ℕ) → OwnBy j (acted m j a ks (uclose (view m j q (target_by q a (Some 0))) a))
+      (acted n j a ls (uclose (view n j q (target_by q a (Some 0))) a))
   unfolding uclose view
   uclose_own ks ls = go (channel_at q.channels (input a 0)) refl
     where
-      go : (c : Chan) → channel_at q.channels (input a 0) ≡ c → OwnBy j (acted m j a ks (uclose_on (view m j q (target_by q a (Some 0))) a c)) (acted n j a ls (uclose_on (view n j q (target_by q a (Some 0))) a c))
-      go (On s write at) on = ends_own (changes.Remove s ∷ []) [] _ ks ls (shuts_tree s (on_inferior m j q (input a 0) s at write d is on) (on_inferior n j q (input a 0) s at write e also on))
+      go : (c : Chan) → channel_at q.channels (input a 0) ≡ c
+          → OwnBy j (acted m j a ks (uclose_on (view m j q (target_by q a (Some 0))) a c))
+          (acted n j a ls (uclose_on (view n j q (target_by q a (Some 0))) a c))
+      go (On s write at) on = ends_own (changes.Remove s ∷ []) [] _ ks ls
+          (shuts_tree s (on_inferior m j q (input a 0) s at write d is on) (on_inferior n j q (input a 0) s at write e also on))
       go Shut on = ends_own [] _ _ ks ls (also ∙ sym is)
       go TtyIn on = ends_own [] _ _ ks ls (also ∙ sym is)
       go TtyOut on = ends_own [] _ _ ks ls (also ∙ sym is)
@@ -201,7 +209,8 @@ module _ (m n : Machine) (j : ℕ) (q : Whole) (a : Ask) (d : Forest m) (e : For
       go true = ap (option_map with_inf) (own_gone p j)
       go false = own_gone p j
 
-  logout_own : (ks ls : List ℕ) → OwnBy j (acted m j a ks (logout (view m j q (target_by q a None)))) (acted n j a ls (logout (view n j q (target_by q a None))))
+  logout_own : (ks ls : List ℕ) → OwnBy j (acted m j a ks (logout (view m j q (target_by q a None))))
+      (acted n j a ls (logout (view n j q (target_by q a None))))
   unfolding acted effect view
   logout_own ks ls = gone_then q.superior n ∙ sym (gone_then q.superior m)
 
@@ -212,14 +221,16 @@ module _ (m n : Machine) (j : ℕ) (q : Whole) (a : Ask) (d : Forest m) (e : For
   lasting_own : (o : Option CallName) (ks ls : List ℕ) → Lasts (decided_by (at_m o) a o) → Looks j m n q a o
       → OwnBy j (acted m j a ks (decided_by (at_m o) a o)) (acted n j a ls (decided_by (view n j q (target_by q a (argument_of o))) a o))
   lasting_own o ks ls lasts look =
-      subst (λ (f : Decision). OwnBy j (acted m j a ks (decided_by (at_m o) a o)) (acted n j a ls f)) (sym (named_looks m n j q a (each_console m j q d is) o look))
+      subst (λ (f : Decision). OwnBy j (acted m j a ks (decided_by (at_m o) a o)) (acted n j a ls f))
+      (sym (named_looks m n j q a (each_console m j q d is) o look))
       (own_acted m n j a ks ls (decided_by (at_m o) a o) lasts (also ∙ sym is))
 
   named_own : (o : Option CallName) (ks ls : List ℕ) → Looks j m n q a o
       → OwnBy j (acted m j a ks (decided_by (at_m o) a o)) (acted n j a ls (decided_by (view n j q (target_by q a (argument_of o))) a o))
   named_own (Some calls.Uclose) ks ls look = uclose_own ks ls
   named_own (Some calls.Logout) ks ls look = logout_own ks ls
-  named_own (Some c) ks ls look = lasting_own (Some c) ks ls (makes_last (at_m (Some c)) (Some c) tt (decided_by (at_m (Some c)) a (Some c)) (call_makes (at_m (Some c)) a (Some c))) look
+  named_own (Some c) ks ls look = lasting_own (Some c) ks ls
+      (makes_last (at_m (Some c)) (Some c) tt (decided_by (at_m (Some c)) a (Some c)) (call_makes (at_m (Some c)) a (Some c))) look
   named_own None ks ls look = lasting_own None ks ls (makes_last (at_m None) None tt (decided_by (at_m None) a None) (call_makes (at_m None) a None)) look
 
   call_own : (ks ls : List ℕ) → Looks j m n q a (call_named a.name) → OwnBy j (acted m j a ks (decision m j q a)) (acted n j a ls (decision n j q a))
@@ -229,19 +240,23 @@ module _ (m n : Machine) (j : ℕ) (q : Whole) (a : Ask) (d : Forest m) (e : For
       o : Option CallName
       o = call_named a.name
 
-      go : (b : Bool) → OwnBy j (acted m j a ks (if b then decided_by (view m j q (if b then target_by q a (argument_of o) else None)) a o else fails (view m j q (if b then target_by q a (argument_of o) else None)) a a.fail))
-          (acted n j a ls (if b then decided_by (view n j q (if b then target_by q a (argument_of o) else None)) a o else fails (view n j q (if b then target_by q a (argument_of o) else None)) a a.fail))
+      go : (b : Bool) → OwnBy j (acted m j a ks (if b then decided_by (view m j q (if b then target_by q a (argument_of o) else None)) a o
+          else fails (view m j q (if b then target_by q a (argument_of o) else None)) a a.fail))
+          (acted n j a ls (if b then decided_by (view n j q (if b then target_by q a (argument_of o) else None)) a o else fails
+          (view n j q (if b then target_by q a (argument_of o) else None)) a a.fail))
       go true = named_own o ks ls look
       go false = ends_own [] _ _ ks ls (also ∙ sym is)
 
-informed_own : (m n : Machine) (j : ℕ) (b : Bool) (o : Option ℕ) → n.jobs j ≡ m.jobs j → (effects (informs b o) j n).jobs j ≡ (effects (informs b o) j m).jobs j
+informed_own : (m n : Machine) (j : ℕ) (b : Bool) (o : Option ℕ) → n.jobs j ≡ m.jobs j
+    → (effects (informs b o) j n).jobs j ≡ (effects (informs b o) j m).jobs j
 unfolding effect
 informed_own m n j true (Some s) e = slot_same m n s j with_inf e
 informed_own m n j true None e = e
 informed_own m n j false o e = e
 
 module _ (m n : Machine) (j : ℕ) (q : Whole) (d : Forest m) (f : Forest n) (is : m.jobs j ≡ Some q) (also : n.jobs j ≡ Some q) where
-  outcome_own : (o : Outcome) → unit q.core q.job ≡ o → ((s : Site) (a : Ask) → o ≡ Called s → ask q.core s ≡ Ok a → Looks j m n q a (call_named a.name)) → OwnBy j (by_unit m j q o) (by_unit n j q o)
+  outcome_own : (o : Outcome) → unit q.core q.job ≡ o → ((s : Site) (a : Ask) → o ≡ Called s → ask q.core s ≡ Ok a
+      → Looks j m n q a (call_named a.name)) → OwnBy j (by_unit m j q o) (by_unit n j q o)
   outcome_own (Changed c k) e look = slot_same m n j j _ (also ∙ sym is)
   outcome_own (Faulted g) e look = slot_same m n j j _ (also ∙ sym is)
   outcome_own (Called s) e look = go (ask q.core s) (λ a. look s a refl)
@@ -253,7 +268,8 @@ module _ (m n : Machine) (j : ℕ) (q : Whole) (d : Forest m) (f : Forest n) (is
   delivered_own : (b : Bool) → deliverable q.job ≡ b → q.job.stopped ≡ false → LooksAlike j m n → OwnBy j (by_delivery m j q b) (by_delivery n j q b)
   delivered_own true e runs look =
       let g = delivered q.core q.job in
-      slot_same (effects (informs g.stops q.superior) j m) (effects (informs g.stops q.superior) j n) j j _ (informed_own m n j g.stops q.superior (also ∙ sym is))
+      slot_same (effects (informs g.stops q.superior) j m) (effects (informs g.stops q.superior) j n) j j _
+      (informed_own m n j g.stops q.superior (also ∙ sym is))
   delivered_own false e runs look =
       outcome_own (unit q.core q.job) refl (λ s a u i. look q a (record { is = is; runs = runs; quiet = e; site = s; unit_is = u; ask_is = i }))
 
@@ -262,7 +278,8 @@ module _ (m n : Machine) (j : ℕ) (q : Whole) (d : Forest m) (f : Forest n) (is
   running_own false e look = delivered_own (deliverable q.job) refl e look
 
 -- the theorem
-slot_own : (m n : Machine) (j : ℕ) (o : Option Whole) → Forest m → Forest n → m.jobs j ≡ o → n.jobs j ≡ o → LooksAlike j m n → OwnBy j (transition_of m j o) (transition_of n j o)
+slot_own : (m n : Machine) (j : ℕ) (o : Option Whole) → Forest m → Forest n → m.jobs j ≡ o → n.jobs j ≡ o → LooksAlike j m n
+    → OwnBy j (transition_of m j o) (transition_of n j o)
 slot_own m n j (Some q) d e is also look = running_own m n j q d e is also q.job.stopped refl look
 slot_own m n j None d e is also look = tt
 

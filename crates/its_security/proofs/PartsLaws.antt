@@ -12,18 +12,18 @@ use Rattle.its_records.specs.declared.session.Event.TheVariants as events
 use Rattle.its_records.specs.declared.session.Reason.{Reason}
 use Rattle.its_records.specs.declared.show.JobShow.{JobShow}
 use Rattle.its_print.specs.Printing.{Line, listed}
-use Rattle.its_plain.specs.CallFile.{most_files, is_full, file_named, has_file}
-use Rattle.its_plain.specs.Change.{with_protection}
+use Rattle.its_plain.specs.Call.File.{most_files, is_full, file_named, has_file}
+use Rattle.its_plain.specs.Machine.Change.{with_protection}
 use Rattle.its_security.specs.OperatorParts.{is_this, Parts, no_part, job_part, console_part, file_part, touched, OnlyParts}
 use Rattle.its_plain.specs.Machine.{Names, File, Console, Whole, Machine, changed, with_job, mapped, limit}
 use Rattle.its_plain.specs.Operator.{Block, Does, and_then, disturbs, quietly}
-use Rattle.its_plain.specs.OperatorClock.{clock_end, after_clock_if, after_clock}
-use Rattle.its_plain.specs.OperatorFiles.{channels_of, with_files, with_file_made_if, with_file_made, with_word_added_if, with_word_added_to, with_word_added, with_words_added, file_shown}
-use Rattle.its_plain.specs.OperatorJobs.{held_by, after_load_in, after_load, with_stored, with_core, with_word_loaded_of, with_word_loaded, with_words_stored, words_barred, with_words_loaded_if, with_words_loaded, with_page_protected_in, with_page_protected, on_job, with_registers, on_registers, after_go, after_int, after_stop, after_cont, examined, state_shown, after_deposit_in, after_deposit}
-use Rattle.its_plain.specs.OperatorLines.{by_load, by_exam, in_a_line, by_state, by_clock, operate, shows, Lined, Done, peeked_at, lined}
-use Rattle.its_plain.specs.OperatorSymbols.{with_symbol_kept_if, with_symbol_kept_of, with_symbol_kept}
-use Rattle.its_plain.specs.OperatorVersion.{with_version}
-use Rattle.its_plain.specs.Own.{names_of}
+use Rattle.its_plain.specs.Operator.Clock.{clock_end, after_clock_if, after_clock}
+use Rattle.its_plain.specs.Operator.Files.{channels_of, with_files, with_file_made_if, with_file_made, with_word_added_if, with_word_added_to, with_word_added, with_words_added, file_shown}
+use Rattle.its_plain.specs.Operator.Jobs.{held_by, after_load_in, after_load, with_stored, with_core, with_word_loaded_of, with_word_loaded, with_words_stored, words_barred, with_words_loaded_if, with_words_loaded, with_page_protected_in, with_page_protected, on_job, with_registers, on_registers, after_go, after_int, after_stop, after_cont, examined, state_shown, after_deposit_in, after_deposit}
+use Rattle.its_plain.specs.Operator.Lines.{by_load, by_exam, in_a_line, by_state, by_clock, operate, shows, Lined, Done, peeked_at, lined}
+use Rattle.its_plain.specs.Operator.Symbols.{with_symbol_kept_if, with_symbol_kept_of, with_symbol_kept}
+use Rattle.its_plain.specs.Operator.Version.{with_version}
+use Rattle.its_plain.specs.Machine.Own.{names_of}
 
 -- a line that changes the jobs alone
 jobs_alone : (p : Parts) (m : Machine) (jobs : ℕ → Option Whole) → ((k : ℕ) → p.jobs k ≡ false → jobs k ≡ m.jobs k) → OnlyParts p m (record m { jobs = jobs })
@@ -93,7 +93,8 @@ word_parts m s a w = go (m.jobs s)
     go (Some q) = core_parts m s q (with_stored (mapped m) q.core a w)
     go None = tt
 
-then_parts : (p : Parts) (m : Machine) (r : Result Machine Reason) (next : Machine → Result Machine Reason) → PartsBy p m r → ((n : Machine) → PartsBy p n (next n)) → PartsBy p m (and_then r next)
+then_parts : (p : Parts) (m : Machine) (r : Result Machine Reason) (next : Machine → Result Machine Reason) → PartsBy p m r
+    → ((n : Machine) → PartsBy p n (next n)) → PartsBy p m (and_then r next)
 then_parts p m (Ok n) next h more = parts_then p m n (next n) h (more n)
 then_parts p m (Err r) next h more = tt
 
@@ -109,7 +110,8 @@ loaded_parts m s a ws = go (words_barred m s a (length ws))
     go true = tt
     go false = stored_parts ws m s a
 
-on_parts : (m : Machine) (s : ℕ) (f : Whole → Result Machine Reason) (o : Option Whole) → ((q : Whole) → PartsBy (job_part s) m (f q)) → PartsBy (job_part s) m (on_job m s f o)
+on_parts : (m : Machine) (s : ℕ) (f : Whole → Result Machine Reason) (o : Option Whole) → ((q : Whole) → PartsBy (job_part s) m (f q))
+    → PartsBy (job_part s) m (on_job m s f o)
 on_parts m s f (Some q) h = h q
 on_parts m s f None h = tt
 
@@ -137,12 +139,14 @@ held_same s None e = cc
 empty_apart : (m : Machine) (k s : ℕ) → m.jobs s ≡ None → is_none (m.jobs k) ≡ false → k ≢ s
 empty_apart m k s none e at = let no : true ≡ false = sym (ap is_none (ap m.jobs at ∙ none)) ∙ e in cc
 
-load_parts : (m : Machine) (b : Block) (u j : ℕ) (console o : Option ℕ) → least_free (limit m) m.jobs ≡ o → PartsOf (touched m b (events.Load u j console)) m (Done (by_load b (after_load_in m u j console o)))
+load_parts : (m : Machine) (b : Block) (u j : ℕ) (console o : Option ℕ) → least_free (limit m) m.jobs ≡ o
+    → PartsOf (touched m b (events.Load u j console)) m (Done (by_load b (after_load_in m u j console o)))
 load_parts m b u j (Some c) (Some s) is = record {
   jobs = λ k e. rw (sym (ap (λ (o : Option ℕ). is_this o k) is) ∙ e) refl;
   consoles = λ d e. refl;
   holders = λ d e. elim (cases_eq d c) [
-    | inl at ↦ rw (eq-eqb d c at) (held_same s (m.holders c) (ap (λ (i : ℕ). is_none (m.holders i)) (sym at) ∙ sym (ap (λ b. b && is_none (m.holders d)) (eq-eqb d c at)) ∙ e) ∙ ap m.holders (sym at))
+    | inl at ↦ rw (eq-eqb d c at) (held_same s (m.holders c)
+        (ap (λ (i : ℕ). is_none (m.holders i)) (sym at) ∙ sym (ap (λ b. b && is_none (m.holders d)) (eq-eqb d c at)) ∙ e) ∙ ap m.holders (sym at))
     | inr other ↦ rw (ne_eqb d c other) refl
   ];
   files = λ e. refl;

@@ -11,13 +11,13 @@ use Rattle.its_records.specs.declared.link.End.TheVariants.{Unopened, Opened, Cl
 use Rattle.its_records.proofs.ClimbLaws.{enough}
 use Rattle.its_records.proofs.FreeLaws.{least_empty}
 use Rattle.its_records.proofs.TreeLaws.{below_superior}
-use Rattle.its_plain.specs.CallFile.{file_named}
-use Rattle.its_plain.specs.CallStep.{step}
-use Rattle.its_plain.specs.Change.{channel_in, superiors, console_in, is_gone, job_after_removal, holder_after_removal, ends_after_removal, after_removal, with_inf, if_alive, standing_if}
+use Rattle.its_plain.specs.Call.File.{file_named}
+use Rattle.its_plain.specs.Call.Step.{step}
+use Rattle.its_plain.specs.Machine.Change.{channel_in, superiors, console_in, is_gone, job_after_removal, holder_after_removal, ends_after_removal, after_removal, with_inf, if_alive, standing_if}
 use Rattle.its_plain.specs.Machine.{File, Pipe, Chan, Shut, TtyIn, TtyOut, Reads, Writes, On, Linked, Whole, Machine, limit}
 use Rattle.its_stepped.specs.Forest.{OnInferior, end_at, Forest}
-use Rattle.its_stepped.proofs.ForestLaws.{forest_below, job_few, inferior_stands}
-use Rattle.its_stepped.proofs.JoinedLaws.{linked_at}
+use Rattle.its_stepped.proofs.Keeping.ForestLaws.{forest_below, job_few, inferior_stands}
+use Rattle.its_stepped.proofs.Keeping.JoinedLaws.{linked_at}
 use Rattle.its_security.proofs.ReaderLaws.{file_stays}
 use Rattle.its_security.specs.Alike.{SameThrough, SameAt, Alike}
 use Rattle.its_security.specs.Respect.{Strangers, MeetsAtLink, by_end, by_name, by_removal, MeetsAtConsole, by_console, by_holder, StaysThrough, StaysAt, Respects, Unmet}
@@ -74,7 +74,8 @@ slots_few m d k = go (superiors m k) (d.standing k)
     go None h = tt
     go (Some s) h = job_few m d s h
 
-climbs_few : (m : Machine) (k : ℕ) (o : Option ℕ) → Forest m → IfSome o (λ s. s < slots) → climbs_to (superiors m) k (suc slots) o ≡ true → climbs_to (superiors m) k slots o ≡ true
+climbs_few : (m : Machine) (k : ℕ) (o : Option ℕ) → Forest m → IfSome o (λ s. s < slots) → climbs_to (superiors m) k (suc slots) o ≡ true
+    → climbs_to (superiors m) k slots o ≡ true
 unfolding climbs_to
 climbs_few m k None d few h = cc
 climbs_few m k (Some i) d few h = enough (superiors m) k slots i (slots_few m d) few (omega arith) h
@@ -89,7 +90,8 @@ below_of sup k i ne h = rw (ne_eqb i k ne, h) refl
 
 below_above : (m : Machine) (r k i : ℕ) → Forest m → superiors m r ≡ Some k → i ≢ k → is_below (superiors m) r i ≡ true → is_below (superiors m) k i ≡ true
 below_above m r k i d up ne h =
-    below_of (superiors m) k i ne (climbs_few m k (superiors m i) d (slots_few m d i) (climb_up (superiors m) r k slots (superiors m i) up (climbs_of (superiors m) r i h)))
+    below_of (superiors m) k i ne (climbs_few m k (superiors m i) d (slots_few m d i)
+    (climb_up (superiors m) r k slots (superiors m i) up (climbs_of (superiors m) r i h)))
 
 -- two jobs that are strangers to each other
 module _ (m : Machine) (j k : ℕ) (d : Forest m) (ne : j ≢ k) (apart : Strangers m j k) where
@@ -131,7 +133,8 @@ module _ (m : Machine) (j k : ℕ) (d : Forest m) (ne : j ≢ k) (apart : Strang
       told_apart (superiors m k) s _ refl (no_second s up) ∙ gone_job k s (stays_below (superiors m) k s j up not_with no_superior) (no_second s up)
     where
       no_second : (s : ℕ) → superiors m s ≡ Some j → superiors m k ≢ Some s
-      no_second s up e = (let no : false ≡ true = sym apart.not_above ∙ below_above m s j k d up (λ e. ne (sym e)) (below_superior (superiors m) s k (λ i. no_superior (ap (superiors m) i ∙ up)) e) in cc)
+      no_second s up e = (let no : false ≡ true = sym apart.not_above
+          ∙ below_above m s j k d up (λ e. ne (sym e)) (below_superior (superiors m) s k (λ i. no_superior (ap (superiors m) i ∙ up)) e) in cc)
   inferior_left n l s up (by_uclose i r at write is above) =
       gone_job r s (stays_below (superiors m) r s j up (not_removed r above) (λ e. ne (sym (same_slot k j (sym above ∙ e)))))
       (λ e. no_superior (subst (λ (i : ℕ). superiors m i ≡ Some j) (same_slot s k (sym e ∙ above)) up))
@@ -142,7 +145,8 @@ module _ (m : Machine) (j k : ℕ) (d : Forest m) (ne : j ≢ k) (apart : Strang
   not_changed n i no_up no_down there (job_made u x least none at) =
       let no : false ≡ true = sym (ap (λ (o : Option Whole). is_some o) (least_empty (limit m) m.jobs i least)) ∙ there in cc
 
-  job_stays : (n l : Machine) (i : ℕ) → superiors m i ≢ Some k → superiors m k ≢ Some i → is_some (m.jobs i) ≡ true → l.jobs i ≡ m.jobs i → OtherJob m l n k i → n.jobs i ≡ m.jobs i
+  job_stays : (n l : Machine) (i : ℕ) → superiors m i ≢ Some k → superiors m k ≢ Some i → is_some (m.jobs i) ≡ true → l.jobs i ≡ m.jobs i
+      → OtherJob m l n k i → n.jobs i ≡ m.jobs i
   job_stays n l i no_up no_down there e (inl f) = f ∙ e
   job_stays n l i no_up no_down there e (inr may) = absurd (not_changed n i no_up no_down there may.1)
 
@@ -163,14 +167,16 @@ gone_by : (m n l : Machine) (k g : ℕ) → is_some (m.jobs g) ≡ true → l.jo
 gone_by m n l k g there none (inl e) = e ∙ none
 gone_by m n l k g there none (inr may) = absurd (some_not_none (m.jobs g) there (ap (λ (x : Machine). x.jobs g) (sym may.0) ∙ none))
 
-gone_now : (m n : Machine) (k g : ℕ) (l : Machine) → Forest m → is_some (m.jobs g) ≡ true → Removes m n k l → l.jobs g ≡ None → ((g ≢ k) → OtherJob m l n k g) → n.jobs g ≡ None
+gone_now : (m n : Machine) (k g : ℕ) (l : Machine) → Forest m → is_some (m.jobs g) ≡ true → Removes m n k l → l.jobs g ≡ None
+    → ((g ≢ k) → OtherJob m l n k g) → n.jobs g ≡ None
 gone_now m n k g l d there nobody none may = absurd (some_not_none (m.jobs g) there none)
 gone_now m n k g l d there (by_logout gone) none may = elim (cases_eq g k) [
   | inl at ↦ ap n.jobs at ∙ gone
   | inr other ↦ gone_by m n _ k g there none (may other)
 ]
 gone_now m n k g l d there (by_uclose i s at write is up) none may = elim (cases_eq g k) [
-  | inl same ↦ absurd (some_left m s k (forest_below m s k d up) (subst (λ (i : ℕ). is_some (m.jobs i) ≡ true) same there) (subst (λ (i : ℕ). (after_removal (superiors m) s m).jobs i ≡ None) same none))
+  | inl same ↦ absurd (some_left m s k (forest_below m s k d up) (subst (λ (i : ℕ). is_some (m.jobs i) ≡ true) same there)
+      (subst (λ (i : ℕ). (after_removal (superiors m) s m).jobs i ≡ None) same none))
   | inr other ↦ gone_by m n _ k g there none (may other)
 ]
 
@@ -195,7 +201,8 @@ removed_links : (m : Machine) (r l : ℕ) → (after_removal (superiors m) r m).
 unfolding after_removal
 removed_links m r l = refl
 
-removed_holders : (m : Machine) (r c : ℕ) → (after_removal (superiors m) r m).holders c ≡ holder_after_removal (is_gone (superiors m) r) (superiors m r) (m.holders c)
+removed_holders : (m : Machine) (r c : ℕ) → (after_removal (superiors m) r m).holders c ≡ holder_after_removal (is_gone (superiors m) r)
+    (superiors m r) (m.holders c)
 unfolding after_removal
 removed_holders m r c = refl
 
@@ -218,7 +225,8 @@ open_alive true k j i e = ap (λ (x : End). is_open k.reader || is_open x) e ∙
 open_alive false k j i e = ap (λ (x : End). is_open x || is_open k.writer) e
 
 link_by : (gone : ℕ → Bool) (p : Pipe) (j i : ℕ) (write : Bool) → link_end write p.link ≡ Opened j i → EndLeft gone p.link.reader → EndLeft gone p.link.writer
-    → (if_alive (record p { link = link_left gone p.link }) ≡ Some p) ⊎ ((g : ℕ) × ((h : ℕ) × ((w : Bool) × ((link_end w p.link ≡ Opened g h) × (gone g ≡ true)))))
+    → (if_alive (record p { link = link_left gone p.link }) ≡ Some p)
+    ⊎ ((g : ℕ) × ((h : ℕ) × ((w : Bool) × ((link_end w p.link ≡ Opened g h) × (gone g ≡ true)))))
 link_by gone p j i write open_ (end_stays a) (end_stays b) =
     let same : record p { link = link_left gone p.link } ≡ p = λ t. record p { link = record p.link { reader = a t; writer = b t } } in
     inl (ap if_alive same ∙ ap (λ b. standing_if b p) (open_alive write p.link j i open_))
@@ -233,29 +241,35 @@ module _ (m n : Machine) (j k : ℕ) (d : Forest m) (may : MayStep m k n) where
       go (Some q) e = refl
       go None e = cc
 
-  link_cut : (r l i : ℕ) (write : Bool) (o : Option Pipe) → m.links l ≡ o → end_at write o ≡ Opened j i → n.links l ≡ ends_after_removal (is_gone (superiors m) r) o
+  link_cut : (r l i : ℕ) (write : Bool) (o : Option Pipe) → m.links l ≡ o → end_at write o ≡ Opened j i
+      → n.links l ≡ ends_after_removal (is_gone (superiors m) r) o
       → ((g : ℕ) → is_gone (superiors m) r g ≡ true → is_some (m.jobs g) ≡ true → n.jobs g ≡ None) → (n.links l ≡ m.links l) ⊎ MeetsAtLink m n k l
   link_cut r l i write None is open_ e out = cc
   link_cut r l i write (Some p) is open_ e out =
-      go (link_by (is_gone (superiors m) r) p j i write open_ (end_by (is_gone (superiors m) r) p.link.reader) (end_by (is_gone (superiors m) r) p.link.writer))
+      go (link_by (is_gone (superiors m) r) p j i write open_ (end_by (is_gone (superiors m) r) p.link.reader)
+      (end_by (is_gone (superiors m) r) p.link.writer))
     where
-      go : (if_alive (record p { link = link_left (is_gone (superiors m) r) p.link }) ≡ Some p) ⊎ ((g : ℕ) × ((h : ℕ) × ((w : Bool) × ((link_end w p.link ≡ Opened g h) × (is_gone (superiors m) r g ≡ true)))))
+      go : (if_alive (record p { link = link_left (is_gone (superiors m) r) p.link }) ≡ Some p)
+          ⊎ ((g : ℕ) × ((h : ℕ) × ((w : Bool) × ((link_end w p.link ≡ Opened g h) × (is_gone (superiors m) r g ≡ true)))))
           → (n.links l ≡ m.links l) ⊎ MeetsAtLink m n k l
       go (inl same) = inl (e ∙ same ∙ sym is)
       go (inr x) =
           let at : end_at x.1.1.0 (m.links l) ≡ Opened x.0 x.1.0 = ap (end_at x.1.1.0) is ∙ x.1.1.1.0 in
           inr (by_removal x.0 x.1.0 x.1.1.0 (open_at x.0 x.1.0 x.1.1.0 (m.links l) at) (out x.0 x.1.1.1.1 (end_there l x.0 x.1.0 x.1.1.0 at)))
 
-  link_left_by : (l i : ℕ) (write : Bool) (o : Machine) → Removes m n k o → end_at write (m.links l) ≡ Opened j i → n.links l ≡ o.links l → ((g : ℕ) → g ≢ k → OtherJob m o n k g)
+  link_left_by : (l i : ℕ) (write : Bool) (o : Machine) → Removes m n k o → end_at write (m.links l) ≡ Opened j i → n.links l ≡ o.links l
+      → ((g : ℕ) → g ≢ k → OtherJob m o n k g)
       → (n.links l ≡ m.links l) ⊎ MeetsAtLink m n k l
   link_left_by l i write o nobody open_ e jobs = inl e
   link_left_by l i write o (by_logout gone) open_ e jobs =
       link_cut k l i write (m.links l) refl open_ (e ∙ ap (λ (f : ℕ → Option Pipe). f l) (told_links (superiors m k) _) ∙ removed_links m k l)
       (λ g out there. gone_now m n k g _ d there (by_logout gone) (told_none (superiors m k) g _ (removed_jobs m k g out)) (jobs g))
   link_left_by l i write o (by_uclose x s at leave is up) open_ e jobs =
-      link_cut s l i write (m.links l) refl open_ (e ∙ removed_links m s l) (λ g out there. gone_now m n k g _ d there (by_uclose x s at leave is up) (removed_jobs m s g out) (jobs g))
+      link_cut s l i write (m.links l) refl open_ (e ∙ removed_links m s l)
+      (λ g out there. gone_now m n k g _ d there (by_uclose x s at leave is up) (removed_jobs m s g out) (jobs g))
 
-  link_respected : (l i : ℕ) (write : Bool) → end_at write (m.links l) ≡ Opened j i → OtherLink m may.left n k l → (n.links l ≡ m.links l) ⊎ MeetsAtLink m n k l
+  link_respected : (l i : ℕ) (write : Bool) → end_at write (m.links l) ≡ Opened j i → OtherLink m may.left n k l → (n.links l ≡ m.links l)
+      ⊎ MeetsAtLink m n k l
   link_respected l i write open_ (inl e) = link_left_by l i write may.left may.removes open_ e (other_job m may.left n k may.jobs)
   link_respected l i write open_ (inr (none, end_opened c x y w shut free named e)) = inr (by_name w free)
   link_respected l i write open_ (inr (none, word_sent c w at e)) = inr (by_end c true at)
@@ -275,13 +289,15 @@ module _ (m n : Machine) (j k : ℕ) (d : Forest m) (may : MayStep m k n) where
     | inr f ↦ inl (e ∙ ap (λ b. if b then superiors m r else Some h) f ∙ sym is)
   ]
 
-  holder_left_by : (c : ℕ) (o : Machine) → Removes m n k o → n.holders c ≡ o.holders c → ((g : ℕ) → g ≢ k → OtherJob m o n k g) → (n.holders c ≡ m.holders c) ⊎ MeetsAtConsole m n k c
+  holder_left_by : (c : ℕ) (o : Machine) → Removes m n k o → n.holders c ≡ o.holders c → ((g : ℕ) → g ≢ k → OtherJob m o n k g)
+      → (n.holders c ≡ m.holders c) ⊎ MeetsAtConsole m n k c
   holder_left_by c o nobody e jobs = inl e
   holder_left_by c o (by_logout gone) e jobs =
       holder_cut k c (m.holders c) refl (e ∙ ap (λ (f : ℕ → Option ℕ). f c) (told_holders (superiors m k) _) ∙ removed_holders m k c)
       (λ g out there. gone_now m n k g _ d there (by_logout gone) (told_none (superiors m k) g _ (removed_jobs m k g out)) (jobs g))
   holder_left_by c o (by_uclose x s at leave is up) e jobs =
-      holder_cut s c (m.holders c) refl (e ∙ removed_holders m s c) (λ g out there. gone_now m n k g _ d there (by_uclose x s at leave is up) (removed_jobs m s g out) (jobs g))
+      holder_cut s c (m.holders c) refl (e ∙ removed_holders m s c)
+      (λ g out there. gone_now m n k g _ d there (by_uclose x s at leave is up) (removed_jobs m s g out) (jobs g))
 
   holder_respected : (c : ℕ) → HolderMay m may.left n k c → (n.holders c ≡ m.holders c) ⊎ MeetsAtConsole m n k c
   holder_respected c (holder_same e) = holder_left_by c may.left may.removes e (other_job m may.left n k may.jobs)
@@ -301,11 +317,13 @@ module _ (m n : Machine) (j k : ℕ) (d : Forest m) (may : MayStep m k n) (ne : 
 
   not_second : (s : ℕ) → superiors m s ≡ Some j → superiors m k ≢ Some s
   not_second s up e =
-      let no : false ≡ true = sym apart.not_above ∙ below_above m s j k d up (λ e. ne (sym e)) (below_superior (superiors m) s k (λ i. not_one s up (sym i)) e) in cc
+      let no : false ≡ true = sym apart.not_above ∙ below_above m s j k d up (λ e. ne (sym e))
+      (below_superior (superiors m) s k (λ i. not_one s up (sym i)) e) in cc
 
   seen_respected : (i : ℕ) → i < 16 → (c : Chan) → channel_in (m.jobs j) i ≡ c → OnInferior m j c → StaysThrough m n k c
   seen_respected i few (On s write at) on up =
-      job_stays m j k d ne apart n may.left s (not_inferior s up) (not_second s up) (inferior_stands m s j up) (inferior_left m j k d ne apart n may.left s up may.removes) (other_job m may.left n k may.jobs s (not_one s up))
+      job_stays m j k d ne apart n may.left s (not_inferior s up) (not_second s up) (inferior_stands m s j up)
+      (inferior_left m j k d ne apart n may.left s up may.removes) (other_job m may.left n k may.jobs s (not_one s up))
   seen_respected i few (Reads x at) on up =
       λ f is. file_stays m n k j i at x f (job_few m d j there) few on may.files is
   seen_respected i few (Linked l write) on up =
@@ -317,7 +335,8 @@ module _ (m n : Machine) (j k : ℕ) (d : Forest m) (may : MayStep m k n) (ne : 
 
   respected : Respects m n j k
   respected = record {
-    own = job_stays m j k d ne apart n may.left j (no_inferior m j k d ne apart) (no_superior m j k d ne apart) there (own_left m j k d ne apart n may.left may.removes) (other_job m may.left n k may.jobs j ne);
+    own = job_stays m j k d ne apart n may.left j (no_inferior m j k d ne apart) (no_superior m j k d ne apart) there
+        (own_left m j k d ne apart n may.left may.removes) (other_job m may.left n k may.jobs j ne);
     channels = λ i few. seen_respected i few (channel_in (m.jobs j) i) refl (d.channels j i);
     console = console_respected m n j k d may (console_in (m.jobs j));
     clock = may.clock;
@@ -327,15 +346,18 @@ module _ (m n : Machine) (j k : ℕ) (d : Forest m) (may : MayStep m k n) (ne : 
   module _ (u : Unmet m n j k) where
     seen_alike : (i : ℕ) (c : Chan) → channel_in (m.jobs j) i ≡ c → OnInferior m j c → SameThrough m n c
     seen_alike i (On s write at) on up =
-        job_stays m j k d ne apart n may.left s (not_inferior s up) (not_second s up) (inferior_stands m s j up) (inferior_left m j k d ne apart n may.left s up may.removes) (other_job m may.left n k may.jobs s (not_one s up))
+        job_stays m j k d ne apart n may.left s (not_inferior s up) (not_second s up) (inferior_stands m s j up)
+        (inferior_left m j k d ne apart n may.left s up may.removes) (other_job m may.left n k may.jobs s (not_one s up))
     seen_alike i (Reads x at) on up =
         let file = u.files i at x on in
         there_still (file_named x m.files) refl file.1 (λ f is. file_stays m n k j i at x f (job_few m d j there) file.0 on may.files is)
       where
-        there_still : (o : Option File) → file_named x m.files ≡ o → is_some o ≡ true → ((f : File) → file_named x m.files ≡ Some f → file_named x n.files ≡ Some f) → file_named x n.files ≡ file_named x m.files
+        there_still : (o : Option File) → file_named x m.files ≡ o → is_some o ≡ true
+            → ((f : File) → file_named x m.files ≡ Some f → file_named x n.files ≡ Some f) → file_named x n.files ≡ file_named x m.files
         there_still (Some f) is some h = h f is ∙ sym is
         there_still None is some h = cc
-    seen_alike i (Linked l write) on up = go (link_respected m n j k d may l i write (linked_at m j i l write d.links on).1 (other_link m may.left n k may.links l))
+    seen_alike i (Linked l write) on up = go (link_respected m n j k d may l i write (linked_at m j i l write d.links on).1
+        (other_link m may.left n k may.links l))
       where
         go : (n.links l ≡ m.links l) ⊎ MeetsAtLink m n k l → n.links l ≡ m.links l
         go (inl e) = e

@@ -1,5 +1,5 @@
--- If two machines look alike to a job, and the table is the same at which its next call looks, then it has a step on both or on
--- neither, and after it they look alike to the job.
+-- If two machines look alike to a job, and the table is the same at which its next call looks, then
+-- it has a step on both or on neither, and after it they look alike to the job.
 use Rattle.std.specs.Prelude.{if◌then◌else◌, ◌==◌, ◌&&◌, ◌≡◌, ◌++◌, ℕ, Bool, true, false, not, Option, Some, None, List, [], ◌∷◌, is_some, option_map, unwrap_or, Result, Ok, Err, refl}
 use Rattle.std.proofs.Common.{sym, ◌∙◌, ap, subst}
 use Rattle.std.proofs.lemmas.Bool.{eq-eqb}
@@ -22,30 +22,30 @@ use Rattle.its_frame.specs.declared.decision.Decision.TheVariants.{Waits, Goes, 
 use Rattle.its_frame.specs.declared.name.CallName.{CallName}
 use Rattle.its_frame.specs.declared.name.CallName.TheVariants as calls
 use Rattle.its_frame.specs.declared.variable.Variable.{Variable}
-use Rattle.its_plain.specs.Arguments.{input, has_input, place_of_input}
-use Rattle.its_plain.specs.CallBasic.{dismissed_by, dismiss_at, dismiss, Oneself, by_oneself, by_superior, set_own, own_variable, set_other, value_of_other, other_variable, usrvar_of, party_on, is_oneself, usrvar, logout, told_superior, channel_at, alarm_of}
-use Rattle.its_plain.specs.CallDevice.{open_by, open_call}
-use Rattle.its_plain.specs.CallFile.{disk_device, file_named, has_file, names_from, is_output, opens_as, disk_tests, opens_disk, file_tests, rename}
-use Rattle.its_plain.specs.CallLink.{link_device, can_open, link_named, joins, makes_link, opens_end, link_tests, opens_link}
-use Rattle.its_plain.specs.CallStep.{acted, decision, informs, delivery, with_core_and_job, with_fault, by_ask, by_unit, by_delivery, unless_stopped, transition_of, transition}
-use Rattle.its_plain.specs.CallTty.{view_console, has_console, can_take, is_holder, lands, ttylnd_of, ttylnd, opens_on, open_tests, opens}
-use Rattle.its_plain.specs.CallUsr.{usr_device, any_named, inferior_named, makes_job, opens_job, usr_tests, opens_usr, uclose_on, uclose}
-use Rattle.its_plain.specs.Change.{in_job, channel_in, superior_in, superiors, console_in, is_gone, after_removal, inferior, with_inf, link_or_new, with_end_opened, effect, effects}
-use Rattle.its_plain.specs.Decide.{call_named, decided_by, decided, target, reach}
-use Rattle.its_plain.specs.Decode.{ask}
-use Rattle.its_plain.specs.Interrupt.{after_dismissal, deliverable, delivered}
+use Rattle.its_plain.specs.Call.Arguments.{input, has_input, place_of_input}
+use Rattle.its_plain.specs.Call.Basic.{dismissed_by, dismiss_at, dismiss, Oneself, by_oneself, by_superior, set_own, own_variable, set_other, value_of_other, other_variable, usrvar_of, party_on, is_oneself, usrvar, logout, told_superior, channel_at, alarm_of}
+use Rattle.its_plain.specs.Call.Device.{open_by, open_call}
+use Rattle.its_plain.specs.Call.File.{disk_device, file_named, has_file, names_from, is_output, opens_as, disk_tests, opens_disk, file_tests, rename}
+use Rattle.its_plain.specs.Call.Link.{link_device, can_open, link_named, joins, makes_link, opens_end, link_tests, opens_link}
+use Rattle.its_plain.specs.Call.Step.{acted, decision, informs, delivery, with_core_and_job, with_fault, by_ask, by_unit, by_delivery, unless_stopped, transition_of, transition}
+use Rattle.its_plain.specs.Call.Tty.{view_console, has_console, can_take, is_holder, lands, ttylnd_of, ttylnd, opens_on, open_tests, opens}
+use Rattle.its_plain.specs.Call.Usr.{usr_device, any_named, inferior_named, makes_job, opens_job, usr_tests, opens_usr, uclose_on, uclose}
+use Rattle.its_plain.specs.Machine.Change.{in_job, channel_in, superior_in, superiors, console_in, is_gone, after_removal, inferior, with_inf, link_or_new, with_end_opened, effect, effects}
+use Rattle.its_plain.specs.Call.Decide.{call_named, decided_by, decided, target, reach}
+use Rattle.its_plain.specs.Call.Decode.{ask}
+use Rattle.its_plain.specs.Unit.Interrupt.{after_dismissal, deliverable, delivered}
 use Rattle.its_plain.specs.Machine.{Names, File, Chan, Shut, TtyIn, TtyOut, Reads, Writes, On, Linked, Whole, Machine, with_new}
-use Rattle.its_plain.specs.Own.{names_of, on_channel, opened_on}
-use Rattle.its_plain.specs.Tests.{◌⇒◌, finishes, fails, out}
+use Rattle.its_plain.specs.Machine.Own.{names_of, on_channel, opened_on}
+use Rattle.its_plain.specs.Call.Tests.{◌⇒◌, finishes, fails, out}
 use Rattle.its_plain.specs.Unit.{Outcome, Changed, Faulted, Called, unit}
-use Rattle.its_plain.specs.View.{View, view}
+use Rattle.its_plain.specs.Machine.View.{View, view}
 use Rattle.its_plain.proofs.UnitLaws.{unit_keeps}
 use Rattle.its_stepped.specs.Forest.{Forest}
-use Rattle.its_stepped.proofs.ConsoledLaws.{delivered_console}
-use Rattle.its_stepped.proofs.TestLaws.{by_test, first_holds}
+use Rattle.its_stepped.proofs.Keeping.ConsoledLaws.{delivered_console}
+use Rattle.its_stepped.proofs.Committing.TestLaws.{by_test, first_holds}
 use Rattle.its_security.specs.Alike.{SameThrough, SameAt, Alike, SameNamed, SameLinked, SameTree, SameOpened, TablesFor, SameTables, AlikeSteps, AlikeBy}
 use Rattle.its_security.proofs.EffectsAlike.{same_jobs, job_alike, channel_alike, link_alike, files_alike, renamed_same}
-use Rattle.its_stepped.proofs.CallWays.{Any, Ways, Apart, call_ways}
+use Rattle.its_stepped.proofs.Duties.CallWays.{Any, Ways, Apart, call_ways}
 use Rattle.its_security.proofs.CallChanges.{CanMake, AllMake, AllMade, Makes, call_makes}
 use Rattle.its_security.proofs.WaysAlike.{Neutral, AllNeutral, Effects, Same, all_alike, ends_same, goes_same, waits_same, nothing_same, arms_alike, holds_alike, sets_alike, closes_tree}
 use Rattle.its_security.proofs.DecisionsAlike.{own_channels, channel_seen, target_seen, decided_same}
@@ -116,8 +116,17 @@ removal_clock m n j e = e
 
 logs_out : (m n : Machine) (j : ℕ) (o : Option ℕ) → Alike j m n → Same m n j (Gone (record { items = told_superior o }))
 unfolding acted effect
-logs_out m n j None h = λ b ks ls. record { machine = gone_alike j _ _ (itself_gone m j) (itself_gone n j) (removal_clock m n j h.clock); moves = refl; part = refl }
-logs_out m n j (Some s) h = λ b ks ls. record { machine = gone_alike j _ _ (gone_then m j s) (gone_then n j s) (removal_clock m n j h.clock); moves = refl; part = refl }
+logs_out m n j None h = λ b ks ls. record {
+  machine = gone_alike j _ _ (itself_gone m j) (itself_gone n j) (removal_clock m n j h.clock);
+  moves = refl;
+  part = refl;
+}
+logs_out m n j (Some s) h = λ b ks ls. record {
+  machine = gone_alike j _ _ (gone_then m j s) (gone_then n j s)
+      (removal_clock m n j h.clock);
+  moves = refl;
+  part = refl;
+}
 
 -- OPEN: the channel is then on what looks the same
 opens_alike : (j n : ℕ) (m o : Machine) (on : Opened) → SameThrough m o (opened_on on) → Alike j m o → Effects j m o (changes.Open n on ∷ [])
@@ -127,7 +136,8 @@ opens_alike j n m o on e h = record {
   moves = refl;
 }
   where
-    go : (on : Opened) → SameThrough m o (opened_on on) → SameThrough (in_job m j (on_channel n (λ c. opened_on on))) (in_job o j (on_channel n (λ c. opened_on on))) (opened_on on)
+    go : (on : Opened) → SameThrough m o (opened_on on) → SameThrough (in_job m j (on_channel n (λ c. opened_on on)))
+        (in_job o j (on_channel n (λ c. opened_on on))) (opened_on on)
     go (opened.Usr s write) e = same_jobs m o j s (on_channel n (λ c. On s write 0)) e
     go (opened.Reading d x y) e = e
     go (opened.Writing d x y) e = tt
@@ -162,7 +172,8 @@ made_alike j s u x m n h = record {
     through TtyOut e = tt
     through (Writes f) e = tt
 
-    channel : (i : ℕ) (b : Bool) (w : Option Whole) → SameThrough m n (channel_in w i) → SameThrough o p (channel_in (if b then Some (inferior j (m.jobs j) u x) else w) i)
+    channel : (i : ℕ) (b : Bool) (w : Option Whole) → SameThrough m n (channel_in w i)
+        → SameThrough o p (channel_in (if b then Some (inferior j (m.jobs j) u x) else w) i)
     channel i true w e = tt
     channel i false w e = through (channel_in w i) e
 
@@ -183,7 +194,8 @@ makes_alike j s u x n m o h =
     let p = with_new m s (inferior j (m.jobs j) u x) in
     let r = with_new o s (inferior j (o.jobs j) u x) in
     record {
-      machine = channel_alike j n p r (λ c. On s true 0) (λ c e. same_jobs p r j s (on_channel n (λ c. On s true 0)) (here m s (inferior j (m.jobs j) u x) o (inferior j (o.jobs j) u x) (λ i. inferior j (h.own i) u x))) (made_alike j s u x m o h);
+      machine = channel_alike j n p r (λ c. On s true 0) (λ c e. same_jobs p r j s (on_channel n (λ c. On s true 0))
+          (here m s (inferior j (m.jobs j) u x) o (inferior j (o.jobs j) u x) (λ i. inferior j (h.own i) u x))) (made_alike j s u x m o h);
       moves = refl;
     }
   where
@@ -194,7 +206,8 @@ makes_alike j s u x n m o h =
 joins_alike : (j i l : ℕ) (write : Bool) (x y : ℕ) (m n : Machine) → n.links l ≡ m.links l → Alike j m n → Effects j m n (changes.Join i l write x y ∷ [])
 unfolding effect
 joins_alike j i l write x y m n e h = record {
-  machine = link_alike j l (in_job m j (on_channel i (λ c. Linked l write))) (in_job n j (on_channel i (λ c. Linked l write))) (λ o. Some (with_end_opened write j i (link_or_new x y o)))
+  machine = link_alike j l (in_job m j (on_channel i (λ c. Linked l write))) (in_job n j (on_channel i (λ c. Linked l write)))
+      (λ o. Some (with_end_opened write j i (link_or_new x y o)))
       (channel_alike j i m n (λ c. Linked l write) (λ c k. e) h);
   moves = refl;
 }
@@ -241,7 +254,8 @@ module _ (m n : Machine) (j : ℕ) (q : Whole) (a : Ask) (d : Forest m) (is : m.
   own_variable_same : (o : Option Variable) → Same m n j (own_variable x a o)
   own_variable_same None = fail_same 0o22
   own_variable_same (Some y) =
-      by_test (Same m n j) (has_input a 2 && not (by_oneself y)) (fails x a 0o22) (set_own x a y (has_input a 2)) (λ e. fail_same 0o22) (λ e. set_same y (has_input a 2))
+      by_test (Same m n j) (has_input a 2 && not (by_oneself y)) (fails x a 0o22) (set_own x a y (has_input a 2)) (λ e. fail_same 0o22)
+      (λ e. set_same y (has_input a 2))
 
   other_variable_same : (s : ℕ) (write : Bool) (o : Option Variable) → Same m n j (other_variable x a s write o)
   other_variable_same s write None = fail_same 0o22
@@ -287,9 +301,11 @@ module _ (m n : Machine) (j : ℕ) (q : Whole) (a : Ask) (d : Forest m) (is : m.
   unfolding opens_disk
   disk_same look =
       let control = unwrap_or a.control 0 in
-      first_holds (Same m n j) (disk_tests x a (input a 0) control) (finishes x (changes.Open (input a 0) (opens_as (is_output control) (input a 4) (input a 2) (input a 3)) ∷ []) [])
+      first_holds (Same m n j) (disk_tests x a (input a 0) control)
+      (finishes x (changes.Open (input a 0) (opens_as (is_output control) (input a 4) (input a 2) (input a 3)) ∷ []) [])
       (λ e. fail_same 0o4, (λ e. fail_same 0o22, (λ e. fail_same 0o6, tt)))
-      (λ e. ends_same m n j _ _ _ (opens_alike j (input a 0) m n (opens_as (is_output control) (input a 4) (input a 2) (input a 3)) (go (is_output control)) h))
+      (λ e. ends_same m n j _ _ _ (opens_alike j (input a 0) m n (opens_as (is_output control) (input a 4) (input a 2) (input a 3))
+      (go (is_output control)) h))
     where
       go : (b : Bool) → SameThrough m n (opened_on (opens_as b (input a 4) (input a 2) (input a 3)))
       go true = tt
@@ -316,14 +332,17 @@ module _ (m n : Machine) (j : ℕ) (q : Whole) (a : Ask) (d : Forest m) (is : m.
   join_same : (i l : ℕ) (write : Bool) (u y : ℕ) → n.links l ≡ m.links l → Same m n j (joins x i l write u y)
   join_same i l write u y e = ends_same m n j _ _ _ (joins_alike j i l write u y m n e h)
 
-  makes_link_same : (i : ℕ) (write : Bool) (u y : ℕ) (o : Option ℕ) → least_free most_links m.links ≡ o → least_free most_links n.links ≡ o → Same m n j (makes_link x a i write u y o)
+  makes_link_same : (i : ℕ) (write : Bool) (u y : ℕ) (o : Option ℕ) → least_free most_links m.links ≡ o → least_free most_links n.links ≡ o
+      → Same m n j (makes_link x a i write u y o)
   makes_link_same i write u y (Some l) e f = join_same i l write u y (least_empty most_links n.links l f ∙ sym (least_empty most_links m.links l e))
   makes_link_same i write u y None e f = fail_same 0o25
 
-  end_same : (i : ℕ) (write : Bool) (u y : ℕ) (o : Option ℕ) → ((k : ℕ) → o ≡ Some k → n.links k ≡ m.links k) → least_free most_links n.links ≡ least_free most_links m.links → Same m n j (opens_end x a i write u y o)
+  end_same : (i : ℕ) (write : Bool) (u y : ℕ) (o : Option ℕ) → ((k : ℕ) → o ≡ Some k → n.links k ≡ m.links k)
+      → least_free most_links n.links ≡ least_free most_links m.links → Same m n j (opens_end x a i write u y o)
   unfolding view
   end_same i write u y (Some l) look free =
-      first_holds (Same m n j) (not (can_open write (x.links l)) ⇒ fails x a 0o24 ∷ []) (joins x i l write u y) (λ e. fail_same 0o24, tt) (λ e. join_same i l write u y (look l refl))
+      first_holds (Same m n j) (not (can_open write (x.links l)) ⇒ fails x a 0o24 ∷ []) (joins x i l write u y) (λ e. fail_same 0o24, tt)
+      (λ e. join_same i l write u y (look l refl))
   end_same i write u y None look free = makes_link_same i write u y (least_free most_links m.links) refl free
 
   link_same : SameLinked m n (input a 2) (input a 3) → Same m n j (opens_link x a)
@@ -346,11 +365,13 @@ module _ (m n : Machine) (j : ℕ) (q : Whole) (a : Ask) (d : Forest m) (is : m.
   unfolding rename view
   rename_same look =
       let change = changes.Rename (input a 3) (input a 1) (input a 2) (input a 4) (input a 5) in
-      first_holds (Same m n j) (file_tests x a (names_from a 1) ++ (has_file (names_of (input a 3) (input a 4) (input a 5)) x.files ⇒ fails x a 0o23 ∷ [])) (finishes x (change ∷ []) [])
+      first_holds (Same m n j) (file_tests x a (names_from a 1)
+      ++ (has_file (names_of (input a 3) (input a 4) (input a 5)) x.files ⇒ fails x a 0o23 ∷ [])) (finishes x (change ∷ []) [])
       (λ e. fail_same 0o5, (λ e. fail_same 0o6, (λ e. fail_same 0o11, (λ e. fail_same 0o23, tt))))
       (λ e. ends_same m n j _ _ _
       (renames_alike j (input a 3) (input a 1) (input a 2) (input a 4) (input a 5) m n
-      (absent (names_of (input a 3) (input a 4) (input a 5)) m.files e.1.1.1.0) (absent (names_of (input a 3) (input a 4) (input a 5)) n.files (look.1.1 ∙ e.1.1.1.0)) look.0 h))
+      (absent (names_of (input a 3) (input a 4) (input a 5)) m.files e.1.1.1.0)
+      (absent (names_of (input a 3) (input a 4) (input a 5)) n.files (look.1.1 ∙ e.1.1.1.0)) look.0 h))
 
   -- TTYLND
   lands_same : (may : Bool) (number s : ℕ) → Same m n j (lands x a may number s)
@@ -467,7 +488,8 @@ put_channel : (f : Whole → Whole) (o : Option Whole) (i : ℕ) → ((q : Whole
 put_channel f (Some q) i h = ap (λ (cs : ℕ → Chan). cs i) (h q)
 put_channel f None i h = refl
 
-put_alike : (j : ℕ) (m n : Machine) (f : Whole → Whole) → ((q : Whole) → (f q).channels ≡ q.channels) → console_in (option_map f (m.jobs j)) ≡ console_in (m.jobs j) → Alike j m n
+put_alike : (j : ℕ) (m n : Machine) (f : Whole → Whole) → ((q : Whole) → (f q).channels ≡ q.channels)
+    → console_in (option_map f (m.jobs j)) ≡ console_in (m.jobs j) → Alike j m n
     → Alike j (in_job m j f) (in_job n j f)
 put_alike j m n f channels console h =
     let o = in_job m j f in
@@ -475,7 +497,8 @@ put_alike j m n f channels console h =
     let here : o.jobs j ≡ option_map f (m.jobs j) = rw (eq-eqb j j refl) refl in
     record {
       own = same_jobs m n j j f h.own;
-      channels = λ i. subst (SameThrough o p) (sym (ap (λ (w : Option Whole). channel_in w i) here ∙ put_channel f (m.jobs j) i channels)) (through (channel_in (m.jobs j) i) (h.channels i));
+      channels = λ i. subst (SameThrough o p) (sym (ap (λ (w : Option Whole). channel_in w i) here ∙ put_channel f (m.jobs j) i channels))
+          (through (channel_in (m.jobs j) i) (h.channels i));
       console = subst (SameAt o p) (sym (ap (λ (w : Option Whole). console_in w) here ∙ console)) (seen (console_in (m.jobs j)) h.console);
       clock = h.clock;
     }
@@ -499,7 +522,8 @@ informed_alike j true (Some s) m n h = job_alike j s m n with_inf (record { chan
 informed_alike j true None m n h = h
 informed_alike j false o m n h = h
 
-slot_console : (f : Whole → Whole) (b : Bool) (o : Option Whole) → ((q : Whole) → (f q).job.console ≡ q.job.console) → console_in (if b then option_map f o else o) ≡ console_in o
+slot_console : (f : Whole → Whole) (b : Bool) (o : Option Whole) → ((q : Whole) → (f q).job.console ≡ q.job.console)
+    → console_in (if b then option_map f o else o) ≡ console_in o
 slot_console f true (Some q) h = h q
 slot_console f true None h = refl
 slot_console f false o h = refl
@@ -510,7 +534,8 @@ informed_console true (Some s) j m = slot_console with_inf (j == s) (m.jobs j) (
 informed_console true None j m = refl
 informed_console false o j m = refl
 
-put_console : (c : Core) (k : Job) (o : Option Whole) (q : Whole) → console_in o ≡ q.job.console → k.console ≡ q.job.console → is_some o ≡ true → console_in (option_map (with_core_and_job c k) o) ≡ console_in o
+put_console : (c : Core) (k : Job) (o : Option Whole) (q : Whole) → console_in o ≡ q.job.console → k.console ≡ q.job.console
+    → is_some o ≡ true → console_in (option_map (with_core_and_job c k) o) ≡ console_in o
 put_console c k (Some r) q e f there = f ∙ sym e
 put_console c k None q e f there = cc
 
@@ -538,7 +563,8 @@ module _ (m n : Machine) (j : ℕ) (q : Whole) (d : Forest m) (is : m.jobs j ≡
       let o = effects (informs e.stops q.superior) j m in
       record {
         machine = put_alike j o (effects (informs e.stops q.superior) j n) (with_core_and_job e.core e.job) (λ r. refl)
-            (put_console e.core e.job (o.jobs j) q (informed_console e.stops q.superior j m ∙ ap console_in is) (delivered_console q.core q.job) (informed_some e.stops q.superior ∙ ap (λ (p : Option Whole). is_some p) is))
+            (put_console e.core e.job (o.jobs j) q (informed_console e.stops q.superior j m ∙ ap console_in is)
+            (delivered_console q.core q.job) (informed_some e.stops q.superior ∙ ap (λ (p : Option Whole). is_some p) is))
             (informed_alike j e.stops q.superior m n h);
         moves = refl;
         part = refl;
@@ -551,7 +577,8 @@ module _ (m n : Machine) (j : ℕ) (q : Whole) (d : Forest m) (is : m.jobs j ≡
   asks_alike (Ok a) look = call_alike m n j q a d is h (reach m j q a) (reach n j q a) (look a refl)
   asks_alike (Err f) look = record { machine = fault_alike f; moves = refl; part = refl }
 
-  outcome_alike : (o : Outcome) → unit q.core q.job ≡ o → ((s : Site) (a : Ask) → o ≡ Called s → ask q.core s ≡ Ok a → TablesFor j m n q a (call_named a.name)) → AlikeBy j (by_unit m j q o) (by_unit n j q o)
+  outcome_alike : (o : Outcome) → unit q.core q.job ≡ o → ((s : Site) (a : Ask) → o ≡ Called s → ask q.core s ≡ Ok a
+      → TablesFor j m n q a (call_named a.name)) → AlikeBy j (by_unit m j q o) (by_unit n j q o)
   outcome_alike (Changed c k) e look = record { machine = unit_alike c k e; moves = refl; part = refl }
   outcome_alike (Faulted f) e look = record { machine = fault_alike f; moves = refl; part = refl }
   outcome_alike (Called s) e look = asks_alike (ask q.core s) (λ a. look s a refl)
@@ -566,7 +593,8 @@ module _ (m n : Machine) (j : ℕ) (q : Whole) (d : Forest m) (is : m.jobs j ≡
   running_alike true e look = tt
   running_alike false e look = deliveries_alike (deliverable q.job) refl e look
 
-slot_alike : (m n : Machine) (j : ℕ) (o : Option Whole) → m.jobs j ≡ o → Forest m → Alike j m n → SameTables j m n → AlikeBy j (transition_of m j o) (transition_of n j o)
+slot_alike : (m n : Machine) (j : ℕ) (o : Option Whole) → m.jobs j ≡ o → Forest m → Alike j m n → SameTables j m n
+    → AlikeBy j (transition_of m j o) (transition_of n j o)
 slot_alike m n j (Some q) is d h look = running_alike m n j q d is h q.job.stopped refl look
 slot_alike m n j None is d h look = tt
 

@@ -10,16 +10,16 @@ use Rattle.its_records.specs.declared.calls.Ask.{Ask}
 use Rattle.its_records.proofs.FreeLaws.{least_alike}
 use Rattle.its_frame.specs.declared.name.CallName.{CallName}
 use Rattle.its_frame.specs.declared.name.CallName.TheVariants as calls
-use Rattle.its_plain.specs.Arguments.{input}
-use Rattle.its_plain.specs.CallBasic.{channel_at, is_superior}
-use Rattle.its_plain.specs.CallFile.{disk_device, most_files, most_blocks, needs_block, file_named, has_file, names_from}
-use Rattle.its_plain.specs.CallLink.{link_device, has_link_names}
-use Rattle.its_plain.specs.CallUsr.{usr_device, has_names}
-use Rattle.its_plain.specs.Change.{superior_in, superiors, is_gone}
-use Rattle.its_plain.specs.Decide.{call_named}
+use Rattle.its_plain.specs.Call.Arguments.{input}
+use Rattle.its_plain.specs.Call.Basic.{channel_at, is_superior}
+use Rattle.its_plain.specs.Call.File.{disk_device, most_files, most_blocks, needs_block, file_named, has_file, names_from}
+use Rattle.its_plain.specs.Call.Link.{link_device, has_link_names}
+use Rattle.its_plain.specs.Call.Usr.{usr_device, has_names}
+use Rattle.its_plain.specs.Machine.Change.{superior_in, superiors, is_gone}
+use Rattle.its_plain.specs.Call.Decide.{call_named}
 use Rattle.its_plain.specs.Machine.{Names, File, Chan, Shut, TtyIn, TtyOut, Reads, Writes, On, Linked, Whole, Machine, limit}
-use Rattle.its_plain.specs.View.{outline}
-use Rattle.its_stepped.proofs.FitLaws.{superior_outlined}
+use Rattle.its_plain.specs.Machine.View.{outline}
+use Rattle.its_stepped.proofs.Duties.FitLaws.{superior_outlined}
 use Rattle.its_security.specs.Alike.{SameThere, outlines_of, inferior_in, any_in, SameNamed, SameLinked, SameHolder, SameTree, SameDraft, SameClosed, SameOpened, TablesFor, Calls, SameTables}
 use Rattle.its_security.specs.Tables.{Table, Pages, Blocks, Directory, Readers, Slots, Links, Identity, identity, SameTable, call_asked, call_in, call_unless, call_of, looks_at, looked_at, TablesAgree}
 
@@ -86,7 +86,8 @@ module _ (j : ℕ) (m n : Machine) where
     free_same : limit n ≡ limit m → least_free (limit n) (outlines_of n) ≡ least_free (limit m) (outlines_of m)
     free_same most =
         ap (λ (l : ℕ). least_free l (outlines_of n)) most
-        ∙ least_alike (limit m) (outlines_of n) (outlines_of m) (λ k. mapped_some (n.jobs k) ∙ ap (λ (o : Option Identity). is_some o) (who k) ∙ sym (mapped_some (m.jobs k)))
+        ∙ least_alike (limit m) (outlines_of n) (outlines_of m)
+        (λ k. mapped_some (n.jobs k) ∙ ap (λ (o : Option Identity). is_some o) (who k) ∙ sym (mapped_some (m.jobs k)))
 
     inferior_same : (u x : ℕ) → inferior_in n j u x ≡ inferior_in m j u x
     inferior_same u x = λ i. find (λ k. names_same u x k i && above_same k i) (range_with_len 0 slots)
@@ -169,4 +170,5 @@ call_is : (m : Machine) (j : ℕ) (q : Whole) (a : Ask) → Calls m j q a → ca
 call_is m j q a c = ap call_of c.is ∙ ap (call_unless q) c.quiet ∙ ap (call_in q.core) c.unit_is ∙ ap call_asked c.ask_is
 
 pub tables_seen : (j : ℕ) (m n : Machine) → TablesAgree j m n → SameTables j m n
-tables_seen j m n h q a c = for_same j m n h.inferiors h.most q a (call_named a.name) (λ t e. h.tables t (ap (λ (o : Option CallName). looked_at o t) (call_is m j q a c) ∙ e))
+tables_seen j m n h q a c = for_same j m n h.inferiors h.most q a (call_named a.name)
+    (λ t e. h.tables t (ap (λ (o : Option CallName). looked_at o t) (call_is m j q a c) ∙ e))

@@ -24,18 +24,18 @@ use Rattle.its_frame.specs.declared.decision.Decision.TheVariants.{Waits, Goes, 
 use Rattle.its_frame.specs.declared.decision.Held.{Held}
 use Rattle.its_frame.specs.declared.name.CallName.{CallName}
 use Rattle.its_frame.specs.declared.name.CallName.TheVariants as calls
-use Rattle.its_plain.specs.Arguments.{input, debts, with_new_values}
-use Rattle.its_plain.specs.CallFile.{blocks_for, blocks_on, blocks_of_drafts, blocks_of_files, reads, is_read}
-use Rattle.its_plain.specs.CallStep.{deposited, with_held, after_end, after_moves, acted, decision, Transition, informs, delivery, with_core_and_job, with_fault, by_ask, by_unit, by_delivery, unless_stopped, transition_of, transition, step}
-use Rattle.its_plain.specs.Change.{on_slot, in_job, channel_in, after_removal, superiors, inferior, with_inf, poke, with_page_at, with_protection, with_alarm, with_new_names, effect, effects}
-use Rattle.its_plain.specs.Decide.{call_named, target, reach}
-use Rattle.its_plain.specs.Decode.{ask}
-use Rattle.its_plain.specs.Interrupt.{deliverable, delivered, unguarded, through_table, by_table, by_length, by_entry, by_pointer, by_stores, pushed, entries_of, first_entry, Entry}
+use Rattle.its_plain.specs.Call.Arguments.{input, debts, with_new_values}
+use Rattle.its_plain.specs.Call.File.{blocks_for, blocks_on, blocks_of_drafts, blocks_of_files, reads, is_read}
+use Rattle.its_plain.specs.Call.Step.{deposited, with_held, after_end, after_moves, acted, decision, Transition, informs, delivery, with_core_and_job, with_fault, by_ask, by_unit, by_delivery, unless_stopped, transition_of, transition, step}
+use Rattle.its_plain.specs.Machine.Change.{on_slot, in_job, channel_in, after_removal, superiors, inferior, with_inf, poke, with_page_at, with_protection, with_alarm, with_new_names, effect, effects}
+use Rattle.its_plain.specs.Call.Decide.{call_named, target, reach}
+use Rattle.its_plain.specs.Call.Decode.{ask}
+use Rattle.its_plain.specs.Unit.Interrupt.{deliverable, delivered, unguarded, through_table, by_table, by_length, by_entry, by_pointer, by_stores, pushed, entries_of, first_entry, Entry}
 use Rattle.its_plain.specs.Machine.{core_of, Names, File, Pipe, Console, Chan, Shut, TtyIn, TtyOut, Reads, Writes, On, Linked, Whole, Machine, with_new}
-use Rattle.its_plain.specs.OperatorFiles.{channels_of}
-use Rattle.its_plain.specs.Own.{names_of, with_stores, with_registers, with_variable, after_leave, on_channel, at_position, with_word, opened_on}
+use Rattle.its_plain.specs.Operator.Files.{channels_of}
+use Rattle.its_plain.specs.Machine.Own.{names_of, with_stores, with_registers, with_variable, after_leave, on_channel, at_position, with_word, opened_on}
 use Rattle.its_plain.specs.Unit.{Outcome, Changed, Faulted, Called, unit}
-use Rattle.its_plain.specs.View.{outline, view}
+use Rattle.its_plain.specs.Machine.View.{outline, view}
 use Rattle.its_plain.proofs.UnitLaws.{unit_keeps}
 use Rattle.its_security.specs.Tables.{Table, Pages, Blocks, Directory, Readers, Slots, Links, Bytes, Holders, Clock, identity, SameTable, changes as alters, call_asked, call_in, call_unless, call_of, changed_by, TablesKept}
 use Rattle.its_security.proofs.CallChanges.{CanMake, Opens, AllMake, AllMade, Informs, AllInform, Makes, decision_makes}
@@ -91,7 +91,8 @@ table_self Holders m = λ c. refl
 table_self Clock m = refl
 
 -- the job of a slot that changes
-job_kept : (t : Table) (m : Machine) (s : ℕ) (f : Whole → Whole) → ((q : Whole) → m.jobs s ≡ Some q → SlotKept t (Some q) (Some (f q))) → SameTable t m (in_job m s f)
+job_kept : (t : Table) (m : Machine) (s : ℕ) (f : Whole → Whole) → ((q : Whole) → m.jobs s ≡ Some q → SlotKept t (Some q) (Some (f q)))
+    → SameTable t m (in_job m s f)
 job_kept t m s f h = by_slots t m (on_slot m.jobs s f) (λ k. go k (k == s) refl (m.jobs k) refl)
   where
     go : (k : ℕ) (b : Bool) → (k == s) ≡ b → (o : Option Whole) → m.jobs k ≡ o → SlotKept t o (if b then option_map f o else o)
@@ -100,7 +101,8 @@ job_kept t m s f h = by_slots t m (on_slot m.jobs s f) (λ k. go k (k == s) refl
     go k false at o is = slot_self t o
 
 -- a job of which only core and registers change
-core_kept : (f : Whole → Whole) → ((q : Whole) → pages_present (f q).core ≡ pages_present q.core) → ((q : Whole) → (f q).channels ≡ q.channels) → ((q : Whole) → identity (f q) ≡ identity q)
+core_kept : (f : Whole → Whole) → ((q : Whole) → pages_present (f q).core ≡ pages_present q.core)
+    → ((q : Whole) → (f q).channels ≡ q.channels) → ((q : Whole) → identity (f q) ≡ identity q)
     → (t : Table) (q : Whole) → SlotKept t (Some q) (Some (f q))
 core_kept f pages channels names Pages q = pages q
 core_kept f pages channels names Blocks q = λ i. ap (λ (cs : ℕ → Chan). blocks_on (cs i)) (channels q)
@@ -119,7 +121,8 @@ ChanKept Blocks c d = blocks_on d ≡ blocks_on c
 ChanKept Readers c d = (x : Names) → reads x d ≡ reads x c
 ChanKept _ c d = Unit {0}
 
-channel_kept : (t : Table) (q : Whole) (n : ℕ) (g : Chan → Chan) → ChanKept t (q.channels n) (g (q.channels n)) → SlotKept t (Some q) (Some (on_channel n g q))
+channel_kept : (t : Table) (q : Whole) (n : ℕ) (g : Chan → Chan) → ChanKept t (q.channels n) (g (q.channels n))
+    → SlotKept t (Some q) (Some (on_channel n g q))
 channel_kept Pages q n g h = refl
 channel_kept Blocks q n g h = λ i. go i (i == n) refl
   where
@@ -180,9 +183,9 @@ touches (changes.Hold c s) Holders = true
 touches (changes.Map s k) Pages = true
 touches (changes.Unmap s k) Pages = true
 touches (changes.Protect s k w) Pages = true
-touches (changes.Part n l write) Blocks = true
-touches (changes.Part n l write) Readers = true
-touches (changes.Part n l write) Links = true
+touches (changes.CloseEnd n l write) Blocks = true
+touches (changes.CloseEnd n l write) Readers = true
+touches (changes.CloseEnd n l write) Links = true
 touches (changes.Send l w) Links = true
 touches (changes.Receive l) Links = true
 touches (changes.Delete d x y) Blocks = true
@@ -254,7 +257,8 @@ deleted_kept Bytes m fs e = λ c. refl
 deleted_kept Holders m fs e = λ c. refl
 deleted_kept Clock m fs e = refl
 
-renamed_kept : (t : Table) (m : Machine) (d x y u v : ℕ) → touches (changes.Rename d x y u v) t ≡ false → SameTable t m (record m { files = with_new_names (names_of d x y) u v m.files })
+renamed_kept : (t : Table) (m : Machine) (d x y u v : ℕ) → touches (changes.Rename d x y u v) t ≡ false
+    → SameTable t m (record m { files = with_new_names (names_of d x y) u v m.files })
 unfolding with_new_names
 renamed_kept Pages m d x y u v e = refl
 renamed_kept Blocks m d x y u v e = ap (λ (b : ℕ). b + blocks_of_drafts (channels_of m)) (renamed_blocks (names_of d x y) (names_of d u v) m.files)
@@ -278,7 +282,8 @@ shut_kept Blocks c e = cc
 shut_kept Readers c e = cc
 shut_kept _ c e = tt
 
-closed_kept : (t : Table) (m : Machine) (j n : ℕ) (fs : List File) → touches (changes.Close n) t ≡ false → SameTable t m (record (in_job m j (on_channel n (λ c. Shut))) { files = fs })
+closed_kept : (t : Table) (m : Machine) (j n : ℕ) (fs : List File) → touches (changes.Close n) t ≡ false
+    → SameTable t m (record (in_job m j (on_channel n (λ c. Shut))) { files = fs })
 closed_kept Pages m j n fs e = job_kept Pages m j (on_channel n (λ c. Shut)) (λ q is. refl)
 closed_kept Slots m j n fs e = job_kept Slots m j (on_channel n (λ c. Shut)) (λ q is. refl)
 closed_kept Links m j n fs e = λ l. refl
@@ -287,7 +292,8 @@ closed_kept Holders m j n fs e = λ c. refl
 closed_kept Clock m j n fs e = refl
 closed_kept _ m j n fs e = cc
 
-parted_kept : (t : Table) (m : Machine) (j n l : ℕ) (write : Bool) (ls : ℕ → Option Pipe) → touches (changes.Part n l write) t ≡ false → SameTable t m (record (in_job m j (on_channel n (λ c. Shut))) { links = ls })
+parted_kept : (t : Table) (m : Machine) (j n l : ℕ) (write : Bool) (ls : ℕ → Option Pipe) → touches (changes.CloseEnd n l write) t ≡ false
+    → SameTable t m (record (in_job m j (on_channel n (λ c. Shut))) { links = ls })
 parted_kept Pages m j n l write ls e = job_kept Pages m j (on_channel n (λ c. Shut)) (λ q is. refl)
 parted_kept Slots m j n l write ls e = job_kept Slots m j (on_channel n (λ c. Shut)) (λ q is. refl)
 parted_kept Directory m j n l write ls e = refl
@@ -302,7 +308,8 @@ appended_kept Readers w n c e = λ x. word_reads x w c
 appended_kept _ w n c e = tt
 
 -- the pages of a core whose page changes are not counted
-paged_kept : (f : Whole → Whole) → ((q : Whole) → (f q).channels ≡ q.channels) → ((q : Whole) → identity (f q) ≡ identity q) → (t : Table) (q : Whole) → touches (changes.Map 0 0) t ≡ false → SlotKept t (Some q) (Some (f q))
+paged_kept : (f : Whole → Whole) → ((q : Whole) → (f q).channels ≡ q.channels) → ((q : Whole) → identity (f q) ≡ identity q)
+    → (t : Table) (q : Whole) → touches (changes.Map 0 0) t ≡ false → SlotKept t (Some q) (Some (f q))
 paged_kept f channels names Pages q e = cc
 paged_kept f channels names Blocks q e = λ i. ap (λ (cs : ℕ → Chan). blocks_on (cs i)) (channels q)
 paged_kept f channels names Readers q e = λ x i. ap (λ (cs : ℕ → Chan). reads x (cs i)) (channels q)
@@ -333,21 +340,27 @@ no_inform None s made = made
 one_kept : (o : Option CallName) (c : Change) → CanMake o c → (m : Machine) (j : ℕ) (t : Table) → touches c t ≡ false → SameTable t m (effect c j m)
 unfolding effect
 one_kept o (changes.Shut n) made m j t e = job_kept t m j (on_channel n (λ c. Shut)) (λ q is. channel_kept t q n (λ c. Shut) (shut_kept t (q.channels n) e))
-one_kept o (changes.Move n at) made m j t e = job_kept t m j (on_channel n (at_position at)) (λ q is. channel_kept t q n (at_position at) (moved_kept t at (q.channels n)))
-one_kept o (changes.Append n w) made m j t e = job_kept t m j (on_channel n (with_word w)) (λ q is. channel_kept t q n (with_word w) (appended_kept t w n (q.channels n) e))
+one_kept o (changes.Move n at) made m j t e = job_kept t m j (on_channel n (at_position at))
+    (λ q is. channel_kept t q n (at_position at) (moved_kept t at (q.channels n)))
+one_kept o (changes.Append n w) made m j t e = job_kept t m j (on_channel n (with_word w))
+    (λ q is. channel_kept t q n (with_word w) (appended_kept t w n (q.channels n) e))
 one_kept o (changes.Close n) made m j t e = closed_kept t m j n _ e
 one_kept o (changes.Take c) made m j t e = consoles_kept t m _ e
 one_kept o (changes.Put c b) made m j t e = consoles_kept t m _ e
 one_kept o (changes.Hold c s) made m j t e = holders_kept t m _ e
-one_kept o (changes.Poke s a w) made m j t e = job_kept t m s (with_stores (poke a w ∷ [])) (λ q is. core_kept (with_stores (poke a w ∷ [])) (λ r. stored_pages r.core (poke a w ∷ [])) (λ r. refl) (λ r. refl) t q)
+one_kept o (changes.Poke s a w) made m j t e = job_kept t m s (with_stores (poke a w ∷ []))
+    (λ q is. core_kept (with_stores (poke a w ∷ [])) (λ r. stored_pages r.core (poke a w ∷ [])) (λ r. refl) (λ r. refl) t q)
 one_kept o (changes.Set s v w) made m j t e =
     let f = with_registers (with_variable v w) in
-    job_kept t m s f (λ q is. core_kept f (λ r. refl) (λ r. refl) (λ r i. (let n = variable_names v w r.job in record { uname = n.uname i; jname = n.jname i; superior = r.superior })) t q)
-one_kept o (changes.Map s k) made m j t e = job_kept t m s (with_page_at k (Some zero_page)) (λ q is. paged_kept (with_page_at k (Some zero_page)) (λ r. refl) (λ r. refl) t q e)
+    job_kept t m s f (λ q is. core_kept f (λ r. refl) (λ r. refl)
+    (λ r i. (let n = variable_names v w r.job in record { uname = n.uname i; jname = n.jname i; superior = r.superior })) t q)
+one_kept o (changes.Map s k) made m j t e = job_kept t m s (with_page_at k (Some zero_page))
+    (λ q is. paged_kept (with_page_at k (Some zero_page)) (λ r. refl) (λ r. refl) t q e)
 one_kept o (changes.Unmap s k) made m j t e = job_kept t m s (with_page_at k None) (λ q is. paged_kept (with_page_at k None) (λ r. refl) (λ r. refl) t q e)
-one_kept o (changes.Protect s k w) made m j t e = job_kept t m s (with_protection k w) (λ q is. paged_kept (with_protection k w) (λ r. refl) (λ r. refl) t q e)
+one_kept o (changes.Protect s k w) made m j t e = job_kept t m s (with_protection k w)
+    (λ q is. paged_kept (with_protection k w) (λ r. refl) (λ r. refl) t q e)
 one_kept o (changes.Arm alarm) made m j t e = job_kept t m j (with_alarm alarm) (λ q is. core_kept (with_alarm alarm) (λ r. refl) (λ r. refl) (λ r. refl) t q)
-one_kept o (changes.Part n l write) made m j t e = parted_kept t m j n l write _ e
+one_kept o (changes.CloseEnd n l write) made m j t e = parted_kept t m j n l write _ e
 one_kept o (changes.Send l w) made m j t e = links_kept t m _ e
 one_kept o (changes.Receive l) made m j t e = links_kept t m _ e
 one_kept o (changes.Delete d x y) made m j t e = deleted_kept t m _ e
@@ -365,9 +378,9 @@ made_touches (Some calls.Close) (changes.Shut n) Readers made e = cc
 made_touches (Some calls.Close) (changes.Close n) Blocks made e = cc
 made_touches (Some calls.Close) (changes.Close n) Directory made e = cc
 made_touches (Some calls.Close) (changes.Close n) Readers made e = cc
-made_touches (Some calls.Close) (changes.Part n l write) Blocks made e = cc
-made_touches (Some calls.Close) (changes.Part n l write) Readers made e = cc
-made_touches (Some calls.Close) (changes.Part n l write) Links made e = cc
+made_touches (Some calls.Close) (changes.CloseEnd n l write) Blocks made e = cc
+made_touches (Some calls.Close) (changes.CloseEnd n l write) Readers made e = cc
+made_touches (Some calls.Close) (changes.CloseEnd n l write) Links made e = cc
 made_touches (Some calls.Iot) (changes.Append n w) Blocks made e = cc
 made_touches (Some calls.Iot) (changes.Take c) Bytes made e = cc
 made_touches (Some calls.Iot) (changes.Put c b) Bytes made e = cc
@@ -393,7 +406,7 @@ made_touches (Some calls.Uclose) (changes.Remove s) Links made e = cc
 made_touches (Some calls.Uclose) (changes.Remove s) Holders made e = cc
 made_touches (Some calls.Close) (changes.Shut n) t made e = refl
 made_touches (Some calls.Close) (changes.Close n) t made e = refl
-made_touches (Some calls.Close) (changes.Part n l write) t made e = refl
+made_touches (Some calls.Close) (changes.CloseEnd n l write) t made e = refl
 made_touches (Some calls.Iot) (changes.Move n at) t made e = refl
 made_touches (Some calls.Iot) (changes.Append n w) t made e = refl
 made_touches (Some calls.Iot) (changes.Take c) t made e = refl
@@ -422,10 +435,12 @@ made_touches (Some calls.Uclose) (changes.Remove s) t made e = refl
 made_touches (Some k) _ t made e = absurd made
 made_touches None _ t made e = absurd made
 
-all_kept : (o : Option CallName) (cs : List Change) → AllMake o cs → (m : Machine) (j : ℕ) (t : Table) → changed_by o t ≡ false → SameTable t m (effects cs j m)
+all_kept : (o : Option CallName) (cs : List Change) → AllMake o cs → (m : Machine) (j : ℕ) (t : Table) → changed_by o t ≡ false
+    → SameTable t m (effects cs j m)
 all_kept o [] made m j t e = table_self t m
 all_kept o (c ∷ cs) made m j t e =
-    then_same t m (effect c j m) (effects cs j (effect c j m)) (one_kept o c made.0 m j t (made_touches o c t made.0 e)) (all_kept o cs made.1 (effect c j m) j t e)
+    then_same t m (effect c j m) (effects cs j (effect c j m)) (one_kept o c made.0 m j t (made_touches o c t made.0 e))
+    (all_kept o cs made.1 (effect c j m) j t e)
 
 -- OPEN
 opened_blocks : (c : Chan) (on : Opened) → c ≡ Shut → blocks_on (opened_on on) ≡ blocks_on c
@@ -438,10 +453,12 @@ opened_blocks c opened.TtyOut e = sym (ap blocks_on e)
 own_channel : (m : Machine) (j n : ℕ) (q r : Whole) → m.jobs j ≡ Some q → q.channels n ≡ Shut → m.jobs j ≡ Some r → r.channels n ≡ Shut
 own_channel m j n q r is shut at = ap (λ (o : Option Whole). channel_in o n) (sym at ∙ is) ∙ shut
 
-opens_kept : (m : Machine) (j n : ℕ) (q : Whole) (on : Opened) → m.jobs j ≡ Some q → q.channels n ≡ Shut → (t : Table) → alters calls.Open t ≡ false → SameTable t m (in_job m j (on_channel n (λ c. opened_on on)))
+opens_kept : (m : Machine) (j n : ℕ) (q : Whole) (on : Opened) → m.jobs j ≡ Some q → q.channels n ≡ Shut → (t : Table)
+    → alters calls.Open t ≡ false → SameTable t m (in_job m j (on_channel n (λ c. opened_on on)))
 opens_kept m j n q on is shut Readers e = cc
 opens_kept m j n q on is shut Blocks e =
-    job_kept Blocks m j (on_channel n (λ c. opened_on on)) (λ r at. channel_kept Blocks r n (λ c. opened_on on) (opened_blocks (r.channels n) on (own_channel m j n q r is shut at)))
+    job_kept Blocks m j (on_channel n (λ c. opened_on on)) (λ r at. channel_kept Blocks r n (λ c. opened_on on)
+    (opened_blocks (r.channels n) on (own_channel m j n q r is shut at)))
 opens_kept m j n q on is shut Pages e = job_kept Pages m j (on_channel n (λ c. opened_on on)) (λ r at. refl)
 opens_kept m j n q on is shut Slots e = job_kept Slots m j (on_channel n (λ c. opened_on on)) (λ r at. refl)
 opens_kept m j n q on is shut Directory e = refl
@@ -450,7 +467,8 @@ opens_kept m j n q on is shut Bytes e = λ c. refl
 opens_kept m j n q on is shut Holders e = λ c. refl
 opens_kept m j n q on is shut Clock e = refl
 
-joins_kept : (m : Machine) (j n l : ℕ) (write : Bool) (u y : ℕ) (q : Whole) → m.jobs j ≡ Some q → q.channels n ≡ Shut → (t : Table) → alters calls.Open t ≡ false → SameTable t m (effect (changes.Join n l write u y) j m)
+joins_kept : (m : Machine) (j n l : ℕ) (write : Bool) (u y : ℕ) (q : Whole) → m.jobs j ≡ Some q → q.channels n ≡ Shut → (t : Table)
+    → alters calls.Open t ≡ false → SameTable t m (effect (changes.Join n l write u y) j m)
 unfolding effect
 joins_kept m j n l write u y q is shut Readers e = cc
 joins_kept m j n l write u y q is shut Slots e = cc
@@ -465,19 +483,23 @@ joins_kept m j n l write u y q is shut Holders e = λ c. refl
 joins_kept m j n l write u y q is shut Clock e = refl
 
 -- a job in an empty slot, with no pages and closed channels
-made_slot : (t : Table) (m : Machine) (s : ℕ) (q : Whole) → m.jobs s ≡ None → SlotKept t None (Some q) → (k : ℕ) → SlotKept t (m.jobs k) ((with_new m s q).jobs k)
+made_slot : (t : Table) (m : Machine) (s : ℕ) (q : Whole) → m.jobs s ≡ None → SlotKept t None (Some q) → (k : ℕ)
+    → SlotKept t (m.jobs k) ((with_new m s q).jobs k)
 made_slot t m s q none h k = go (k == s) refl
   where
     go : (b : Bool) → (k == s) ≡ b → SlotKept t (m.jobs k) (if b then Some q else m.jobs k)
     go true at = subst (λ (o : Option Whole). SlotKept t o (Some q)) (sym (ap m.jobs (eqb-true k s at) ∙ none)) h
     go false at = slot_self t (m.jobs k)
 
-made_kept : (m : Machine) (j s u y : ℕ) → m.jobs s ≡ None → (t : Table) → alters calls.Open t ≡ false → SameTable t m (with_new m s (inferior j (m.jobs j) u y))
+made_kept : (m : Machine) (j s u y : ℕ) → m.jobs s ≡ None → (t : Table) → alters calls.Open t ≡ false
+    → SameTable t m (with_new m s (inferior j (m.jobs j) u y))
 made_kept m j s u y none Readers e = cc
 made_kept m j s u y none Slots e = cc
 made_kept m j s u y none Links e = cc
-made_kept m j s u y none Pages e = by_slots Pages m (with_new m s (inferior j (m.jobs j) u y)).jobs (made_slot Pages m s (inferior j (m.jobs j) u y) none refl)
-made_kept m j s u y none Blocks e = by_slots Blocks m (with_new m s (inferior j (m.jobs j) u y)).jobs (made_slot Blocks m s (inferior j (m.jobs j) u y) none (λ i. refl))
+made_kept m j s u y none Pages e = by_slots Pages m (with_new m s (inferior j (m.jobs j) u y)).jobs
+    (made_slot Pages m s (inferior j (m.jobs j) u y) none refl)
+made_kept m j s u y none Blocks e = by_slots Blocks m (with_new m s (inferior j (m.jobs j) u y)).jobs
+    (made_slot Blocks m s (inferior j (m.jobs j) u y) none (λ i. refl))
 made_kept m j s u y none Directory e = refl
 made_kept m j s u y none Bytes e = λ c. refl
 made_kept m j s u y none Holders e = λ c. refl
@@ -501,7 +523,8 @@ module _ (m : Machine) (j : ℕ) (q : Whole) (r : Option ℕ) (is : m.jobs j ≡
       (opens_kept p j n q (opened.Usr k write) (rw other is) made.0 t e)
   open_kept _ made t e = absurd made
 
-  made_all_kept : (o : Option CallName) (cs : List Change) → AllMade (view m j q r) o cs → (t : Table) → changed_by o t ≡ false → SameTable t m (effects cs j m)
+  made_all_kept : (o : Option CallName) (cs : List Change) → AllMade (view m j q r) o cs → (t : Table) → changed_by o t ≡ false
+      → SameTable t m (effects cs j m)
   made_all_kept o [] made t e = table_self t m
   made_all_kept (Some calls.Open) (c ∷ cs) made t e = open_kept (c ∷ cs) made t e
   made_all_kept (Some k) (c ∷ cs) made t e = all_kept (Some k) (c ∷ cs) made m j t e
@@ -515,7 +538,8 @@ moves_kept : (a : Ask) (h : Option Held) (vs : List ℕ) (t : Table) (q : Whole)
 moves_kept a None vs t q = core_kept (after_moves a None vs) (λ r. stored_pages r.core (debts (with_new_values a vs) (length vs))) (λ r. refl) (λ r. refl) t q
 moves_kept a (Some b) vs t q =
     core_kept (after_moves a (Some b) vs)
-    (λ r. stored_pages (with_held (with_new_values a vs) (Some b) r).core (debts (with_new_values a vs) (length vs)) ∙ stored_pages r.core (deposited r.core (input (with_new_values a vs) 1) b ∷ []))
+    (λ r. stored_pages (with_held (with_new_values a vs) (Some b) r).core (debts (with_new_values a vs) (length vs))
+    ∙ stored_pages r.core (deposited r.core (input (with_new_values a vs) 1) b ∷ []))
     (λ r. refl) (λ r. refl) t q
 
 -- LOGOUT
@@ -523,7 +547,8 @@ informs_kept : (cs : List Change) → AllInform cs → (m : Machine) (j : ℕ) (
 unfolding effect
 informs_kept [] h m j t = table_self t m
 informs_kept (changes.Inform s ∷ cs) h m j t =
-    then_same t m (in_job m s with_inf) (effects cs j (in_job m s with_inf)) (job_kept t m s with_inf (λ q is. core_kept with_inf (λ r. refl) (λ r. refl) (λ r. refl) t q))
+    then_same t m (in_job m s with_inf) (effects cs j (in_job m s with_inf))
+    (job_kept t m s with_inf (λ q is. core_kept with_inf (λ r. refl) (λ r. refl) (λ r. refl) t q))
     (informs_kept cs h (in_job m s with_inf) j t)
 informs_kept (c ∷ cs) h m j t = absurd h
 
@@ -533,7 +558,8 @@ logout_touches Bytes e = refl
 logout_touches Clock e = refl
 logout_touches _ e = cc
 
-gone_kept : (o : Option CallName) (cs : List Change) → Informs o → AllInform cs → (m : Machine) (j : ℕ) (t : Table) → changed_by o t ≡ false → SameTable t m (effects (changes.Remove j ∷ cs) j m)
+gone_kept : (o : Option CallName) (cs : List Change) → Informs o → AllInform cs → (m : Machine) (j : ℕ) (t : Table) → changed_by o t ≡ false
+    → SameTable t m (effects (changes.Remove j ∷ cs) j m)
 unfolding effect
 gone_kept (Some calls.Logout) cs h all m j t e =
     let l = after_removal (superiors m) j m in
@@ -552,10 +578,12 @@ module _ (m : Machine) (j : ℕ) (q : Whole) (r : Option ℕ) (is : m.jobs j ≡
   acted_kept o a ks (Waits w) made = tt
   acted_kept o a ks (Goes cs h vs) made = λ t e.
       let n = effects cs.items j m in
-      then_same t m n (in_job n j (after_moves a h vs.items)) (made_all_kept m j q r is o cs.items made t e) (job_kept t n j (after_moves a h vs.items) (λ p at. moves_kept a h vs.items t p))
+      then_same t m n (in_job n j (after_moves a h vs.items)) (made_all_kept m j q r is o cs.items made t e)
+      (job_kept t n j (after_moves a h vs.items) (λ p at. moves_kept a h vs.items t p))
   acted_kept o a ks (Ends cs ss x) made = λ t e.
       let n = effects cs.items j m in
-      then_same t m n (in_job n j (after_end ss.items (after_leave x))) (made_all_kept m j q r is o cs.items made t e) (job_kept t n j (after_end ss.items (after_leave x)) (λ p at. ended_kept ss.items x t p))
+      then_same t m n (in_job n j (after_end ss.items (after_leave x))) (made_all_kept m j q r is o cs.items made t e)
+      (job_kept t n j (after_end ss.items (after_leave x)) (λ p at. ended_kept ss.items x t p))
   acted_kept o a ks (Gone cs) made = λ t e. gone_kept o cs.items made.0 made.1 m j t e
 
 -- a delivery
@@ -586,7 +614,8 @@ delivered_pages c k = elim (cases_Bool (unguarded k == 0)) [ inl t ↦ rw t (tab
 
 -- the own job, with another core and other registers
 put_kept : (t : Table) (q r : Whole) (d : Core) (l : Job) → pages_present d ≡ pages_present q.core → l.uname ≡ q.job.uname → l.jname ≡ q.job.jname
-    → pages_present r.core ≡ pages_present q.core → r.job.uname ≡ q.job.uname → r.job.jname ≡ q.job.jname → SlotKept t (Some r) (Some (with_core_and_job d l r))
+    → pages_present r.core ≡ pages_present q.core → r.job.uname ≡ q.job.uname → r.job.jname ≡ q.job.jname
+    → SlotKept t (Some r) (Some (with_core_and_job d l r))
 put_kept Pages q r d l pages u y rp ru ry = pages ∙ sym rp
 put_kept Blocks q r d l pages u y rp ru ry = λ i. refl
 put_kept Readers q r d l pages u y rp ru ry = λ x i. refl
@@ -604,7 +633,8 @@ module _ (m : Machine) (j : ℕ) (q : Whole) (is : m.jobs j ≡ Some q) where
   changed_kept d l e = λ t b. job_kept t m j (with_core_and_job d l) (λ r at.
       let u = unit_keeps q.core q.job d l e in
       let same = own_is r at in
-      put_kept t q r d l u.pages.count u.registers.uname u.registers.jname (ap (λ (p : Whole). pages_present p.core) same) (ap (λ (p : Whole). p.job.uname) same) (ap (λ (p : Whole). p.job.jname) same))
+      put_kept t q r d l u.pages.count u.registers.uname u.registers.jname (ap (λ (p : Whole). pages_present p.core) same)
+      (ap (λ (p : Whole). p.job.uname) same) (ap (λ (p : Whole). p.job.jname) same))
 
   faulted_kept : (f : Fault) → StepKept m None (by_unit m j q (Faulted f))
   faulted_kept f = λ t b. job_kept t m j (with_fault f) (λ r at. core_kept (with_fault f) (λ p. refl) (λ p. refl) (λ p. refl) t r)
@@ -634,13 +664,23 @@ module _ (m : Machine) (j : ℕ) (q : Whole) (is : m.jobs j ≡ Some q) where
           → (pages_present r.core ≡ pages_present q.core) × ((r.job.uname ≡ q.job.uname) × (r.job.jname ≡ q.job.jname))
       go true (Some p) e f = (let a = some_same p q e in let b = some_same (with_inf p) r f in (
         ap (λ (x : Whole). pages_present x.core) (sym b) ∙ ap (λ (x : Whole). pages_present x.core) a,
-        (ap (λ (x : Whole). x.job.uname) (sym b) ∙ ap (λ (x : Whole). x.job.uname) a, ap (λ (x : Whole). x.job.jname) (sym b) ∙ ap (λ (x : Whole). x.job.jname) a),
+        (
+          ap (λ (x : Whole). x.job.uname) (sym b) ∙ ap (λ (x : Whole). x.job.uname) a,
+          ap (λ (x : Whole). x.job.jname) (sym b)
+              ∙ ap (λ (x : Whole). x.job.jname) a,
+        ),
       ))
       go false (Some p) e f = (let a = some_same p q e in let b = some_same p r f in
           (ap (λ (x : Whole). pages_present x.core) (sym b ∙ a), (ap (λ (x : Whole). x.job.uname) (sym b ∙ a), ap (λ (x : Whole). x.job.jname) (sym b ∙ a))))
       go b None e f = cc
-  informed_same true None r at = let a = own_is r at in (ap (λ (x : Whole). pages_present x.core) a, (ap (λ (x : Whole). x.job.uname) a, ap (λ (x : Whole). x.job.jname) a))
-  informed_same false o r at = let a = own_is r at in (ap (λ (x : Whole). pages_present x.core) a, (ap (λ (x : Whole). x.job.uname) a, ap (λ (x : Whole). x.job.jname) a))
+  informed_same true None r at = let a = own_is r at in (
+    ap (λ (x : Whole). pages_present x.core) a,
+    (ap (λ (x : Whole). x.job.uname) a, ap (λ (x : Whole). x.job.jname) a),
+  )
+  informed_same false o r at = let a = own_is r at in (
+    ap (λ (x : Whole). pages_present x.core) a,
+    (ap (λ (x : Whole). x.job.uname) a, ap (λ (x : Whole). x.job.jname) a),
+  )
 
   delivery_kept : (t : Table) → SameTable t m (delivery m j q (delivered q.core q.job)).machine
   delivery_kept t =

@@ -10,21 +10,21 @@ use Rattle.its_records.specs.declared.calls.Ask.{Ask}
 use Rattle.its_records.specs.declared.calls.Site.{Site}
 use Rattle.its_frame.specs.declared.name.CallName.{CallName}
 use Rattle.its_frame.specs.declared.name.CallName.TheVariants.{Open, Close, Iot, Siot, Ttylnd, Delete, Rename, Uclose, Corblk}
-use Rattle.its_plain.specs.Arguments.{input}
-use Rattle.its_plain.specs.CallBasic.{channel_at, is_superior}
-use Rattle.its_plain.specs.CallFile.{disk_device, most_files, is_full, file_named, has_file, is_read, names_from}
-use Rattle.its_plain.specs.CallLink.{link_device, link_named}
-use Rattle.its_plain.specs.CallStep.{Transition}
-use Rattle.its_plain.specs.CallUsr.{usr_device, has_names}
-use Rattle.its_plain.specs.Change.{channel_in, superiors, console_in, is_gone}
-use Rattle.its_plain.specs.Decide.{call_named}
-use Rattle.its_plain.specs.Decode.{ask}
-use Rattle.its_plain.specs.Interrupt.{deliverable}
+use Rattle.its_plain.specs.Call.Arguments.{input}
+use Rattle.its_plain.specs.Call.Basic.{channel_at, is_superior}
+use Rattle.its_plain.specs.Call.File.{disk_device, most_files, is_full, file_named, has_file, is_read, names_from}
+use Rattle.its_plain.specs.Call.Link.{link_device, link_named}
+use Rattle.its_plain.specs.Call.Step.{Transition}
+use Rattle.its_plain.specs.Call.Usr.{usr_device, has_names}
+use Rattle.its_plain.specs.Machine.Change.{channel_in, superiors, console_in, is_gone}
+use Rattle.its_plain.specs.Call.Decide.{call_named}
+use Rattle.its_plain.specs.Call.Decode.{ask}
+use Rattle.its_plain.specs.Unit.Interrupt.{deliverable}
 use Rattle.its_plain.specs.Machine.{Names, Chan, Reads, Writes, On, Linked, Whole, Machine, mapped, limit}
-use Rattle.its_plain.specs.OperatorFiles.{channels_of}
-use Rattle.its_plain.specs.Own.{names_of}
+use Rattle.its_plain.specs.Operator.Files.{channels_of}
+use Rattle.its_plain.specs.Machine.Own.{names_of}
 use Rattle.its_plain.specs.Unit.{Called, unit}
-use Rattle.its_plain.specs.View.{Outline, outline}
+use Rattle.its_plain.specs.Machine.View.{Outline, outline}
 
 -- what a job sees through a channel: the inferior, the file or the link that it is on
 abbrev pub SameThrough : Machine → Machine → Chan → Type 0

@@ -5,11 +5,11 @@ use Rattle.std.specs.Prelude.{◌≡◌, ◌≢◌, ◌++◌, ℕ, true, Some, L
 use Rattle.its_records.specs.Item.{Item}
 use Rattle.its_records.specs.declared.session.Event.{Event}
 use Rattle.its_print.specs.Printing.{Line}
-use Rattle.its_plain.specs.CallStep.{transition, step}
-use Rattle.its_plain.specs.Course.{Moment, Course, run_of}
+use Rattle.its_plain.specs.Call.Step.{transition, step}
+use Rattle.its_plain.specs.Transcript.Course.{Moment, Course, run_of}
 use Rattle.its_plain.specs.Machine.{Machine}
 use Rattle.its_plain.specs.Operator.{Block}
-use Rattle.its_plain.specs.Stretch.{Section, begin_of, end_of}
+use Rattle.its_plain.specs.Promise.Stretch.{Section, begin_of, end_of}
 use Rattle.its_security.specs.Alike.{Alike, SameTables}
 use Rattle.its_security.specs.Looks.{LooksAlike, OwnBy}
 use Rattle.its_security.specs.OperatorParts.{OnlyParts, touched}
@@ -27,8 +27,8 @@ pub record Occurs (u : Course) (m : Machine) : Type 0 where
 
 -- the run of these events, which show these lines, keeps this
 pub record Confidential (es : List Item) (lines : List Line) : Type 0 where
-  -- what a step of a job makes of the job depends on it and on what its call looks at alone, in this
-  -- session and in any other
+  -- what a step of a job makes of the job depends on it and on what its call looks at alone, in
+  -- this session and in any other
   pub looks : (fs : List Item) (shown : List Line) (m n : Machine) (j : ℕ) → Occurs (run_of es lines) m → Occurs (run_of fs shown) n
       → n.jobs j ≡ m.jobs j → LooksAlike j m n → OwnBy j (transition m j) (transition n j)
   -- a step of a stranger leaves what a job sees, except at a link or console at which the two meet
@@ -43,8 +43,8 @@ pub record Confidential (es : List Item) (lines : List Line) : Type 0 where
   pub tables : (m n : Machine) (j : ℕ) → Occurs (run_of es lines) m → step m j ≡ Some n → TablesKept m j n
   -- and it looks only at those that are listed for it
   pub seen : (m n : Machine) (j : ℕ) → TablesAgree j m n → SameTables j m n
-  -- a part of it and a part of any other session that begin alike for a job, and differ only in what
-  -- the job does not see, show the same of the job
+  -- a part of it and a part of any other session that begin alike for a job, and differ only in
+  -- what the job does not see, show the same of the job
   pub beside : (fs : List Item) (shown : List Line) (j : ℕ) (x : Section (run_of es lines)) (y : Section (run_of fs shown))
       → Alike j (begin_of (run_of es lines) x) (begin_of (run_of fs shown) y)
       → SideBySide j x.moments (end_of (run_of es lines) x) y.moments (end_of (run_of fs shown) y)

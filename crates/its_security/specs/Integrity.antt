@@ -8,17 +8,17 @@ use Rattle.its_records.specs.Links.{most_links, link_end}
 use Rattle.its_records.specs.Tree.{is_below, least_free}
 use Rattle.its_records.specs.declared.link.End.TheVariants.{Opened}
 use Rattle.its_frame.specs.declared.variable.Variable.{Variable}
-use Rattle.its_plain.specs.CallBasic.{by_superior}
-use Rattle.its_plain.specs.CallCore.{has_page}
-use Rattle.its_plain.specs.CallFile.{has_file, is_read}
-use Rattle.its_plain.specs.CallLink.{has_link_names, link_named, can_open}
-use Rattle.its_plain.specs.CallTty.{is_other}
-use Rattle.its_plain.specs.CallUsr.{has_names}
-use Rattle.its_plain.specs.Change.{channel_in, superiors, console_in, with_file, without_file, with_new_names, after_take, after_put, is_gone, in_job, after_shut, after_removal, inferior, with_page_at, with_protection, poke, with_inf, link_or_new, with_end_opened, after_end_close, with_sent, with_received}
+use Rattle.its_plain.specs.Call.Basic.{by_superior}
+use Rattle.its_plain.specs.Call.Core.{has_page}
+use Rattle.its_plain.specs.Call.File.{has_file, is_read}
+use Rattle.its_plain.specs.Call.Link.{has_link_names, link_named, can_open}
+use Rattle.its_plain.specs.Call.Tty.{is_other}
+use Rattle.its_plain.specs.Call.Usr.{has_names}
+use Rattle.its_plain.specs.Machine.Change.{channel_in, superiors, console_in, with_file, without_file, with_new_names, after_take, after_put, is_gone, in_job, after_shut, after_removal, inferior, with_page_at, with_protection, poke, with_inf, link_or_new, with_end_opened, after_end_close, with_sent, with_received}
 use Rattle.its_plain.specs.Machine.{Names, File, Pipe, Chan, Shut, TtyIn, TtyOut, Reads, Writes, On, Linked, Whole, Machine, limit}
-use Rattle.its_plain.specs.OperatorFiles.{channels_of}
-use Rattle.its_plain.specs.Own.{names_of, with_stores, with_registers, with_variable}
-use Rattle.its_plain.specs.View.{outline}
+use Rattle.its_plain.specs.Operator.Files.{channels_of}
+use Rattle.its_plain.specs.Machine.Own.{names_of, with_stores, with_registers, with_variable}
+use Rattle.its_plain.specs.Machine.View.{outline}
 
 -- job j has leave to write in job k: that is an inferior of its own, on which it has a channel that
 -- was opened with leave to write
@@ -28,9 +28,9 @@ pub record MayWrite (m : Machine) (j k : ℕ) : Type 0 where
   pub is : channel_in (m.jobs j) channel ≡ On k true position
   pub up : superiors m k ≡ Some j
 
--- what one call through such a channel makes of a job: a word is stored, if one can be stored there;
--- a variable is set that a superior may set; a page of zeros is made if there is none; or a page is
--- dropped, or its protection is set
+-- what one call through such a channel makes of a job: a word is stored, if one can be stored
+-- there; a variable is set that a superior may set; a page of zeros is made if there is none; or a
+-- page is dropped, or its protection is set
 pub data Written (q : Whole) : Whole → Type 0 where
   word_stored : (a w : ℕ) → can_store q.core a ≡ true → Written q (with_stores (poke a w ∷ []) q)
   variable_set : (x : Variable) (w : ℕ) → by_superior x ≡ true → Written q (with_registers (with_variable x w) q)

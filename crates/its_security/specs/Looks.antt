@@ -12,17 +12,17 @@ use Rattle.its_frame.specs.Variables.{variable_named}
 use Rattle.its_frame.specs.declared.name.CallName.{CallName}
 use Rattle.its_frame.specs.declared.name.CallName.TheVariants.{Sleep, Usrvar, Open, Close, Iot, Siot, Finish, Listen, Ttylnd, Access, Fillen, Delete, Rename, Usrmem, Corblk, Realt}
 use Rattle.its_frame.specs.declared.variable.Variable.{Variable}
-use Rattle.its_plain.specs.Arguments.{input}
-use Rattle.its_plain.specs.CallBasic.{channel_at, is_superior, value_of_other}
-use Rattle.its_plain.specs.CallCore.{makes, has_page}
-use Rattle.its_plain.specs.CallFile.{disk_device, is_output, file_named, words_by, names_from}
-use Rattle.its_plain.specs.CallLink.{link_device, words_in, is_end_closed, is_unread, is_crowded, can_open, link_named}
-use Rattle.its_plain.specs.CallStep.{Transition}
-use Rattle.its_plain.specs.CallTty.{is_other, is_empty}
-use Rattle.its_plain.specs.CallUsr.{usr_device}
-use Rattle.its_plain.specs.Decide.{call_named}
+use Rattle.its_plain.specs.Call.Arguments.{input}
+use Rattle.its_plain.specs.Call.Basic.{channel_at, is_superior, value_of_other}
+use Rattle.its_plain.specs.Call.Core.{makes, has_page}
+use Rattle.its_plain.specs.Call.File.{disk_device, is_output, file_named, words_by, names_from}
+use Rattle.its_plain.specs.Call.Link.{link_device, words_in, is_end_closed, is_unread, is_crowded, can_open, link_named}
+use Rattle.its_plain.specs.Call.Step.{Transition}
+use Rattle.its_plain.specs.Call.Tty.{is_other, is_empty}
+use Rattle.its_plain.specs.Call.Usr.{usr_device}
+use Rattle.its_plain.specs.Call.Decide.{call_named}
 use Rattle.its_plain.specs.Machine.{Names, Chan, Shut, TtyIn, TtyOut, Reads, Writes, On, Linked, Whole, Machine, core_of, limit}
-use Rattle.its_plain.specs.Own.{names_of}
+use Rattle.its_plain.specs.Machine.Own.{names_of}
 use Rattle.its_security.specs.Alike.{Calls, SamePages, SameBlocks, SameThere, SameRead, SameCount, outlines_of, inferior_in, any_in}
 
 -- In all that follows, m and n are two machines, and what is named is the same in both. j is the

@@ -6,7 +6,7 @@ use Rattle.its_records.specs.declared.session.Event.{Event}
 use Rattle.its_records.specs.declared.session.Event.TheVariants as events
 use Rattle.its_plain.specs.Machine.{Machine, limit}
 use Rattle.its_plain.specs.Operator.{Block}
-use Rattle.its_plain.specs.OperatorClock.{due}
+use Rattle.its_plain.specs.Operator.Clock.{due}
 
 -- the parts of a machine: jobs by slot, consoles and their holders by number, the directory, the
 -- symbols of slots, the clock and the version

@@ -3,9 +3,9 @@
 -- A promise rests on this.
 use Rattle.std.specs.Prelude.{◌≡◌, ◌≢◌, ◌⊎◌, ◌<◌, ℕ, Bool, true, false, Option, Some, None}
 use Rattle.its_records.specs.Tree.{is_below}
-use Rattle.its_plain.specs.CallFile.{file_named, has_file}
-use Rattle.its_plain.specs.CallLink.{can_open}
-use Rattle.its_plain.specs.Change.{channel_in, superiors, console_in}
+use Rattle.its_plain.specs.Call.File.{file_named, has_file}
+use Rattle.its_plain.specs.Call.Link.{can_open}
+use Rattle.its_plain.specs.Machine.Change.{channel_in, superiors, console_in}
 use Rattle.its_plain.specs.Machine.{Names, File, Chan, Reads, On, Linked, Machine}
 use Rattle.its_security.specs.Integrity.{IsOpenAt, AtEnd}
 use Rattle.its_security.specs.OperatorParts.{Parts}
@@ -29,8 +29,8 @@ pub data MeetsAtConsole (m n : Machine) (k c : ℕ) : Type 0 where
   by_console : console_in (m.jobs k) ≡ Some c → MeetsAtConsole m n k c
   by_holder : (g : ℕ) → m.holders c ≡ Some g → n.jobs g ≡ None → MeetsAtConsole m n k c
 
--- what is seen through a channel stays: an inferior; a file, if there is one; and a link, unless the
--- two meet at it
+-- what is seen through a channel stays: an inferior; a file, if there is one; and a link, unless
+-- the two meet at it
 abbrev pub StaysThrough : Machine → Machine → ℕ → Chan → Type 0
 StaysThrough m n k (On s write at) = n.jobs s ≡ m.jobs s
 StaysThrough m n k (Reads x at) = (f : File) → file_named x m.files ≡ Some f → file_named x n.files ≡ Some f
@@ -42,8 +42,8 @@ abbrev pub StaysAt : Machine → Machine → ℕ → Option ℕ → Type 0
 StaysAt m n k (Some c) = ((n.consoles c ≡ m.consoles c) ⊎ (console_in (m.jobs k) ≡ Some c)) × ((n.holders c ≡ m.holders c) ⊎ MeetsAtConsole m n k c)
 StaysAt m n k None = Unit {0}
 
--- what a step of job k from machine m to machine n leaves of what its stranger j sees. It changes no
--- job and no clock that j sees
+-- what a step of job k from machine m to machine n leaves of what its stranger j sees. It changes
+-- no job and no clock that j sees
 pub record Respects (m n : Machine) (j k : ℕ) : Type 0 where
   pub own : n.jobs j ≡ m.jobs j
   pub channels : (i : ℕ) → i < 16 → StaysThrough m n k (channel_in (m.jobs j) i)

@@ -6,12 +6,12 @@ use Rattle.its_records.specs.Item.{Item}
 use Rattle.its_records.specs.declared.calls.Pace.TheVariants.{Step}
 use Rattle.its_records.specs.declared.session.Event.TheVariants as events
 use Rattle.its_print.specs.Printing.{Line}
-use Rattle.its_plain.specs.CallFile.{file_named}
-use Rattle.its_plain.specs.Change.{channel_in, same_names}
-use Rattle.its_plain.specs.Course.{Deed, Lines, Turns, Letter, Moment, Course, run_of}
+use Rattle.its_plain.specs.Call.File.{file_named}
+use Rattle.its_plain.specs.Machine.Change.{channel_in, same_names}
+use Rattle.its_plain.specs.Transcript.Course.{Deed, Lines, Turns, Letter, Moment, Course, run_of}
 use Rattle.its_plain.specs.Machine.{Names, File, Reads, Machine}
 use Rattle.its_plain.specs.Operator.{Block}
-use Rattle.its_plain.specs.Stretch.{machine_at, Section, end_of, begin_of}
+use Rattle.its_plain.specs.Promise.Stretch.{machine_at, Section, end_of, begin_of}
 use Rattle.its_security.specs.Integrity.{MayStep, ReachesNobody, OnlyTells}
 use Rattle.its_security.specs.OperatorParts.{OnlyParts, touched}
 

@@ -4,12 +4,12 @@
 use Rattle.std.specs.Prelude.{◌≡◌, ◌==◌, ℕ, Bool, true, false, Option, Some, None, List, [], ◌∷◌}
 use Rattle.its_records.specs.declared.calls.Pace.{Pace}
 use Rattle.its_records.specs.declared.calls.Pace.TheVariants.{Step, Work}
-use Rattle.its_plain.specs.CallStep.{moves}
-use Rattle.its_plain.specs.Course.{Deed, Lines, Turns, Letter, Moment}
-use Rattle.its_plain.specs.Licence.{Licensed}
+use Rattle.its_plain.specs.Call.Step.{moves}
+use Rattle.its_plain.specs.Transcript.Course.{Deed, Lines, Turns, Letter, Moment}
+use Rattle.its_plain.specs.Transcript.Licence.{Licensed}
 use Rattle.its_plain.specs.Machine.{Whole, Machine}
-use Rattle.its_plain.specs.Moves.{Move}
-use Rattle.its_plain.specs.Stretch.{machine_at}
+use Rattle.its_plain.specs.Call.Moves.{Move}
+use Rattle.its_plain.specs.Promise.Stretch.{machine_at}
 use Rattle.its_security.specs.Alike.{Alike, SameTables}
 
 -- the letter of a tick of job j, if a moment is one; except `.`, which is work of the monitor that
@@ -47,11 +47,11 @@ abbrev pub shown_of : ℕ → List Moment → List Shown
 shown_of j [] = []
 shown_of j (t ∷ ts) = shown_then (tick_at j t.deed) t.machine j (shown_of j ts)
 
--- two parts of runs, side by side, which lead to these machines, for job j. A moment that is no tick
--- of the job comes in one of them alone, and then leaves what the job sees; or in both, and then it
--- keeps the machines alike, such as a line that is the same in both. A tick of the job comes in
--- both, each with a letter that is licensed there, and the tables that the job looks at are the
--- same. Nothing is asked of which letter it is
+-- two parts of runs, side by side, which lead to these machines, for job j. A moment that is no
+-- tick of the job comes in one of them alone, and then leaves what the job sees; or in both, and
+-- then it keeps the machines alike, such as a line that is the same in both. A tick of the job
+-- comes in both, each with a letter that is licensed there, and the tables that the job looks at
+-- are the same. Nothing is asked of which letter it is
 pub data SideBySide (j : ℕ) : List Moment → Machine → List Moment → Machine → Type 0 where
   at_end : {m n : Machine} → SideBySide j [] m [] n
   first_alone : {t : Moment} {ts us : List Moment} {m n : Machine}

@@ -1,5 +1,6 @@
 -- Who may see what: which calls change each table that all jobs share (docs/MACHINE.md, "Who may
--- see what"). So the list of the ways in which strangers can pass a bit through a table is complete.
+-- see what"). So the list of the ways in which strangers can pass a bit through a table is
+-- complete.
 -- A promise rests on this.
 use Rattle.std.specs.Prelude.{◌≡◌, ℕ, Bool, true, false, Option, Some, None, Result, Ok, Err, option_map}
 use Rattle.its_word.specs.Core.{Core}
@@ -7,13 +8,13 @@ use Rattle.its_word.specs.declared.access.Fault.{Fault}
 use Rattle.its_records.specs.declared.calls.Ask.{Ask}
 use Rattle.its_frame.specs.declared.name.CallName.{CallName}
 use Rattle.its_frame.specs.declared.name.CallName.TheVariants.{Logout, Open, Close, Iot, Siot, Ttylnd, Delete, Rename, Uclose, Corblk}
-use Rattle.its_plain.specs.CallFile.{is_read, blocks_used}
-use Rattle.its_plain.specs.Decide.{call_named}
-use Rattle.its_plain.specs.Decode.{ask}
-use Rattle.its_plain.specs.Interrupt.{deliverable}
-use Rattle.its_plain.specs.Change.{superiors}
+use Rattle.its_plain.specs.Call.File.{is_read, blocks_used}
+use Rattle.its_plain.specs.Call.Decide.{call_named}
+use Rattle.its_plain.specs.Call.Decode.{ask}
+use Rattle.its_plain.specs.Unit.Interrupt.{deliverable}
+use Rattle.its_plain.specs.Machine.Change.{superiors}
 use Rattle.its_plain.specs.Machine.{Names, Whole, Machine, mapped, limit}
-use Rattle.its_plain.specs.OperatorFiles.{channels_of}
+use Rattle.its_plain.specs.Operator.Files.{channels_of}
 use Rattle.its_plain.specs.Unit.{Outcome, Changed, Faulted, Called, unit}
 
 -- the tables: how many pages and how many blocks are in use; the directory; which files are read;

@@ -1,12 +1,14 @@
 //! Who may touch and see what, on the plain machine: definitions and laws alone.
 //!
-//! - `Integrity.MayStep` is the list of what a step of a job may change, `OperatorParts.touched` the
-//!   part that a line changes, and `RunIntegrity.Integrity` says both of every moment of a session.
-//!   A new kind of change needs a clause of `MayStep`, and a case in `OthersLaws` or `OwnJobLaws`.
-//! - `Looks.Looks` is the list of what a call looks at outside its own job, `Respect.Respects` what a
-//!   step of a stranger leaves of what a job sees, `Tables.changes` the list of which call changes
-//!   which shared table, and `Confidential.Confidential` says all of the run of a session. A new call
-//!   needs a line of `Looks` and of `changes`, and cases in `LooksLaws` and `CallChanges`.
+//! - `Integrity.MayStep` is the list of what a step of a job may change, `OperatorParts.touched`
+//!   the part that a line changes, and `RunIntegrity.Integrity` says both of every moment of a
+//!   session. A new kind of change needs a clause of `MayStep`, and a case in `OthersLaws` or
+//!   `OwnJobLaws`.
+//! - `Looks.Looks` is the list of what a call looks at outside its own job, `Respect.Respects` what
+//!   a step of a stranger leaves of what a job sees, `Tables.changes` the list of which call
+//!   changes which shared table, and `Confidential.Confidential` says all of the run of a session.
+//!   A new call needs a line of `Looks` and of `changes`, and cases in `LooksLaws` and
+//!   `CallChanges`.
 //!
 //! Proved:
 //! - Each step and each line of a session changes only what it may, and what a reader reads stays

@@ -33,7 +33,8 @@ digits_below : (w : List ℕ) (n : ℕ) → list_all (is_code 48 55) w ≡ true 
 digits_below [] n h = omega arith
 digits_below (c ∷ cs) n h =
     let parts = both (is_code 48 55 c) (list_all (is_code 48 55) cs) h in
-    rw (pow-suc 8 (length cs)) (digit_next n c (8 ^ length cs) (fold (λ n c. n * 8 + (c - 48)) (n * 8 + (c - 48)) cs) parts.0 (digits_below cs (n * 8 + (c - 48)) parts.1))
+    rw (pow-suc 8 (length cs)) (digit_next n c (8 ^ length cs) (fold (λ n c. n * 8 + (c - 48)) (n * 8 + (c - 48)) cs) parts.0
+    (digits_below cs (n * 8 + (c - 48)) parts.1))
 
 number_below : (w : List ℕ) → is_octal w ≡ true → octal_value w < 2 ^ 36
 unfolding is_octal octal_value
@@ -83,7 +84,8 @@ fits_by v fields d e fits h = let m = met fields d e h in subst (ReadAt v (place
 counted : (most : ℕ) (ws : List (List ℕ)) (r : Result Event Bad) (e : Event) → with_count most ws r ≡ Ok e → (r ≡ Ok e) × (1 ≤ length ws) × (length ws ≤ most)
 counted most ws r e h = go (leb 1 (length ws) && leb (length ws) most) refl h
   where
-    go : (b : Bool) → (leb 1 (length ws) && leb (length ws) most) ≡ b → (if b then r else Err bads.Syntax) ≡ Ok e → (r ≡ Ok e) × (1 ≤ length ws) × (length ws ≤ most)
+    go : (b : Bool) → (leb 1 (length ws) && leb (length ws) most) ≡ b → (if b then r else Err bads.Syntax) ≡ Ok e → (r ≡ Ok e)
+        × (1 ≤ length ws) × (length ws ≤ most)
     go true t h = let s = both (leb 1 (length ws)) (leb (length ws) most) t in (h, le_of 1 (length ws) s.0, le_of (length ws) most s.1)
     go false t h = cc
 
@@ -108,7 +110,8 @@ is_console w f = le_of (octal_value w) 7 f.console
 may_be_console : (w : List ℕ) → Met (console_or_dash w) → IfSome (console_given w) (λ k. k ≤ 7)
 may_be_console w f = go (is_dash w) f
   where
-    go : (b : Bool) → Met (if b then record { formed = true; ranged = true; console = true } else console w) → IfSome (if b then None else Some (octal_value w)) (λ k. k ≤ 7)
+    go : (b : Bool) → Met (if b then record { formed = true; ranged = true; console = true } else console w)
+        → IfSome (if b then None else Some (octal_value w)) (λ k. k ≤ 7)
     go true f = tt
     go false f = is_console w f
 
@@ -120,7 +123,8 @@ are_bytes (w ∷ ws) f = All-cons (λ b. b ≤ 127) (octal_value w) (map octal_v
 load_fits : (v : ℕ) (ws : List (List ℕ)) (e : Event) → load_line ws ≡ Ok e → ReadAt v places.Plain e
 unfolding load_line
 load_fits v (u ∷ j ∷ c ∷ []) e h =
-    fits_by v (name u ∷ name j ∷ console_or_dash c ∷ []) (events.Load (sixbit_of u) (sixbit_of j) (console_given c)) e (λ f. (is_name_word u f.0, is_name_word j f.1.0, may_be_console c f.1.1.0)) h
+    fits_by v (name u ∷ name j ∷ console_or_dash c ∷ []) (events.Load (sixbit_of u) (sixbit_of j) (console_given c)) e
+    (λ f. (is_name_word u f.0, is_name_word j f.1.0, may_be_console c f.1.1.0)) h
 load_fits v _ e h = cc
 
 words_fits : (v : ℕ) (a : List ℕ) (ws : List (List ℕ)) (e : Event) → words_line a ws ≡ Ok e → ReadAt v places.Load e
@@ -143,7 +147,8 @@ go_fits v (a ∷ b ∷ ws) e h = cc
 file_fits : (v : ℕ) (ws : List (List ℕ)) (e : Event) → file_line ws ≡ Ok e → ReadAt v places.Plain e
 unfolding file_line
 file_fits v (d ∷ x ∷ y ∷ []) e h =
-    fits_by v (name d ∷ name x ∷ name y ∷ []) (events.File (sixbit_of d) (sixbit_of x) (sixbit_of y)) e (λ f. (is_name_word d f.0, is_name_word x f.1.0, is_name_word y f.1.1.0)) h
+    fits_by v (name d ∷ name x ∷ name y ∷ []) (events.File (sixbit_of d) (sixbit_of x) (sixbit_of y)) e
+    (λ f. (is_name_word d f.0, is_name_word x f.1.0, is_name_word y f.1.1.0)) h
 file_fits v _ e h = cc
 
 append_fits : (v : ℕ) (ws : List (List ℕ)) (e : Event) → append_line ws ≡ Ok e → ReadAt v places.File e
@@ -158,7 +163,8 @@ append_fits v ws e h =
 tick_fits : (v : ℕ) (ws : List (List ℕ)) (e : Event) → tick_line v ws ≡ Ok e → ReadAt v places.Plain e
 unfolding tick_line
 tick_fits v (s ∷ n ∷ []) e h =
-    fits_by v (slot v s ∷ count_to 512 n ∷ []) (events.Tick (octal_value s) (octal_value n)) e (λ f. (let n_in = from_one 512 n f.1.0 in (at_most (last_slot v) s f.0, n_in.0, n_in.1))) h
+    fits_by v (slot v s ∷ count_to 512 n ∷ []) (events.Tick (octal_value s) (octal_value n)) e
+    (λ f. (let n_in = from_one 512 n f.1.0 in (at_most (last_slot v) s f.0, n_in.0, n_in.1))) h
 tick_fits v _ e h = cc
 
 run_fits : (v : ℕ) (ws : List (List ℕ)) (e : Event) → run_line ws ≡ Ok e → ReadAt v places.Plain e
@@ -182,7 +188,8 @@ type_fits v (k ∷ bs) e h =
 drain_fits : (v : ℕ) (ws : List (List ℕ)) (e : Event) → drain_line ws ≡ Ok e → ReadAt v places.Plain e
 unfolding drain_line
 drain_fits v (c ∷ n ∷ []) e h =
-    fits_by v (console c ∷ count_to 64 n ∷ []) (events.Drain (octal_value c) (octal_value n)) e (λ f. (let n_in = from_one 64 n f.1.0 in (is_console c f.0, n_in.0, n_in.1))) h
+    fits_by v (console c ∷ count_to 64 n ∷ []) (events.Drain (octal_value c) (octal_value n)) e
+    (λ f. (let n_in = from_one 64 n f.1.0 in (is_console c f.0, n_in.0, n_in.1))) h
 drain_fits v _ e h = cc
 
 clock_fits : (v : ℕ) (ws : List (List ℕ)) (e : Event) → clock_line ws ≡ Ok e → ReadAt v places.Plain e
@@ -222,7 +229,8 @@ span_fits v event ws e fits h = go (span_line v ws) refl h
 deposit_fits : (v : ℕ) (ws : List (List ℕ)) (e : Event) → deposit_line v ws ≡ Ok e → ReadAt v places.Plain e
 unfolding deposit_line
 deposit_fits v (s ∷ a ∷ w ∷ []) e h =
-    fits_by v (slot v s ∷ address a ∷ number w ∷ []) (events.Deposit (octal_value s) (octal_value a) (octal_value w)) e (λ f. (at_most (last_slot v) s f.0, is_address a f.1.0)) h
+    fits_by v (slot v s ∷ address a ∷ number w ∷ []) (events.Deposit (octal_value s) (octal_value a) (octal_value w)) e
+    (λ f. (at_most (last_slot v) s f.0, is_address a f.1.0)) h
 deposit_fits v _ e h = cc
 
 slot_is : (v : ℕ) (ws : List (List ℕ)) (s : ℕ) → slot_line v ws ≡ Ok s → s ≤ last_slot v
@@ -231,7 +239,8 @@ slot_is v (w ∷ []) s h = let m = met (slot v w ∷ []) (octal_value w) s h in 
 slot_is v [] s h = cc
 slot_is v (w ∷ x ∷ ws) s h = cc
 
-slot_fits : (v : ℕ) (event : ℕ → Event) (ws : List (List ℕ)) (e : Event) → ((s : ℕ) → s ≤ last_slot v → ReadAt v places.Plain (event s)) → of_slot event (slot_line v ws) ≡ Ok e → ReadAt v places.Plain e
+slot_fits : (v : ℕ) (event : ℕ → Event) (ws : List (List ℕ)) (e : Event) → ((s : ℕ) → s ≤ last_slot v → ReadAt v places.Plain (event s))
+    → of_slot event (slot_line v ws) ≡ Ok e → ReadAt v places.Plain e
 slot_fits v event ws e fits h = go (slot_line v ws) refl h
   where
     go : (r : Result ℕ Bad) → slot_line v ws ≡ r → of_slot event r ≡ Ok e → ReadAt v places.Plain e
@@ -247,7 +256,8 @@ dir_fits v (d ∷ x ∷ ws) e h = cc
 show_fits : (v : ℕ) (ws : List (List ℕ)) (e : Event) → show_line ws ≡ Ok e → ReadAt v places.Plain e
 unfolding show_line
 show_fits v (d ∷ x ∷ y ∷ []) e h =
-    fits_by v (name d ∷ name x ∷ name y ∷ []) (events.Show (sixbit_of d) (sixbit_of x) (sixbit_of y)) e (λ f. (is_name_word d f.0, is_name_word x f.1.0, is_name_word y f.1.1.0)) h
+    fits_by v (name d ∷ name x ∷ name y ∷ []) (events.Show (sixbit_of d) (sixbit_of x) (sixbit_of y)) e
+    (λ f. (is_name_word d f.0, is_name_word x f.1.0, is_name_word y f.1.1.0)) h
 show_fits v _ e h = cc
 
 bare_fits : (v : ℕ) (d : Event) (ws : List (List ℕ)) (e : Event) → EventFits v d → bare_line d ws ≡ Ok e → ReadAt v (place_of d) e
@@ -269,7 +279,8 @@ read_only_fits v (p ∷ x ∷ ws) e h = cc
 
 symbol_fits : (v : ℕ) (ws : List (List ℕ)) (e : Event) → symbol_line ws ≡ Ok e → ReadAt v places.Load e
 unfolding symbol_line
-symbol_fits v (x ∷ a ∷ []) e h = fits_by v (name x ∷ address a ∷ []) (events.Symbol (sixbit_of x) (octal_value a)) e (λ f. (is_name_word x f.0, is_address a f.1.0)) h
+symbol_fits v (x ∷ a ∷ []) e h = fits_by v (name x ∷ address a ∷ []) (events.Symbol (sixbit_of x) (octal_value a)) e
+    (λ f. (is_name_word x f.0, is_address a f.1.0)) h
 symbol_fits v _ e h = cc
 
 -- an event whose place is this one is allowed there
@@ -305,7 +316,8 @@ kind_fits v kinds.Dir first ws e h = dir_fits v ws e h
 kind_fits v kinds.Show first ws e h = show_fits v ws e h
 kind_fits v kinds.End first ws e h = bare_fits v events.End ws e tt h
 
-first_fits : (v : ℕ) (place : Place) (k : Option Kind) (first : List ℕ) (ws : List (List ℕ)) (e : Event) → line_of_first place v k first ws ≡ Ok e → EventFits v e × Stands place e
+first_fits : (v : ℕ) (place : Place) (k : Option Kind) (first : List ℕ) (ws : List (List ℕ)) (e : Event)
+    → line_of_first place v k first ws ≡ Ok e → EventFits v e × Stands place e
 first_fits v place None first ws e h = cc
 first_fits v place (Some k) first ws e h = go (may_stand place v k) refl h
   where

@@ -69,7 +69,8 @@ rounds_length zero = omega arith
 rounds_length (suc n) = omega (arith, length-append (for_each n round) (round n), round_length n, rounds_length n)
 
 -- line k of a round
-pub in_round : (r c left k : ℕ) → length (for_each c (echoed r)) + left ≡ k → c < jobs → left < length (echoed r c) → slice_get (round r) k ≡ slice_get (echoed r c) left
+pub in_round : (r c left k : ℕ) → length (for_each c (echoed r)) + left ≡ k → c < jobs → left < length (echoed r c)
+    → slice_get (round r) k ≡ slice_get (echoed r c) left
 unfolding round
 in_round r c left k e h l = rw (← e) (at_each (echoed r) 8 c left h l)
 
@@ -127,7 +128,8 @@ in_start n k h =
     ∙ ap (slice_get all_started) (sym e) ∙ at_each started 8 (k / 6) (k % 6) c j
 
 -- line k of the rounds, which are n
-pub in_rounds : (n k r : ℕ) → 48 ≤ k → r ≡ (3 * (k - 48) + 1) / 80 → r < n → slice_get (generated_session n) k ≡ slice_get (round r) (k - 48 - (80 * r + 1) / 3)
+pub in_rounds : (n k r : ℕ) → 48 ≤ k → r ≡ (3 * (k - 48) + 1) / 80 → r < n
+    → slice_get (generated_session n) k ≡ slice_get (round r) (k - 48 - (80 * r + 1) / 3)
 unfolding generated_session
 in_rounds n k r le is h =
     let j = k - 48 - (80 * r + 1) / 3 in
@@ -140,7 +142,8 @@ in_rounds n k r le is h =
     ∙ ap (slice_get (for_each n round)) (sym b) ∙ at_each round n r j h l
 
 -- a line after the rounds
-pub in_end : (n k r : ℕ) → 48 ≤ k → r ≡ (3 * (k - 48) + 1) / 80 → n ≤ r → slice_get (generated_session n) k ≡ slice_get (all_emptied ++ events.End ∷ []) (k - 48 - (80 * n + 1) / 3)
+pub in_end : (n k r : ℕ) → 48 ≤ k → r ≡ (3 * (k - 48) + 1) / 80 → n ≤ r
+    → slice_get (generated_session n) k ≡ slice_get (all_emptied ++ events.End ∷ []) (k - 48 - (80 * n + 1) / 3)
 unfolding generated_session
 in_end n k r le is h =
     let e : k - 48 ≡ length (for_each n round) + (k - 48 - (80 * n + 1) / 3) = omega (arith, rounds_length n) in
@@ -202,9 +205,11 @@ exam_fit c h = ((omega arith, omega arith, omega arith, omega arith), tt)
 started_fit : (c : ℕ) → c < 8 → All Fine (started c)
 unfolding started
 started_fit c h =
-    let opens = words_fit 0o1000 (0o043000001020 ∷ 0o045700000000 ∷ 0o043000001030 ∷ 0o045700000000 ∷ 0o040040000003 ∷ 0o040100000003 ∷ 0o254000001004 ∷ []) (omega arith) (omega arith) (omega arith) in
+    let opens = words_fit 0o1000 (0o043000001020 ∷ 0o045700000000 ∷ 0o043000001030 ∷ 0o045700000000 ∷ 0o040040000003 ∷ 0o040100000003
+    ∷ 0o254000001004 ∷ []) (omega arith) (omega arith) (omega arith) in
     let input = words_fit 0o1020 (0o400000000000 ∷ 0o576045560000 ∷ 0o001000000001 ∷ 0o400000001050 ∷ []) (omega arith) (omega arith) (omega arith) in
-    let output = words_fit 0o1030 (0o400000000000 ∷ 0o576045560000 ∷ 0o005000000001 ∷ 0o001000000002 ∷ 0o400000001050 ∷ []) (omega arith) (omega arith) (omega arith) in
+    let output = words_fit 0o1030 (0o400000000000 ∷ 0o576045560000 ∷ 0o005000000001 ∷ 0o001000000002 ∷ 0o400000001050 ∷ []) (omega arith)
+    (omega arith) (omega arith) in
     let device = words_fit 0o1050 (0o646471000000 ∷ []) (omega arith) (omega arith) (omega arith) in
     let go : Fine (events.Go 0o1000) = (omega arith, tt) in
     All-from_recursion Fine (started c) (load_fit c h, (opens, (input, (output, (device, (go, tt))))))
@@ -218,7 +223,8 @@ looked_fit r c h = elim (cases_Bool ((r + c) % 3 == 0)) [
 echoed_fit : (r c : ℕ) → c < 8 → All Fine (echoed r c)
 unfolding echoed
 echoed_fit r c h =
-    let first = All-from_recursion Fine (events.TypeIn c (record { items = letter r c ∷ [] }) ∷ events.Tick c 0o24 ∷ []) (type_fit r c h, (tick_fit c 0o24 h (omega arith) (omega arith), tt)) in
+    let first = All-from_recursion Fine (events.TypeIn c (record { items = letter r c ∷ [] }) ∷ events.Tick c 0o24 ∷ [])
+    (type_fit r c h, (tick_fit c 0o24 h (omega arith) (omega arith), tt)) in
     let last = All-from_recursion Fine (events.Drain c 0o10 ∷ []) (drain_fit c 0o10 h (omega arith) (omega arith), tt) in
     All-append Fine (events.TypeIn c (record { items = letter r c ∷ [] }) ∷ events.Tick c 0o24 ∷ []) (looked_at r c ++ events.Drain c 0o10 ∷ []) first
     (All-append Fine (looked_at r c) (events.Drain c 0o10 ∷ []) (looked_fit r c h) last)

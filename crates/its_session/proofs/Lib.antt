@@ -6,3 +6,5 @@ pub mod RoundTrip
 pub mod FitsLaws
 pub mod GeneratedLaws
 pub mod KindLaws
+pub mod ConstantLaws
+pub mod Groups

@@ -28,7 +28,8 @@ words_spaced first (w ∷ words) f ws = rw (spaced_cons first w words, words_fir
 visible_spaced : (first : List ℕ) (words : List (List ℕ)) → IsRun first → AllRuns words → list_all (is_code 32 126) (spaced first words) ≡ true
 visible_spaced first [] f ws = rw (spaced_none first) (run_in_line first f.visible)
 visible_spaced first (w ∷ words) f ws =
-    rw (spaced_cons first w words, list_all-append (is_code 32 126) first (32 ∷ spaced w words), run_in_line first f.visible) (visible_spaced w words ws.0 ws.1)
+    rw (spaced_cons first w words, list_all-append (is_code 32 126) first (32 ∷ spaced w words), run_in_line first f.visible)
+    (visible_spaced w words ws.0 ws.1)
 
 -- the event of such a line is that of its words
 pub line_of_words : (place : Place) (v : ℕ) (first : List ℕ) (words : List (List ℕ)) → IsRun first → AllRuns words → length first + room_of words ≤ 255

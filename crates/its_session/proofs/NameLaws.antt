@@ -43,7 +43,8 @@ below (c ∷ cs) h =
 
 -- a character, and then a number of the k characters after it
 step_is : (k c n : ℕ) → k ≤ 5 → 33 ≤ c → c ≤ 95 → n < 64 ^ k
-    → (((c - 32) * 64 ^ k + n) * 2 ^ (6 * (6 - suc k)) / 2 ^ 30 ≡ c - 32) × (((c - 32) * 64 ^ k + n) * 2 ^ (6 * (6 - suc k)) * 2 ^ 6 % 2 ^ 36 ≡ n * 2 ^ (6 * (6 - k)))
+    → (((c - 32) * 64 ^ k + n) * 2 ^ (6 * (6 - suc k)) / 2 ^ 30 ≡ c - 32)
+    × (((c - 32) * 64 ^ k + n) * 2 ^ (6 * (6 - suc k)) * 2 ^ 6 % 2 ^ 36 ≡ n * 2 ^ (6 * (6 - k)))
 step_is (suc (suc (suc (suc (suc (suc k)))))) c n h low high small = absurd (omega arith)
 step_is _ c n h low high small = (omega arith, omega arith)
 
@@ -51,7 +52,8 @@ step_is _ c n h low high small = (omega arith, omega arith)
 abbrev word_of : List ℕ → ℕ
 word_of cs = fold more 0 cs * 2 ^ (6 * (6 - length cs))
 
-word_parts : (c : ℕ) (cs : List ℕ) → length cs ≤ 5 → are_codes (c ∷ cs) ≡ true → (word_of (c ∷ cs) / 2 ^ 30 ≡ c - 32) × (word_of (c ∷ cs) * 2 ^ 6 % 2 ^ 36 ≡ word_of cs)
+word_parts : (c : ℕ) (cs : List ℕ) → length cs ≤ 5 → are_codes (c ∷ cs) ≡ true → (word_of (c ∷ cs) / 2 ^ 30 ≡ c - 32)
+    × (word_of (c ∷ cs) * 2 ^ 6 % 2 ^ 36 ≡ word_of cs)
 word_parts c cs few h =
     let parts = both (is_code 33 95 c) (are_codes cs) h in
     let first : fold more 0 (c ∷ cs) ≡ (c - 32) * 64 ^ length cs + fold more 0 cs = omega (arith, first_counts (more 0 c) cs) in
@@ -107,4 +109,9 @@ name_reads w n =
     let parts = name_is n.text n.formed in
     let same : name_of w ≡ n.text = rw (← n.coded) (name_again n.text n.formed) in
     let P : List ℕ → Type 0 = λ t. IsName w t in
-    subst P (sym same) (record { formed = n.formed; coded = n.coded; run = record { some = parts.0; visible = codes_in_word n.text parts.2 }; short = parts.1 })
+    subst P (sym same) (record {
+      formed = n.formed;
+      coded = n.coded;
+      run = record { some = parts.0; visible = codes_in_word n.text parts.2 };
+      short = parts.1;
+    })

@@ -20,7 +20,8 @@ no_characters (suc n) w none = rw none refl
 pub characters_end : (turn w : ℕ) → w / 2 ^ 30 ≡ 0 → characters (6 - turn) w ≡ []
 characters_end turn w none = no_characters (6 - turn) w none
 
-pub characters_turn : (turn w : ℕ) → turn < 6 → 0 < w / 2 ^ 30 → characters (6 - turn) w ≡ (32 + w / 2 ^ 30) ∷ characters (6 - (turn + 1)) (w * 2 ^ 6 % 2 ^ 36)
+pub characters_turn : (turn w : ℕ) → turn < 6 → 0 < w / 2 ^ 30 → characters (6 - turn) w ≡ (32 + w / 2 ^ 30)
+    ∷ characters (6 - (turn + 1)) (w * 2 ^ 6 % 2 ^ 36)
 unfolding characters
 characters_turn turn w below some =
     let one_more : 6 - turn ≡ suc (6 - (turn + 1)) = omega arith in

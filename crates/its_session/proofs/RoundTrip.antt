@@ -80,7 +80,14 @@ zeros_before : (a : ℕ) → a < 2 ^ 18 → octal12_of a ≡ 48 ∷ 48 ∷ 48 �
 unfolding octal12_of octal6_of
 zeros_before a below =
     let none : (k : ℕ) → 2 ^ 18 ≤ k → a / k ≡ 0 = λ k h. div-eq_of_lt (omega arith) in
-    rw (none (2 ^ 33) (lit≤ tt), none (2 ^ 30) (lit≤ tt), none (2 ^ 27) (lit≤ tt), none (2 ^ 24) (lit≤ tt), none (2 ^ 21) (lit≤ tt), none (2 ^ 18) (lit≤ tt)) refl
+    rw (
+      none (2 ^ 33) (lit≤ tt),
+      none (2 ^ 30) (lit≤ tt),
+      none (2 ^ 27) (lit≤ tt),
+      none (2 ^ 24) (lit≤ tt),
+      none (2 ^ 21) (lit≤ tt),
+      none (2 ^ 18) (lit≤ tt),
+    ) refl
 
 value_behind_zeros : (ds : List ℕ) → octal_value (48 ∷ 48 ∷ 48 ∷ 48 ∷ 48 ∷ 48 ∷ ds) ≡ octal_value ds
 unfolding octal_value
@@ -136,7 +143,8 @@ unfolding event_of_words kind_of symbol_line
 symbol_again x a named_x below =
     let read_x = name_reads x named_x in
     let read_a = address_reads a below in
-    line_of_words places.Load 2 (codes "SYM") (name_of x ∷ octal6_of a ∷ []) (word (codes "SYM") refl refl) (read_x.run, (read_a.run, tt)) (omega (arith, read_x.short, read_a.short))
+    line_of_words places.Load 2 (codes "SYM") (name_of x ∷ octal6_of a ∷ []) (word (codes "SYM") refl refl) (read_x.run, (read_a.run, tt))
+    (omega (arith, read_x.short, read_a.short))
     ∙ rw (read_x.formed, read_x.coded, read_a.formed, read_a.value) (grind (arith, nat_tests))
 
 tick_again : (s n : ℕ) → s ≤ 95 → 1 ≤ n → n ≤ 512 → line_event places.Plain 2 (spaced (codes "TICK") (digits_of s ∷ digits_of n ∷ [])) ≡ Ok (events.Tick s n)
@@ -144,15 +152,18 @@ unfolding event_of_words kind_of tick_line last_slot
 tick_again s n slot some few =
     let read_s = number_reads s (omega arith) in
     let read_n = number_reads n (omega arith) in
-    line_of_words places.Plain 2 (codes "TICK") (digits_of s ∷ digits_of n ∷ []) (word (codes "TICK") refl refl) (read_s.run, (read_n.run, tt)) (omega (arith, read_s.short, read_n.short))
+    line_of_words places.Plain 2 (codes "TICK") (digits_of s ∷ digits_of n ∷ []) (word (codes "TICK") refl refl)
+    (read_s.run, (read_n.run, tt)) (omega (arith, read_s.short, read_n.short))
     ∙ rw (read_s.formed, read_n.formed, digits_value s, digits_value n) (grind (arith, nat_tests))
 
-run_again : (n q : ℕ) → 1 ≤ n → n ≤ 512 → 1 ≤ q → q ≤ 64 → line_event places.Plain 2 (spaced (codes "RUN") (digits_of n ∷ digits_of q ∷ [])) ≡ Ok (events.Run n q)
+run_again : (n q : ℕ) → 1 ≤ n → n ≤ 512 → 1 ≤ q → q ≤ 64 → line_event places.Plain 2
+    (spaced (codes "RUN") (digits_of n ∷ digits_of q ∷ [])) ≡ Ok (events.Run n q)
 unfolding event_of_words kind_of run_line
 run_again n q some few any short =
     let read_n = number_reads n (omega arith) in
     let read_q = number_reads q (omega arith) in
-    line_of_words places.Plain 2 (codes "RUN") (digits_of n ∷ digits_of q ∷ []) (word (codes "RUN") refl refl) (read_n.run, (read_q.run, tt)) (omega (arith, read_n.short, read_q.short))
+    line_of_words places.Plain 2 (codes "RUN") (digits_of n ∷ digits_of q ∷ []) (word (codes "RUN") refl refl)
+    (read_n.run, (read_q.run, tt)) (omega (arith, read_n.short, read_q.short))
     ∙ rw (read_n.formed, read_q.formed, digits_value n, digits_value q) (grind (arith, nat_tests))
 
 drain_again : (c n : ℕ) → c ≤ 7 → 1 ≤ n → n ≤ 64 → line_event places.Plain 2 (spaced (codes "DRAIN") (digits_of c ∷ digits_of n ∷ [])) ≡ Ok (events.Drain c n)
@@ -160,7 +171,8 @@ unfolding event_of_words kind_of drain_line
 drain_again c n console some few =
     let read_c = number_reads c (omega arith) in
     let read_n = number_reads n (omega arith) in
-    line_of_words places.Plain 2 (codes "DRAIN") (digits_of c ∷ digits_of n ∷ []) (word (codes "DRAIN") refl refl) (read_c.run, (read_n.run, tt)) (omega (arith, read_c.short, read_n.short))
+    line_of_words places.Plain 2 (codes "DRAIN") (digits_of c ∷ digits_of n ∷ []) (word (codes "DRAIN") refl refl)
+    (read_c.run, (read_n.run, tt)) (omega (arith, read_c.short, read_n.short))
     ∙ rw (read_c.formed, read_n.formed, digits_value c, digits_value n) (grind (arith, nat_tests))
 
 clock_again : (n : ℕ) → n < 2 ^ 36 → line_event places.Plain 2 (spaced (codes "CLOCK") (digits_of n ∷ [])) ≡ Ok (events.Clock n)
@@ -170,13 +182,15 @@ clock_again n below =
     line_of_words places.Plain 2 (codes "CLOCK") (digits_of n ∷ []) (word (codes "CLOCK") refl refl) (read_n.run, tt) (omega (arith, read_n.short))
     ∙ rw (read_n.formed, digits_value n) (grind (arith, nat_tests))
 
-int_again : (s v w : ℕ) → s ≤ 95 → v < 2 ^ 36 → w < 2 ^ 36 → line_event places.Plain 2 (spaced (codes "INT") (digits_of s ∷ octal12_of v ∷ octal12_of w ∷ [])) ≡ Ok (events.Int s v w)
+int_again : (s v w : ℕ) → s ≤ 95 → v < 2 ^ 36 → w < 2 ^ 36 → line_event places.Plain 2
+    (spaced (codes "INT") (digits_of s ∷ octal12_of v ∷ octal12_of w ∷ [])) ≡ Ok (events.Int s v w)
 unfolding event_of_words kind_of int_line last_slot
 int_again s v w slot word_v word_w =
     let read_s = number_reads s (omega arith) in
     let read_v = word_reads v word_v in
     let read_w = word_reads w word_w in
-    line_of_words places.Plain 2 (codes "INT") (digits_of s ∷ octal12_of v ∷ octal12_of w ∷ []) (word (codes "INT") refl refl) (read_s.run, (read_v.run, (read_w.run, tt))) (omega (arith, read_s.short, read_v.short, read_w.short))
+    line_of_words places.Plain 2 (codes "INT") (digits_of s ∷ octal12_of v ∷ octal12_of w ∷ []) (word (codes "INT") refl refl)
+    (read_s.run, (read_v.run, (read_w.run, tt))) (omega (arith, read_s.short, read_v.short, read_w.short))
     ∙ rw (read_s.formed, read_v.formed, read_w.formed, digits_value s, read_v.value, read_w.value) (grind (arith, nat_tests))
 
 span_row : (s a n : ℕ) → s ≤ 95 → 1 ≤ n → n ≤ 8 → a + n ≤ 2 ^ 18 → span_line 2 (digits_of s ∷ octal6_of a ∷ digits_of n ∷ []) ≡ Ok (s, a, n)
@@ -188,30 +202,38 @@ span_row s a n slot some few within =
     rw (read_s.formed, read_a.formed, read_n.formed, digits_value s, read_a.value, digits_value n) (grind (arith, nat_tests))
 
 span_words : (first : List ℕ) (s a n : ℕ) → IsRun first → length first ≤ 16 → s ≤ 95 → n ≤ 8 → a < 2 ^ 18
-    → line_event places.Plain 2 (spaced first (digits_of s ∷ octal6_of a ∷ digits_of n ∷ [])) ≡ event_of_words places.Plain 2 (first ∷ digits_of s ∷ octal6_of a ∷ digits_of n ∷ [])
+    → line_event places.Plain 2 (spaced first (digits_of s ∷ octal6_of a ∷ digits_of n ∷ [])) ≡ event_of_words places.Plain 2
+    (first ∷ digits_of s ∷ octal6_of a ∷ digits_of n ∷ [])
 span_words first s a n run short slot few below =
     let read_s = number_reads s (omega arith) in
     let read_a = address_reads a below in
     let read_n = number_reads n (omega arith) in
-    line_of_words places.Plain 2 first (digits_of s ∷ octal6_of a ∷ digits_of n ∷ []) run (read_s.run, (read_a.run, (read_n.run, tt))) (omega (arith, read_s.short, read_a.short, read_n.short))
+    line_of_words places.Plain 2 first (digits_of s ∷ octal6_of a ∷ digits_of n ∷ []) run (read_s.run, (read_a.run, (read_n.run, tt)))
+    (omega (arith, read_s.short, read_a.short, read_n.short))
 
-exam_again : (s a n : ℕ) → s ≤ 95 → 1 ≤ n → n ≤ 8 → a + n ≤ 2 ^ 18 → line_event places.Plain 2 (spaced (codes "EXAM") (digits_of s ∷ octal6_of a ∷ digits_of n ∷ [])) ≡ Ok (events.Exam s a n)
+exam_again : (s a n : ℕ) → s ≤ 95 → 1 ≤ n → n ≤ 8 → a + n ≤ 2 ^ 18
+    → line_event places.Plain 2 (spaced (codes "EXAM") (digits_of s ∷ octal6_of a ∷ digits_of n ∷ [])) ≡ Ok (events.Exam s a n)
 unfolding event_of_words kind_of
 exam_again s a n slot some few within =
-    span_words (codes "EXAM") s a n (word (codes "EXAM") refl refl) (lit≤ tt) slot few (omega arith) ∙ ap (of_span events.Exam) (span_row s a n slot some few within)
+    span_words (codes "EXAM") s a n (word (codes "EXAM") refl refl) (lit≤ tt) slot few (omega arith)
+    ∙ ap (of_span events.Exam) (span_row s a n slot some few within)
 
-list_again : (s a n : ℕ) → s ≤ 95 → 1 ≤ n → n ≤ 8 → a + n ≤ 2 ^ 18 → line_event places.Plain 2 (spaced (codes "LIST") (digits_of s ∷ octal6_of a ∷ digits_of n ∷ [])) ≡ Ok (events.List s a n)
+list_again : (s a n : ℕ) → s ≤ 95 → 1 ≤ n → n ≤ 8 → a + n ≤ 2 ^ 18
+    → line_event places.Plain 2 (spaced (codes "LIST") (digits_of s ∷ octal6_of a ∷ digits_of n ∷ [])) ≡ Ok (events.List s a n)
 unfolding event_of_words kind_of
 list_again s a n slot some few within =
-    span_words (codes "LIST") s a n (word (codes "LIST") refl refl) (lit≤ tt) slot few (omega arith) ∙ ap (of_span events.List) (span_row s a n slot some few within)
+    span_words (codes "LIST") s a n (word (codes "LIST") refl refl) (lit≤ tt) slot few (omega arith)
+    ∙ ap (of_span events.List) (span_row s a n slot some few within)
 
-deposit_again : (s a w : ℕ) → s ≤ 95 → a < 2 ^ 18 → w < 2 ^ 36 → line_event places.Plain 2 (spaced (codes "DEPOSIT") (digits_of s ∷ octal6_of a ∷ octal12_of w ∷ [])) ≡ Ok (events.Deposit s a w)
+deposit_again : (s a w : ℕ) → s ≤ 95 → a < 2 ^ 18 → w < 2 ^ 36
+    → line_event places.Plain 2 (spaced (codes "DEPOSIT") (digits_of s ∷ octal6_of a ∷ octal12_of w ∷ [])) ≡ Ok (events.Deposit s a w)
 unfolding event_of_words kind_of deposit_line last_slot
 deposit_again s a w slot below word_w =
     let read_s = number_reads s (omega arith) in
     let read_a = address_reads a below in
     let read_w = word_reads w word_w in
-    line_of_words places.Plain 2 (codes "DEPOSIT") (digits_of s ∷ octal6_of a ∷ octal12_of w ∷ []) (word (codes "DEPOSIT") refl refl) (read_s.run, (read_a.run, (read_w.run, tt))) (omega (arith, read_s.short, read_a.short, read_w.short))
+    line_of_words places.Plain 2 (codes "DEPOSIT") (digits_of s ∷ octal6_of a ∷ octal12_of w ∷ []) (word (codes "DEPOSIT") refl refl)
+    (read_s.run, (read_a.run, (read_w.run, tt))) (omega (arith, read_s.short, read_a.short, read_w.short))
     ∙ rw (read_s.formed, read_a.formed, read_w.formed, digits_value s, read_a.value, read_w.value) (grind (arith, nat_tests))
 
 state_again : (s : ℕ) → s ≤ 95 → line_event places.Plain 2 (spaced (codes "STATE") (digits_of s ∷ [])) ≡ Ok (events.State s)
@@ -242,13 +264,15 @@ peek_again s slot =
     line_of_words places.Plain 2 (codes "PEEK") (digits_of s ∷ []) (word (codes "PEEK") refl refl) (read_s.run, tt) (omega (arith, read_s.short))
     ∙ rw (read_s.formed, digits_value s) (grind (arith, nat_tests))
 
-file_again : (d x y : ℕ) → IsNameWord d → IsNameWord x → IsNameWord y → line_event places.Plain 2 (spaced (codes "FILE") (name_of d ∷ name_of x ∷ name_of y ∷ [])) ≡ Ok (events.File d x y)
+file_again : (d x y : ℕ) → IsNameWord d → IsNameWord x → IsNameWord y
+    → line_event places.Plain 2 (spaced (codes "FILE") (name_of d ∷ name_of x ∷ name_of y ∷ [])) ≡ Ok (events.File d x y)
 unfolding event_of_words kind_of file_line
 file_again d x y named_d named_x named_y =
     let read_d = name_reads d named_d in
     let read_x = name_reads x named_x in
     let read_y = name_reads y named_y in
-    line_of_words places.Plain 2 (codes "FILE") (name_of d ∷ name_of x ∷ name_of y ∷ []) (word (codes "FILE") refl refl) (read_d.run, (read_x.run, (read_y.run, tt))) (omega (arith, read_d.short, read_x.short, read_y.short))
+    line_of_words places.Plain 2 (codes "FILE") (name_of d ∷ name_of x ∷ name_of y ∷ []) (word (codes "FILE") refl refl)
+    (read_d.run, (read_x.run, (read_y.run, tt))) (omega (arith, read_d.short, read_x.short, read_y.short))
     ∙ rw (read_d.formed, read_x.formed, read_y.formed, read_d.coded, read_x.coded, read_y.coded) refl
 
 dir_again : (d : ℕ) → IsNameWord d → line_event places.Plain 2 (spaced (codes "DIR") (name_of d ∷ [])) ≡ Ok (events.Dir d)
@@ -258,13 +282,15 @@ dir_again d named_d =
     line_of_words places.Plain 2 (codes "DIR") (name_of d ∷ []) (word (codes "DIR") refl refl) (read_d.run, tt) (omega (arith, read_d.short))
     ∙ rw (read_d.formed, read_d.coded) refl
 
-show_again : (d x y : ℕ) → IsNameWord d → IsNameWord x → IsNameWord y → line_event places.Plain 2 (spaced (codes "SHOW") (name_of d ∷ name_of x ∷ name_of y ∷ [])) ≡ Ok (events.Show d x y)
+show_again : (d x y : ℕ) → IsNameWord d → IsNameWord x → IsNameWord y
+    → line_event places.Plain 2 (spaced (codes "SHOW") (name_of d ∷ name_of x ∷ name_of y ∷ [])) ≡ Ok (events.Show d x y)
 unfolding event_of_words kind_of show_line
 show_again d x y named_d named_x named_y =
     let read_d = name_reads d named_d in
     let read_x = name_reads x named_x in
     let read_y = name_reads y named_y in
-    line_of_words places.Plain 2 (codes "SHOW") (name_of d ∷ name_of x ∷ name_of y ∷ []) (word (codes "SHOW") refl refl) (read_d.run, (read_x.run, (read_y.run, tt))) (omega (arith, read_d.short, read_x.short, read_y.short))
+    line_of_words places.Plain 2 (codes "SHOW") (name_of d ∷ name_of x ∷ name_of y ∷ []) (word (codes "SHOW") refl refl)
+    (read_d.run, (read_x.run, (read_y.run, tt))) (omega (arith, read_d.short, read_x.short, read_y.short))
     ∙ rw (read_d.formed, read_x.formed, read_y.formed, read_d.coded, read_x.coded, read_y.coded) refl
 
 console_run : (o : Option ℕ) → IfSome o (λ c. c ≤ 7) → IsRun (console_text o)
@@ -306,7 +332,8 @@ some_row u j c named_u named_j few =
     let read_c = number_reads c (omega arith) in
     rw (read_u.formed, read_j.formed, read_u.coded, read_j.coded, number_no_dash c, read_c.formed, digits_value c) (grind (arith, nat_tests))
 
-load_row : (u j : ℕ) (o : Option ℕ) → IsNameWord u → IsNameWord j → IfSome o (λ c. c ≤ 7) → load_line (name_of u ∷ name_of j ∷ console_text o ∷ []) ≡ Ok (events.Load u j o)
+load_row : (u j : ℕ) (o : Option ℕ) → IsNameWord u → IsNameWord j → IfSome o (λ c. c ≤ 7)
+    → load_line (name_of u ∷ name_of j ∷ console_text o ∷ []) ≡ Ok (events.Load u j o)
 load_row u j None named_u named_j h = none_row u j named_u named_j
 load_row u j (Some c) named_u named_j h = some_row u j c named_u named_j h
 
@@ -316,7 +343,8 @@ unfolding event_of_words kind_of
 load_again u j o named_u named_j h =
     let read_u = name_reads u named_u in
     let read_j = name_reads j named_j in
-    line_of_words places.Plain 2 (codes "LOAD") (name_of u ∷ name_of j ∷ console_text o ∷ []) (word (codes "LOAD") refl refl) (read_u.run, (read_j.run, (console_run o h, tt))) (omega (arith, read_u.short, read_j.short, console_short o h))
+    line_of_words places.Plain 2 (codes "LOAD") (name_of u ∷ name_of j ∷ console_text o ∷ []) (word (codes "LOAD") refl refl)
+    (read_u.run, (read_j.run, (console_run o h, tt))) (omega (arith, read_u.short, read_j.short, console_short o h))
     ∙ load_row u j o named_u named_j h
 
 -- the numbers of a list
@@ -401,7 +429,22 @@ digits_kind [] some h octal = absurd (omega arith)
 digits_kind (d ∷ ds) some h octal =
     let digit = (both (is_code 48 55 d) (list_all (is_code 48 55) ds) h).0 in
     let place : is_place ((d ∷ ds) ++ 47 ∷ []) ≡ true = place_again (d ∷ ds) octal in
-    rw (digit_above 86 d digit (lit≤ tt), digit_above 76 d digit (lit≤ tt), digit_above 82 d digit (lit≤ tt), digit_above 83 d digit (lit≤ tt), digit_above 71 d digit (lit≤ tt), digit_above 70 d digit (lit≤ tt), digit_below 47 d digit (lit≤ tt), digit_above 69 d digit (lit≤ tt), digit_above 84 d digit (lit≤ tt), digit_above 68 d digit (lit≤ tt), digit_above 67 d digit (lit≤ tt), digit_above 73 d digit (lit≤ tt), digit_above 80 d digit (lit≤ tt), place) refl
+    rw (
+      digit_above 86 d digit (lit≤ tt),
+      digit_above 76 d digit (lit≤ tt),
+      digit_above 82 d digit (lit≤ tt),
+      digit_above 83 d digit (lit≤ tt),
+      digit_above 71 d digit (lit≤ tt),
+      digit_above 70 d digit (lit≤ tt),
+      digit_below 47 d digit (lit≤ tt),
+      digit_above 69 d digit (lit≤ tt),
+      digit_above 84 d digit (lit≤ tt),
+      digit_above 68 d digit (lit≤ tt),
+      digit_above 67 d digit (lit≤ tt),
+      digit_above 73 d digit (lit≤ tt),
+      digit_above 80 d digit (lit≤ tt),
+      place,
+    ) refl
 
 place_run : (ds : List ℕ) → IsRun ds → IsRun (ds ++ 47 ∷ [])
 place_run ds run = record {
@@ -414,7 +457,19 @@ words_row : (a : ℕ) (ws : List ℕ) → 1 ≤ length ws → length ws ≤ 16 �
 unfolding words_line
 words_row a ws some few within below =
     let read_a = address_reads a (omega arith) in
-    rw (length-map ws octal12_of, le-leb 1 (length ws) some, le-leb (length ws) 16 few, read_a.formed, numbers_formed (map octal12_of ws), words_are_octal ws below, read_a.value, le-leb a (2 ^ 18 - length ws) (omega arith), numbers_ranged (map octal12_of ws), numbers_consoles (map octal12_of ws), values_again ws below) refl
+    rw (
+      length-map ws octal12_of,
+      le-leb 1 (length ws) some,
+      le-leb (length ws) 16 few,
+      read_a.formed,
+      numbers_formed (map octal12_of ws),
+      words_are_octal ws below,
+      read_a.value,
+      le-leb a (2 ^ 18 - length ws) (omega arith),
+      numbers_ranged (map octal12_of ws),
+      numbers_consoles (map octal12_of ws),
+      values_again ws below,
+    ) refl
 
 words_again : (a : ℕ) (ws : List ℕ) → 1 ≤ length ws → length ws ≤ 16 → a + length ws ≤ 2 ^ 18 → AreWords ws
     → line_event places.Load 2 (spaced (octal6_of a ++ codes "/") (map octal12_of ws)) ≡ Ok (events.Words a (record { items = ws }))
@@ -422,13 +477,27 @@ unfolding event_of_words
 words_again a ws some few within are =
     let read_a = address_reads a (omega arith) in
     let below = below_each (2 ^ 36) ws are in
-    line_of_words places.Load 2 (octal6_of a ++ codes "/") (map octal12_of ws) (place_run (octal6_of a) read_a.run) (word_runs ws below) (omega (arith, read_a.short, length-append (octal6_of a) (47 ∷ []), room_of_words ws))
-    ∙ rw (digits_no_comment (octal6_of a) read_a.run.some read_a.codes, digits_kind (octal6_of a) read_a.run.some read_a.codes read_a.formed, before_again (octal6_of a)) (words_row a ws some few within below)
+    line_of_words places.Load 2 (octal6_of a ++ codes "/") (map octal12_of ws) (place_run (octal6_of a) read_a.run) (word_runs ws below)
+    (omega (arith, read_a.short, length-append (octal6_of a) (47 ∷ []), room_of_words ws))
+    ∙ rw (
+      digits_no_comment (octal6_of a) read_a.run.some read_a.codes,
+      digits_kind (octal6_of a) read_a.run.some read_a.codes read_a.formed,
+      before_again (octal6_of a),
+    ) (words_row a ws some few within below)
 
 append_row : (ws : List ℕ) → 1 ≤ length ws → length ws ≤ 16 → Below (2 ^ 36) ws → append_line (map octal12_of ws) ≡ Ok (events.Append (record { items = ws }))
 unfolding append_line
 append_row ws some few below =
-    rw (length-map ws octal12_of, le-leb 1 (length ws) some, le-leb (length ws) 16 few, numbers_formed (map octal12_of ws), words_are_octal ws below, numbers_ranged (map octal12_of ws), numbers_consoles (map octal12_of ws), values_again ws below) refl
+    rw (
+      length-map ws octal12_of,
+      le-leb 1 (length ws) some,
+      le-leb (length ws) 16 few,
+      numbers_formed (map octal12_of ws),
+      words_are_octal ws below,
+      numbers_ranged (map octal12_of ws),
+      numbers_consoles (map octal12_of ws),
+      values_again ws below,
+    ) refl
 
 append_again : (ws : List ℕ) → 1 ≤ length ws → length ws ≤ 16 → AreWords ws
     → line_event places.File 2 (spaced (codes "/") (map octal12_of ws)) ≡ Ok (events.Append (record { items = ws }))
@@ -438,11 +507,25 @@ append_again ws some few are =
     line_of_words places.File 2 (codes "/") (map octal12_of ws) (word (codes "/") refl refl) (word_runs ws below) (omega (arith, room_of_words ws))
     ∙ append_row ws some few below
 
-type_row : (c : ℕ) (bs : List ℕ) → c ≤ 7 → 1 ≤ length bs → length bs ≤ 32 → Below 128 bs → type_line (digits_of c ∷ map digits_of bs) ≡ Ok (events.TypeIn c (record { items = bs }))
+type_row : (c : ℕ) (bs : List ℕ) → c ≤ 7 → 1 ≤ length bs → length bs ≤ 32 → Below 128 bs
+    → type_line (digits_of c ∷ map digits_of bs) ≡ Ok (events.TypeIn c (record { items = bs }))
 unfolding type_line
 type_row c bs console some few below =
     let read_c = number_reads c (omega arith) in
-    rw (length-map bs digits_of, le-leb 1 (length bs) some, le-leb (length bs) 32 few, read_c.formed, bytes_formed (map digits_of bs), numbers_are_octal bs (below_more 128 (2 ^ 36) bs (lit≤ tt) below), bytes_ranged (map digits_of bs), bytes_ranged_again bs below, digits_value c, le-leb c 7 console, bytes_consoles (map digits_of bs), numbers_again bs) refl
+    rw (
+      length-map bs digits_of,
+      le-leb 1 (length bs) some,
+      le-leb (length bs) 32 few,
+      read_c.formed,
+      bytes_formed (map digits_of bs),
+      numbers_are_octal bs (below_more 128 (2 ^ 36) bs (lit≤ tt) below),
+      bytes_ranged (map digits_of bs),
+      bytes_ranged_again bs below,
+      digits_value c,
+      le-leb c 7 console,
+      bytes_consoles (map digits_of bs),
+      numbers_again bs,
+    ) refl
 
 type_again : (c : ℕ) (bs : List ℕ) → c ≤ 7 → 1 ≤ length bs → length bs ≤ 32 → All (λ b. b ≤ 127) bs
     → line_event places.Plain 2 (spaced (codes "TYPE") (digits_of c ∷ map digits_of bs)) ≡ Ok (events.TypeIn c (record { items = bs }))
@@ -450,7 +533,9 @@ unfolding event_of_words kind_of
 type_again c bs console some few small =
     let below = below_each 128 bs (λ k at. omega (arith, small k 0 at)) in
     let read_c = number_reads c (omega arith) in
-    line_of_words places.Plain 2 (codes "TYPE") (digits_of c ∷ map digits_of bs) (word (codes "TYPE") refl refl) (read_c.run, number_runs bs (below_more 128 (2 ^ 36) bs (lit≤ tt) below)) (omega (arith, read_c.short, room_of_numbers 3 bs (lit≤ tt) (below_more 128 (8 ^ 3) bs (lit≤ tt) below)))
+    line_of_words places.Plain 2 (codes "TYPE") (digits_of c ∷ map digits_of bs) (word (codes "TYPE") refl refl)
+    (read_c.run, number_runs bs (below_more 128 (2 ^ 36) bs (lit≤ tt) below))
+    (omega (arith, read_c.short, room_of_numbers 3 bs (lit≤ tt) (below_more 128 (8 ^ 3) bs (lit≤ tt) below)))
     ∙ type_row c bs console some few below
 
 end_file_again : line_event places.File 2 (codes "EOF") ≡ Ok events.EndFile

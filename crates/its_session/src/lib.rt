@@ -23,11 +23,13 @@ mod few;
 mod fields;
 mod generator;
 mod kind;
+mod limits;
 mod print;
 mod put;
 mod read;
 mod rows;
 
 pub use generator::generated;
+pub use limits::MOST_LINES;
 pub use print::print_event;
 pub use read::read_line;

@@ -231,7 +231,7 @@ pub fn bare(event: Event, words: &[&[u8]]) -> Result<Event, Bad>
 }
 
 /// `a/` and 1 to 16 words
-#[tactic(auto, using(crate::proofs::RowLaws::numbers_formed, crate::proofs::RowLaws::numbers_ranged, crate::proofs::RowLaws::numbers_consoles, crate::proofs::RowLaws::count_of_words), unfolding(crate::specs::Grammar::words_line))]
+#[tactic(auto, using(crate::proofs::Groups::words_laws), unfolding(crate::specs::Grammar::words_line))]
 pub fn words(a: &[u8], words: &[&[u8]]) -> Result<Event, Bad>
     ensures { result ≡ words_line a.now (map (λ w. w.now) words.now) }
 {
@@ -251,7 +251,7 @@ pub fn append(words: &[&[u8]]) -> Result<Event, Bad>
 }
 
 /// `TYPE c` and 1 to 32 bytes
-#[tactic(auto, using(crate::proofs::RowLaws::first_word, crate::proofs::RowLaws::bytes_formed, crate::proofs::RowLaws::bytes_ranged, crate::proofs::RowLaws::bytes_consoles), unfolding(crate::specs::Grammar::type_line))]
+#[tactic(auto, using(crate::proofs::Groups::type_in_laws), unfolding(crate::specs::Grammar::type_line))]
 pub fn type_in(words: &[&[u8]]) -> Result<Event, Bad>
     ensures { result ≡ type_line (map (λ w. w.now) words.now) }
 {

@@ -1,9 +1,9 @@
 -- The alarms of the jobs of a machine (docs/STEPS.md, "Soundness").
 -- No promise rests on this.
 use Rattle.std.specs.Prelude.{◌≤◌, ◌<◌, ℕ, IfSome}
-use Rattle.its_plain.specs.CallBasic.{longest_period}
+use Rattle.its_plain.specs.Call.Basic.{longest_period}
 use Rattle.its_plain.specs.Machine.{Machine}
-use Rattle.its_plain.specs.OperatorClock.{alarm_in}
+use Rattle.its_plain.specs.Operator.Clock.{alarm_in}
 
 -- an alarm that is to come at clock c: its period is at least 1 and at most 2 ^ 34, and its next
 -- time is above the clock

@@ -9,13 +9,13 @@ use Rattle.its_records.specs.declared.calls.Operand.{Operand}
 use Rattle.its_records.specs.declared.calls.Site.{Site}
 use Rattle.its_records.specs.declared.jobs.Job.{Job}
 use Rattle.its_frame.specs.declared.name.CallName.TheVariants.{Sleep, Iot, Siot}
-use Rattle.its_plain.specs.Arguments.{place_of_input, in_footprint, is_shared}
-use Rattle.its_plain.specs.CallStep.{among}
-use Rattle.its_plain.specs.Change.{superiors}
-use Rattle.its_plain.specs.Decide.{call_named, reach}
-use Rattle.its_plain.specs.Footprint.{variable, with_inputs}
+use Rattle.its_plain.specs.Call.Arguments.{place_of_input, in_footprint, is_shared}
+use Rattle.its_plain.specs.Call.Step.{among}
+use Rattle.its_plain.specs.Machine.Change.{superiors}
+use Rattle.its_plain.specs.Call.Decide.{call_named, reach}
+use Rattle.its_plain.specs.Call.Footprint.{variable, with_inputs}
 use Rattle.its_plain.specs.Machine.{Whole, Machine}
-use Rattle.its_plain.specs.Tests.{number_at, out}
+use Rattle.its_plain.specs.Call.Tests.{number_at, out}
 use Rattle.its_stepped.specs.State.{State}
 use Rattle.its_stepped.specs.Tick.{reserves, helps, quarters}
 use Rattle.its_stepped.specs.Sound.{Stands, Stored, Debts, Paged}

@@ -18,10 +18,10 @@ use Rattle.its_frame.specs.declared.frame.Frame.{Frame}
 use Rattle.its_frame.specs.declared.name.CallName.{CallName}
 use Rattle.its_frame.specs.declared.name.CallName.TheVariants.{Sleep}
 use Rattle.its_plain.specs.Machine.{Shut, changed}
-use Rattle.its_plain.specs.Own.{on_channel}
-use Rattle.its_plain.specs.Change.{in_job, channel_in, superiors, is_gone, effect}
-use Rattle.its_plain.specs.Arguments.{debts, with_new_values}
-use Rattle.its_plain.specs.Decide.{call_named}
+use Rattle.its_plain.specs.Machine.Own.{on_channel}
+use Rattle.its_plain.specs.Machine.Change.{in_job, channel_in, superiors, is_gone, effect}
+use Rattle.its_plain.specs.Call.Arguments.{debts, with_new_values}
+use Rattle.its_plain.specs.Call.Decide.{call_named}
 use Rattle.its_stepped.specs.State.{Part, UnlinkOld, LinkNew, FreeOld, Mark, State, mark_of_close, with_slot, same, holding, waiting, moving, ending}
 
 -- a change on the stepped machine: a close is marked, and its parts are pending; a page that is

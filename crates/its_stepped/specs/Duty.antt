@@ -17,10 +17,10 @@ use Rattle.its_frame.specs.declared.frame.Frame.{Frame}
 use Rattle.its_frame.specs.declared.frame.Frame.TheVariants.{Entered, Parsed, Asked, Holding, Waiting, Moving, Ending}
 use Rattle.its_word.specs.Stores.{place}
 use Rattle.its_plain.specs.Machine.{Whole}
-use Rattle.its_plain.specs.Change.{superiors, is_gone}
-use Rattle.its_plain.specs.Arguments.{input, in_footprint, debts, with_new_values}
-use Rattle.its_plain.specs.Decide.{call_named, reach}
-use Rattle.its_plain.specs.CallStep.{after_moves, decision, among}
+use Rattle.its_plain.specs.Machine.Change.{superiors, is_gone}
+use Rattle.its_plain.specs.Call.Arguments.{input, in_footprint, debts, with_new_values}
+use Rattle.its_plain.specs.Call.Decide.{call_named, reach}
+use Rattle.its_plain.specs.Call.Step.{after_moves, decision, among}
 use Rattle.its_stepped.specs.State.{State, plain, seen}
 use Rattle.its_stepped.specs.Commit.{effect_on}
 use Rattle.its_stepped.specs.Tick.{reserves, with_preparation, quarters}

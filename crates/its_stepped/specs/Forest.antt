@@ -8,7 +8,7 @@ use Rattle.its_records.specs.Tree.{climbs_to}
 use Rattle.its_records.specs.declared.link.End.{End}
 use Rattle.its_records.specs.declared.link.End.TheVariants.{Unopened, Opened}
 use Rattle.its_plain.specs.Machine.{Chan, TtyIn, TtyOut, On, Linked, Pipe, Machine, limit}
-use Rattle.its_plain.specs.Change.{superiors, channel_in, console_in}
+use Rattle.its_plain.specs.Machine.Change.{superiors, channel_in, console_in}
 
 -- a channel of the job of slot k that is on a job is on an inferior of its own
 abbrev pub OnInferior : Machine → ℕ → Chan → Type 0

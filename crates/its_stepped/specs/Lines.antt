@@ -20,13 +20,13 @@ use Rattle.its_frame.specs.Calls.{sixbit}
 use Rattle.its_print.specs.Printing.{Line}
 use Rattle.its_print.specs.Printing as printed
 use Rattle.its_plain.specs.Machine.{Machine, no_machine, core_of}
-use Rattle.its_plain.specs.Arguments.{place_of_input}
-use Rattle.its_plain.specs.Decide.{call_row, call_named}
-use Rattle.its_plain.specs.OperatorClock.{due_slots}
+use Rattle.its_plain.specs.Call.Arguments.{place_of_input}
+use Rattle.its_plain.specs.Call.Decide.{call_row, call_named}
+use Rattle.its_plain.specs.Operator.Clock.{due_slots}
 use Rattle.its_plain.specs.Operator.{Block, no_block, Operated, Refuses, Does, Ticks, nobody, Quits}
 use Rattle.its_plain.specs.Transcript.{Fate, Ended, Open, Refused, TooLong}
-use Rattle.its_plain.specs.OperatorLines.{Lined, Done, Peeks, lined}
-use Rattle.its_plain.specs.Turns.{turn_after, highest, turns_asked, ticks_asked}
+use Rattle.its_plain.specs.Operator.Lines.{Lined, Done, Peeks, lined}
+use Rattle.its_plain.specs.Transcript.Turns.{turn_after, highest, turns_asked, ticks_asked}
 use Rattle.its_stepped.specs.State.{State, plain, no_state}
 use Rattle.its_stepped.specs.Unwind.{left, unwound, all_unwound}
 use Rattle.its_stepped.specs.Tick.{after_help_if, tick}

@@ -6,8 +6,8 @@ use Rattle.std.specs.Prelude.{◌≡◌, ℕ, Some, None, List, [], ◌∷◌}
 use Rattle.its_records.specs.declared.calls.Exit.{Exit}
 use Rattle.its_word.specs.declared.plan.Store.{Store}
 use Rattle.its_plain.specs.Machine.{changed}
-use Rattle.its_plain.specs.Own.{with_stores, after_leave}
-use Rattle.its_plain.specs.Change.{in_job}
+use Rattle.its_plain.specs.Machine.Own.{with_stores, after_leave}
+use Rattle.its_plain.specs.Machine.Change.{in_job}
 use Rattle.its_stepped.specs.State.{Part, Mark, State, after_part}
 use Rattle.its_stepped.specs.Unwind.{rest_marked}
 

@@ -7,7 +7,7 @@ use Rattle.its_frame.specs.declared.change.Change.{Change}
 use Rattle.its_frame.specs.declared.change.Change.TheVariants as changes
 use Rattle.its_frame.specs.declared.frame.Frame.{Frame}
 use Rattle.its_frame.specs.declared.frame.Frame.TheVariants.{Entered, Parsed, Asked, Holding, Waiting, Moving, Ending}
-use Rattle.its_plain.specs.Change.{superiors, is_gone}
+use Rattle.its_plain.specs.Machine.Change.{superiors, is_gone}
 use Rattle.its_stepped.specs.State.{State}
 use Rattle.its_stepped.specs.Commit.{effect_on}
 use Rattle.its_stepped.specs.Tick.{quarters}
@@ -54,7 +54,7 @@ Quiet (changes.Remove s) j w = (k : ℕ) → is_gone (superiors w.raw) s k ≡ t
 Quiet (changes.Inform s) j w = Reached w j s
 Quiet (changes.Arm alarm) j w = Unit {0}
 Quiet (changes.Join n l write x y) j w = Unit {0}
-Quiet (changes.Part n l write) j w = Unit {0}
+Quiet (changes.CloseEnd n l write) j w = Unit {0}
 Quiet (changes.Send l x) j w = Unit {0}
 Quiet (changes.Receive l) j w = Unit {0}
 Quiet (changes.Delete d x y) j w = w.mark ≡ None

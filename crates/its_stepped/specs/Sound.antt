@@ -15,19 +15,19 @@ use Rattle.its_frame.specs.declared.frame.Frame.{Frame}
 use Rattle.its_frame.specs.declared.frame.Frame.TheVariants.{Entered, Parsed, Asked, Holding, Waiting, Moving, Ending}
 use Rattle.its_frame.specs.declared.name.CallName.{CallName}
 use Rattle.its_frame.specs.declared.name.CallName.TheVariants.{Siot}
-use Rattle.its_plain.specs.Interrupt.{deliverable}
+use Rattle.its_plain.specs.Unit.Interrupt.{deliverable}
 use Rattle.its_plain.specs.Unit.{Called, unit}
 use Rattle.its_word.specs.Stores.{place}
 use Rattle.its_frame.specs.declared.decision.Decision.TheVariants.{Waits}
 use Rattle.its_frame.specs.declared.decision.Wait.{Wait}
 use Rattle.its_plain.specs.Machine.{Whole, Machine}
-use Rattle.its_plain.specs.CallStep.{decision}
-use Rattle.its_plain.specs.Reasons.{doors, held_up, reason_in}
-use Rattle.its_plain.specs.Change.{poke}
-use Rattle.its_plain.specs.Arguments.{input, in_footprint, debts}
+use Rattle.its_plain.specs.Call.Step.{decision}
+use Rattle.its_plain.specs.Call.Reasons.{doors, held_up, reason_in}
+use Rattle.its_plain.specs.Machine.Change.{poke}
+use Rattle.its_plain.specs.Call.Arguments.{input, in_footprint, debts}
 use Rattle.its_stepped.specs.TwoParts.{parse}
-pub use Rattle.its_plain.specs.Footprint.{Stands}
-use Rattle.its_plain.specs.Decide.{call_row, call_named}
+pub use Rattle.its_plain.specs.Call.Footprint.{Stands}
+use Rattle.its_plain.specs.Call.Decide.{call_row, call_named}
 use Rattle.its_stepped.specs.State.{Part, UnlinkOld, LinkNew, FreeOld, Mark, State, seen}
 use Rattle.its_stepped.specs.Tick.{reserves}
 

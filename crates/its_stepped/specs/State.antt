@@ -10,11 +10,11 @@ use Rattle.its_frame.specs.declared.decision.Held.{Held}
 use Rattle.its_frame.specs.declared.frame.Frame.{Frame}
 use Rattle.its_frame.specs.declared.frame.Frame.TheVariants.{Entered, Parsed, Asked, Holding, Waiting, Moving, Ending}
 use Rattle.its_plain.specs.Machine.{File, Chan, Writes, Whole, Machine, changed}
-use Rattle.its_plain.specs.Own.{with_stores, after_leave}
-use Rattle.its_plain.specs.Change.{in_job, poke, without_file}
-use Rattle.its_plain.specs.CallFile.{has_file}
-use Rattle.its_plain.specs.Arguments.{debts}
-use Rattle.its_plain.specs.CallStep.{with_held}
+use Rattle.its_plain.specs.Machine.Own.{with_stores, after_leave}
+use Rattle.its_plain.specs.Machine.Change.{in_job, poke, without_file}
+use Rattle.its_plain.specs.Call.File.{has_file}
+use Rattle.its_plain.specs.Call.Arguments.{debts}
+use Rattle.its_plain.specs.Call.Step.{with_held}
 
 -- the parts of a close: the old file leaves the directory, the draft becomes its last file, and the
 -- blocks of the old one are given up

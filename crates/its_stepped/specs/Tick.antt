@@ -13,15 +13,15 @@ use Rattle.its_frame.specs.declared.frame.Frame.TheVariants.{Entered, Parsed, As
 use Rattle.its_frame.specs.declared.name.CallName.{CallName}
 use Rattle.its_frame.specs.declared.name.OnFiles.{OnFiles}
 use Rattle.its_frame.specs.declared.name.OnFiles.TheVariants.{Never, ByDevice, ByChannel, Always}
-use Rattle.its_plain.specs.Interrupt.{Delivered, deliverable, delivered}
+use Rattle.its_plain.specs.Unit.Interrupt.{Delivered, deliverable, delivered}
 use Rattle.its_plain.specs.Unit.{Outcome, Changed, Faulted, Called, unit}
 use Rattle.its_plain.specs.Machine.{Chan, Reads, Writes, Whole}
 use Rattle.its_stepped.specs.TwoParts.{parse, fetch}
-use Rattle.its_plain.specs.Arguments.{input}
-use Rattle.its_plain.specs.CallBasic.{channel_at}
-use Rattle.its_plain.specs.CallFile.{disk_device}
-use Rattle.its_plain.specs.Decide.{call_row, call_named, reach}
-use Rattle.its_plain.specs.CallStep.{with_core_and_job, with_fault, informs, decision, informed_slots}
+use Rattle.its_plain.specs.Call.Arguments.{input}
+use Rattle.its_plain.specs.Call.Basic.{channel_at}
+use Rattle.its_plain.specs.Call.File.{disk_device}
+use Rattle.its_plain.specs.Call.Decide.{call_row, call_named, reach}
+use Rattle.its_plain.specs.Call.Step.{with_core_and_job, with_fault, informs, decision, informed_slots}
 use Rattle.its_stepped.specs.State.{State, plain, seen, with_slot, same, reserving, entered, parsed, asked, holding}
 use Rattle.its_stepped.specs.Unwind.{unwind_one, all_unwound, help}
 use Rattle.its_stepped.specs.Commit.{effects_on, after_commit}

@@ -10,9 +10,9 @@ use Rattle.its_word.specs.declared.access.Fault.{Fault}
 use Rattle.its_records.specs.declared.calls.Arg.{Arg}
 use Rattle.its_records.specs.declared.calls.Ask.{Ask}
 use Rattle.its_records.specs.declared.calls.Site.{Site}
-use Rattle.its_plain.specs.UnitPlan.{given}
-use Rattle.its_plain.specs.Decode.{arguments, ask_of, iot_ask, parsed, words_of}
-use Rattle.its_plain.specs.Traced.{Traced}
+use Rattle.its_plain.specs.Unit.Plans.{given}
+use Rattle.its_plain.specs.Call.Decode.{arguments, ask_of, iot_ask, parsed, words_of}
+use Rattle.its_plain.specs.Unit.Trace.{Traced}
 
 -- the second half of the decoding of a call by a block, when the block is read already: the places
 -- of its words are known

@@ -10,10 +10,10 @@ use Rattle.its_word.specs.declared.plan.Store as stores
 use Rattle.its_frame.specs.Left.{left_of}
 use Rattle.its_frame.specs.declared.frame.Frame.{Frame}
 use Rattle.its_frame.specs.declared.frame.Frame.TheVariants.{Entered, Parsed, Asked, Holding, Waiting, Moving, Ending}
-use Rattle.its_plain.specs.Own.{with_stores, after_leave}
-use Rattle.its_plain.specs.Change.{poke}
-use Rattle.its_plain.specs.Arguments.{debts}
-use Rattle.its_plain.specs.CallStep.{with_held}
+use Rattle.its_plain.specs.Machine.Own.{with_stores, after_leave}
+use Rattle.its_plain.specs.Machine.Change.{poke}
+use Rattle.its_plain.specs.Call.Arguments.{debts}
+use Rattle.its_plain.specs.Call.Step.{with_held}
 use Rattle.its_stepped.specs.State.{Part, Mark, State, after_part, mine, after_help, held_at, with_slot, same, reserving, asked, holding, waiting, ending}
 
 -- a call with pending words that is still there stores the first one; a call without any drops its

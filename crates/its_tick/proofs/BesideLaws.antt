@@ -16,18 +16,18 @@ use Rattle.its_frame.specs.declared.decision.Decision.{Decision}
 use Rattle.its_frame.specs.declared.decision.Decision.TheVariants.{Waits, Goes, Ends, Gone}
 use Rattle.its_frame.specs.declared.frame.Frame.{Frame}
 use Rattle.its_frame.specs.declared.frame.Frame.TheVariants.{Entered, Parsed, Asked, Holding, Waiting, Moving, Ending}
-use Rattle.its_plain.specs.Arguments.{debts}
+use Rattle.its_plain.specs.Call.Arguments.{debts}
 use Rattle.its_stepped.specs.TwoParts.{items_of, parse, fetch, parse_by}
-use Rattle.its_plain.specs.CallStep.{with_core_and_job, with_fault, informs, informed_slots, decision, among, disturbed}
-use Rattle.its_plain.specs.Change.{superiors, with_inf, effect}
-use Rattle.its_plain.specs.Decide.{reach}
-use Rattle.its_plain.specs.Decode.{Shape, shaped, ask, ask_of, ask_by}
-use Rattle.its_plain.specs.Decode as decode
-use Rattle.its_plain.specs.Interrupt.{deliverable, delivered}
+use Rattle.its_plain.specs.Call.Step.{with_core_and_job, with_fault, informs, informed_slots, decision, among, disturbed}
+use Rattle.its_plain.specs.Machine.Change.{superiors, with_inf, effect}
+use Rattle.its_plain.specs.Call.Decide.{reach}
+use Rattle.its_plain.specs.Call.Decode.{Shape, shaped, ask, ask_of, ask_by}
+use Rattle.its_plain.specs.Call.Decode as decode
+use Rattle.its_plain.specs.Unit.Interrupt.{deliverable, delivered}
 use Rattle.its_plain.specs.Machine.{Whole, Machine}
-use Rattle.its_plain.specs.Own.{with_stores}
+use Rattle.its_plain.specs.Machine.Own.{with_stores}
 use Rattle.its_plain.specs.Unit.{Outcome, Changed, Faulted, Called, unit}
-use Rattle.its_plain.specs.UnitPlan as plans
+use Rattle.its_plain.specs.Unit.Plans as plans
 use Rattle.its_stepped.specs.Calling.{Calling}
 use Rattle.its_stepped.specs.Commit.{effect_on, effects_on, after_commit}
 use Rattle.its_stepped.specs.Duty.{Duty, IsTried, Meets, GivenBy, Given}
@@ -38,29 +38,29 @@ use Rattle.its_stepped.specs.Sound.{SoundFrame, SoundBy, Sound, Paged, most_owed
 use Rattle.its_stepped.specs.State.{State, plain, seen, with_slot, same, reserving, entered, parsed, asked, holding, waiting}
 use Rattle.its_stepped.specs.Tick.{Ticked, after_help_if, works, helps, user_on, unit_on, parsed_on, fetched_on, after_preparation, reserves, with_preparation, tried, tried_by, quarters, held_on, tick_in, tick_unless, tick_of, tick}
 use Rattle.its_stepped.specs.Unwind.{all_unwound}
-use Rattle.its_stepped.proofs.DecodingLaws.{decoding}
-use Rattle.its_stepped.proofs.DotsLaws.{trying_reach, disturbs_by}
-use Rattle.its_stepped.proofs.EffectLaws.{superiors_plain, effects_others}
-use Rattle.its_stepped.proofs.FitLaws.{decision_fits}
-use Rattle.its_stepped.proofs.ForestLaws.{FitsAll}
-use Rattle.its_stepped.proofs.FrameLaws.{changed_only, on_slot_other}
-use Rattle.its_stepped.proofs.GivenLaws.{decision_duty, given}
-use Rattle.its_stepped.proofs.HelpLaws.{helped_if_others}
-use Rattle.its_stepped.proofs.OverLaws.{can_stored, debts_alike}
-use Rattle.its_stepped.proofs.OwnLaws.{frames_none, reserved_none}
-use Rattle.its_stepped.proofs.SoundLaws.{tick_sound, page_none}
-use Rattle.its_stepped.proofs.TickLaws.{asks, seen_at, seen_none, found, Trying, trying_holding, trying_waiting, asks_none}
-use Rattle.its_stepped.proofs.UnwindLaws.{slot_same, slot_then, unwind_others, all_unwound_none, all_unwound_others, among_not_first}
+use Rattle.its_stepped.proofs.Frame.DecodingLaws.{decoding}
+use Rattle.its_stepped.proofs.Ticking.DotsLaws.{trying_reach, disturbs_by}
+use Rattle.its_stepped.proofs.Committing.EffectLaws.{superiors_plain, effects_others}
+use Rattle.its_stepped.proofs.Duties.FitLaws.{decision_fits}
+use Rattle.its_stepped.proofs.Keeping.ForestLaws.{FitsAll}
+use Rattle.its_stepped.proofs.Frame.FrameLaws.{changed_only, on_slot_other}
+use Rattle.its_stepped.proofs.Duties.GivenLaws.{decision_duty, given}
+use Rattle.its_stepped.proofs.Committing.HelpLaws.{helped_if_others}
+use Rattle.its_stepped.proofs.Frame.OverLaws.{can_stored, debts_alike}
+use Rattle.its_stepped.proofs.Frame.OwnLaws.{frames_none, reserved_none}
+use Rattle.its_stepped.proofs.Ticking.SoundLaws.{tick_sound, page_none}
+use Rattle.its_stepped.proofs.Ticking.TickLaws.{asks, seen_at, seen_none, found, Trying, trying_holding, trying_waiting, asks_none}
+use Rattle.its_stepped.proofs.Unwinding.UnwindLaws.{slot_same, slot_then, unwind_others, all_unwound_none, all_unwound_others, among_not_first}
 use Rattle.its_world.specs.World.{state_of}
 use Rattle.its_world.specs.declared.world.World.{World}
 use Rattle.its_tick.specs.Kept.{Kept}
 use Rattle.its_tick.specs.Beside.{Unwound, Undisturbed, Beside, AllBeside}
 use Rattle.its_tick.specs.Ticks.{ticked}
 use Rattle.its_tick.proofs.SparedLaws.{effects_same, gone_same, InferiorOf, effects_inferior}
-use Rattle.its_stepped.proofs.PageLaws.{owes_reserves_none}
-use Rattle.its_stepped.proofs.StartLaws.{seen_none as seen_free}
+use Rattle.its_stepped.proofs.Frame.PageLaws.{owes_reserves_none}
+use Rattle.its_stepped.proofs.Lining.StartLaws.{seen_none as seen_free}
 use Rattle.its_plain.proofs.TracedLaws.{stops_answer}
-use Rattle.its_stepped.proofs.CommitLaws.{Acts}
+use Rattle.its_stepped.proofs.Committing.CommitLaws.{Acts}
 use Rattle.its_plain.proofs.StepLaws.{transition_delivers, transition_unit, transition_called}
 
 -- an empty slot in a sound state has no frame and no page
@@ -71,7 +71,8 @@ empty_by (Some q) f r h e = cc
 empty_slot : (w : State) (k : ℕ) → Sound w → w.raw.jobs k ≡ None → (w.frames k ≡ None) × (w.reserved k ≡ None)
 empty_slot w k sound e = empty_by (w.raw.jobs k) (w.frames k) (w.reserved k) (sound.each k).by e
 
--- what a row of a tick of slot j leaves of slot k: with a `*`, a slot that is disturbed has no frame
+-- what a row of a tick of slot j leaves of slot k: with a `*`, a slot that is disturbed has no
+-- frame
 record Empty (v : State) (j k : ℕ) : Type 0 where
   frame : v.frames k ≡ None
   page : v.reserved k ≡ None
@@ -132,18 +133,22 @@ steps_then w v u j k h s = record {
   free = λ t. s.frame ∙ h.free t;
 }
 
-disturbs_fault : (m : Machine) (j k : ℕ) (q : Whole) (s : Site) (f : Fault) → m.jobs j ≡ Some q → q.job.stopped ≡ false → deliverable q.job ≡ false → unit q.core q.job ≡ Called s
+disturbs_fault : (m : Machine) (j k : ℕ) (q : Whole) (s : Site) (f : Fault) → m.jobs j ≡ Some q → q.job.stopped ≡ false
+    → deliverable q.job ≡ false → unit q.core q.job ≡ Called s
     → ask q.core s ≡ Err f → disturbed m j k ≡ false
 disturbs_fault m j k q s f is runs d u e = disturbs_by m j k _ (transition_called m j q s (Err f) is runs d u e)
 
 -- user mode
-unit_beside : (w : State) (j k : ℕ) (q : Whole) (o : Outcome) → k ≢ j → Sound w → w.raw.jobs j ≡ Some q → q.job.stopped ≡ false → w.frames j ≡ None → deliverable q.job ≡ false
+unit_beside : (w : State) (j k : ℕ) (q : Whole) (o : Outcome) → k ≢ j → Sound w → w.raw.jobs j ≡ Some q → q.job.stopped ≡ false
+    → w.frames j ≡ None → deliverable q.job ≡ false
     → unit q.core q.job ≡ o → Row w j k (unit_on w j o)
 unit_beside w j k q (Changed c x) ne sound is runs none d u =
-    steps_alone w _ j k sound (disturbs_by (plain w) j k _ (transition_unit (plain w) j q (Changed c x) (seen_at w j q None is none ∙ ap Some (seen_none q)) runs d u))
+    steps_alone w _ j k sound (disturbs_by (plain w) j k _ (transition_unit (plain w) j q (Changed c x)
+    (seen_at w j q None is none ∙ ap Some (seen_none q)) runs d u))
     (slot_others w j k (with_core_and_job c x) None ne)
 unit_beside w j k q (Faulted f) ne sound is runs none d u =
-    steps_alone w _ j k sound (disturbs_by (plain w) j k _ (transition_unit (plain w) j q (Faulted f) (seen_at w j q None is none ∙ ap Some (seen_none q)) runs d u))
+    steps_alone w _ j k sound (disturbs_by (plain w) j k _ (transition_unit (plain w) j q (Faulted f)
+    (seen_at w j q None is none ∙ ap Some (seen_none q)) runs d u))
     (slot_others w j k (with_fault f) None ne)
 unit_beside w j k q (Called s) ne sound is runs none d u = slot_others w j k same (Some (entered s)) ne
 
@@ -153,7 +158,8 @@ informs_others true (Some s) v j k h = record { job = on_slot_other v.raw.jobs s
 informs_others true None v j k h = slot_same v k
 informs_others false o v j k h = slot_same v k
 
-user_beside : (w : State) (j k : ℕ) (q : Whole) (b : Bool) → k ≢ j → Sound w → w.raw.jobs j ≡ Some q → q.job.stopped ≡ false → w.frames j ≡ None → deliverable q.job ≡ b
+user_beside : (w : State) (j k : ℕ) (q : Whole) (b : Bool) → k ≢ j → Sound w → w.raw.jobs j ≡ Some q → q.job.stopped ≡ false
+    → w.frames j ≡ None → deliverable q.job ≡ b
     → Row w j k (user_on w j q b)
 user_beside w j k q false ne sound is runs none d = unit_beside w j k q (unit q.core q.job) ne sound is runs none d refl
 user_beside w j k q true ne sound is runs none d =
@@ -184,13 +190,15 @@ items_fail : (r : Result (ArrayVec ℕ) Fault) (f : Fault) → items_of r ≡ Er
 items_fail (Ok b) f e = cc
 items_fail (Err g) f e = let is : g ≡ f = cc in ap Err is
 
-parsed_beside : (w : State) (j k : ℕ) (q : Whole) (s : Site) (r : Result (List ℕ) Fault) → k ≢ j → Sound w → (plain w).jobs j ≡ Some q → q.job.stopped ≡ false → deliverable q.job ≡ false
+parsed_beside : (w : State) (j k : ℕ) (q : Whole) (s : Site) (r : Result (List ℕ) Fault) → k ≢ j → Sound w → (plain w).jobs j ≡ Some q
+    → q.job.stopped ≡ false → deliverable q.job ≡ false
     → unit q.core q.job ≡ Called s → parse q.core s ≡ r → Row w j k (parsed_on w j s r)
 parsed_beside w j k q s (Ok b) ne sound is runs d u p = slot_others w j k same (Some (parsed s b)) ne
 parsed_beside w j k q s (Err f) ne sound is runs d u p =
     steps_alone w _ j k sound (disturbs_fault (plain w) j k q s f is runs d u (asks_none q.core s f p)) (slot_others w j k (with_fault f) None ne)
 
-fetched_beside : (w : State) (j k : ℕ) (q : Whole) (s : Site) (b : List ℕ) (r : Result Ask Fault) → k ≢ j → Sound w → (plain w).jobs j ≡ Some q → q.job.stopped ≡ false → deliverable q.job ≡ false
+fetched_beside : (w : State) (j k : ℕ) (q : Whole) (s : Site) (b : List ℕ) (r : Result Ask Fault) → k ≢ j → Sound w
+    → (plain w).jobs j ≡ Some q → q.job.stopped ≡ false → deliverable q.job ≡ false
     → unit q.core q.job ≡ Called s → parse q.core s ≡ Ok b → fetch q.core s b ≡ r → Row w j k (fetched_on w j s r)
 fetched_beside w j k q s b (Ok a) ne sound is runs d u p e = slot_others w j k same (Some (asked s a)) ne
 fetched_beside w j k q s b (Err f) ne sound is runs d u p e =
@@ -200,8 +208,8 @@ prepared_beside : (w : State) (j k : ℕ) (s : Site) (a : Ask) (b : Bool) → k 
 prepared_beside w j k s a true ne = page_others w j k same (Some (holding s a (Some 0) 0)) (Some 0) ne
 prepared_beside w j k s a false ne = slot_others w j k same (Some (holding s a None 0)) ne
 
--- a call does its duty in every state that it can find. In this one all jobs are inside a call except for those that it
--- reaches: so it changes none but these
+-- a call does its duty in every state that it can find. In this one all jobs are inside a call
+-- except for those that it reaches: so it changes none but these
 abbrev crowd_by : Site → Bool → Option Whole → Option Frame
 crowd_by s false (Some q) = Some (entered s)
 crowd_by s false None = None
@@ -237,9 +245,11 @@ crowd_none s false (Some q) e = cc
 crowd_some : (m : Machine) (ks : List ℕ) (s : Site) (i : ℕ) (q : Whole) → among i ks ≡ false → m.jobs i ≡ Some q → crowd m ks s i ≡ Some (entered s)
 crowd_some m ks s i q apart at = (λ t. crowd_by s (apart t) (at t))
 
-calling_crowded : (w : State) (j : ℕ) (q : Whole) (s : Site) (a : Ask) (n : ℕ) → Sound w → Forest (plain w) → Trying w j q s a n → Meets w j (with_stores (debts a n) q) s a n
+calling_crowded : (w : State) (j : ℕ) (q : Whole) (s : Site) (a : Ask) (n : ℕ) → Sound w → Forest (plain w) → Trying w j q s a n
+    → Meets w j (with_stores (debts a n) q) s a n
     → (plain w).jobs j ≡ Some (with_stores (debts a n) q)
-    → Calling (plain w) (crowded (with_preparation w j (with_stores (debts a n) q) a) (plain w) (reach (plain w) j (with_stores (debts a n) q) a) s a) j (with_stores (debts a n) q) s a n
+    → Calling (plain w) (crowded (with_preparation w j (with_stores (debts a n) q) a) (plain w)
+    (reach (plain w) j (with_stores (debts a n) q) a) s a) j (with_stores (debts a n) q) s a n
 calling_crowded w j q s a n sound forest t m here =
     let own : Whole = with_stores (debts a n) q in
     let v : State = with_preparation w j own a in
@@ -260,8 +270,8 @@ calling_crowded w j q s a n sound forest t m here =
       full = λ e. ap crowd_page e;
     }
 
--- the changes of a call, on slot k that its commit finds in v as it is in w if it is not disturbed: one with a job has
--- a frame in u then, which has the same raw machine
+-- the changes of a call, on slot k that its commit finds in v as it is in w if it is not disturbed:
+-- one with a job has a frame in u then, which has the same raw machine
 record Finds (w v u : State) (j k : ℕ) (s : Site) : Type 0 where
   same : disturbed (plain w) j k ≡ false → SlotSame w v k
   inside : disturbed (plain w) j k ≡ false → (q : Whole) → w.raw.jobs k ≡ Some q → u.frames k ≡ Some (entered s)
@@ -288,7 +298,8 @@ changes_beside w v u j k s cs ne sound quiet h stays = record {
           inferior = effects_inferior cs j v k (no_inferior j (v.raw.jobs k) (x.job ∙ at));
         }
 
-decided_beside : (w v u : State) (j k : ℕ) (own : Whole) (s : Site) (a : Ask) (n : ℕ) (d : Decision) → k ≢ j → Sound w → Duty v j own s a n d → Duty u j own s a n d → FitsAll d j (plain v) → Forest (plain v)
+decided_beside : (w v u : State) (j k : ℕ) (own : Whole) (s : Site) (a : Ask) (n : ℕ) (d : Decision) → k ≢ j → Sound w
+    → Duty v j own s a n d → Duty u j own s a n d → FitsAll d j (plain v) → Forest (plain v)
     → u.raw ≡ v.raw → (Acts d → Finds w v u j k s) → Row w j k (tried w v j s a n d)
 unfolding after_commit
 decided_beside w v u j k own s a n (Waits r) ne sound dv du fits forest e h = slot_others w j k same (Some (waiting s a n)) ne
@@ -342,17 +353,21 @@ held_beside : (w : State) (j k : ℕ) (q : Whole) (s : Site) (a : Ask) (page : O
 held_beside w j k q s a None n ne sound forest t m = tried_beside w j k q s a n ne sound forest t (m tt)
 held_beside w j k q s a (Some p) n ne sound forest t m = go (nat_lt p quarters) refl
   where
-    go : (b : Bool) → nat_lt p quarters ≡ b → Row w j k (if b then works (reserving (with_slot w j same (Some (holding s a (Some (p + 1)) n))) j (Some (p + 1))) else tried_by w j (with_stores (debts a n) q) s a n)
+    go : (b : Bool) → nat_lt p quarters ≡ b → Row w j k (if b then works
+        (reserving (with_slot w j same (Some (holding s a (Some (p + 1)) n))) j (Some (p + 1))) else tried_by w j (with_stores (debts a n) q) s a n)
     go true e = page_others w j k same (Some (holding s a (Some (p + 1)) n)) (Some (p + 1)) ne
     go false e = tried_beside w j k q s a n ne sound forest t (m e)
 
 -- a job inside a call
-frame_beside : (w : State) (j k : ℕ) (q : Whole) (f : Frame) → k ≢ j → Sound w → Forest (plain w) → w.raw.jobs j ≡ Some q → w.frames j ≡ Some f → SoundFrame q f (w.reserved j)
+frame_beside : (w : State) (j k : ℕ) (q : Whole) (f : Frame) → k ≢ j → Sound w → Forest (plain w) → w.raw.jobs j ≡ Some q
+    → w.frames j ≡ Some f → SoundFrame q f (w.reserved j)
     → GivenBy w j q (Some f) → Row w j k (tick_in w j q (Some f))
 unfolding seen
-frame_beside w j k q (Entered f) ne sound forest is fr h g = parsed_beside w j k q f.site (parse q.core f.site) ne sound (seen_at w j q (Some (Entered f)) is fr) h.runs h.quiet h.standing refl
+frame_beside w j k q (Entered f) ne sound forest is fr h g =
+    parsed_beside w j k q f.site (parse q.core f.site) ne sound (seen_at w j q (Some (Entered f)) is fr) h.runs h.quiet h.standing refl
 frame_beside w j k q (Parsed f) ne sound forest is fr h g =
-    fetched_beside w j k q f.site f.block.items (fetch q.core f.site f.block.items) ne sound (seen_at w j q (Some (Parsed f)) is fr) h.runs h.quiet h.standing.0 h.standing.1 refl
+    fetched_beside w j k q f.site f.block.items (fetch q.core f.site f.block.items) ne sound (seen_at w j q (Some (Parsed f)) is fr) h.runs
+    h.quiet h.standing.0 h.standing.1 refl
 frame_beside w j k q (Asked f) ne sound forest is fr h g = prepared_beside w j k f.site f.ask (reserves f.ask) ne
 frame_beside w j k q (Holding f) ne sound forest is fr h g =
     held_beside w j k q f.site f.ask f.page f.owes ne sound forest (trying_holding w j q f is fr h) g
@@ -362,7 +377,8 @@ frame_beside w j k q (Moving f) ne sound forest is fr h g = unwind_others w j k 
 frame_beside w j k q (Ending f) ne sound forest is fr h g = unwind_others w j k ne
 
 -- a tick
-running_beside : (w : State) (j k : ℕ) (q : Whole) (o : Option Frame) → k ≢ j → Sound w → Forest (plain w) → w.raw.jobs j ≡ Some q → q.job.stopped ≡ false → w.frames j ≡ o
+running_beside : (w : State) (j k : ℕ) (q : Whole) (o : Option Frame) → k ≢ j → Sound w → Forest (plain w) → w.raw.jobs j ≡ Some q
+    → q.job.stopped ≡ false → w.frames j ≡ o
     → SoundBy (Some q) o (w.reserved j)
     → GivenBy w j q o → Row w j k (tick_in w j q o)
 running_beside w j k q None ne sound forest is runs fr h g = user_beside w j k q (deliverable q.job) ne sound is runs fr refl
@@ -372,7 +388,8 @@ unless_beside : (w : State) (j k : ℕ) (q : Whole) (b : Bool) → k ≢ j → S
     → Row w j k (tick_unless w j q b)
 unless_beside w j k q true ne sound forest g is e = slot_same w k
 unless_beside w j k q false ne sound forest g is e =
-    running_beside w j k q (w.frames j) ne sound forest is e refl (subst (λ (o : Option Whole). SoundBy o (w.frames j) (w.reserved j)) is (sound.each j).by) (g.by q is)
+    running_beside w j k q (w.frames j) ne sound forest is e refl
+    (subst (λ (o : Option Whole). SoundBy o (w.frames j) (w.reserved j)) is (sound.each j).by) (g.by q is)
 
 slot_beside : (w : State) (j k : ℕ) (o : Option Whole) → k ≢ j → Sound w → Forest (plain w) → Given w j → w.raw.jobs j ≡ o → Row w j k (tick_of w j o)
 slot_beside w j k None ne sound forest g is = slot_same w k
@@ -413,5 +430,6 @@ beside_ticked old new s p kept e k ne =
     subst (λ (t : Ticked). Beside (state_of old) t.state s k t.pace) e (tick_beside (state_of old) s k kept.sound kept.forest ne)
 
 -- of all other slots
-pub all_beside : (old new : World) (s : ℕ) (p : Pace) → Kept old → tick (state_of old) s ≡ ticked (state_of new) p → AllBeside (state_of old) (state_of new) s p
+pub all_beside : (old new : World) (s : ℕ) (p : Pace) → Kept old → tick (state_of old) s ≡ ticked (state_of new) p
+    → AllBeside (state_of old) (state_of new) s p
 all_beside old new s p kept e = record { each = λ k ne. beside_ticked old new s p kept e k ne }

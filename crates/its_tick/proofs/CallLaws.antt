@@ -10,9 +10,9 @@ use Rattle.its_records.specs.declared.calls.Pace.{Pace}
 use Rattle.its_records.specs.declared.calls.Pace.TheVariants.{Work}
 use Rattle.its_records.specs.declared.calls.Site.{Site}
 use Rattle.its_records.specs.declared.jobs.Job.{Job}
-use Rattle.its_calls.specs.Calls.{after_fetch, after_parse, entered_in, fault_of, gone_to, parsed_in, request, request_in, Request}
-use Rattle.its_calls.specs.declared.call.Next.{Next}
-use Rattle.its_calls.specs.declared.call.Next.TheVariants as next
+use Rattle.its_in_call.specs.Calls.{after_fetch, after_parse, entered_in, fault_of, gone_to, parsed_in, request, request_in, Request}
+use Rattle.its_in_call.specs.declared.call.Next.{Next}
+use Rattle.its_in_call.specs.declared.call.Next.TheVariants as next
 use Rattle.its_core.specs.Cores.{core_at, clear_at}
 use Rattle.its_jobs.specs.Table.{job_at, superior_at}
 use Rattle.its_frame.specs.declared.frame.Frame.{Frame}
@@ -20,9 +20,9 @@ use Rattle.its_frame.specs.declared.frame.Asked as askeds
 use Rattle.its_frame.specs.declared.frame.Holding as holdings
 use Rattle.its_frame.specs.declared.frame.Frame.TheVariants.{Entered, Parsed, Asked, Holding}
 use Rattle.its_stepped.specs.TwoParts.{items_of, parse, fetch, parse_of, fetch_of}
-use Rattle.its_plain.specs.CallStep.{with_fault}
-use Rattle.its_plain.specs.Footprint.{SiteFits}
-use Rattle.its_plain.specs.Job.{bit_of, with_pending}
+use Rattle.its_plain.specs.Call.Step.{with_fault}
+use Rattle.its_plain.specs.Call.Footprint.{SiteFits}
+use Rattle.its_plain.specs.Machine.Registers.{bit_of, with_pending}
 use Rattle.its_plain.specs.Machine.{Whole}
 use Rattle.its_stepped.specs.Sound.{Standing, SoundBy}
 use Rattle.its_stepped.specs.State.{State, plain, seen, with_slot, same, parsed, asked, holding, reserving}
@@ -106,8 +106,10 @@ part_on w s (Err f) = faults_on w s f
 pub record Part (old mid : World) (s : ℕ) (r : Result (Unit {0}) Fault) : Type 0 where
   pub leads : Result Frame Fault
   pub job : is_some (job_at old.jobs s) ≡ true
-  pub tick : IfSome (raw_at old.files old.core old.jobs old.alarms.items s) (λ q. tick_in (state_of old) s q (frame_at old.frames.items s) ≡ part_on (state_of old) s leads)
-  pub pages : IfSome (raw_at old.files old.core old.jobs old.alarms.items s) (λ q. pages_in (state_of old) s q (frame_at old.frames.items s) old.core.frames ≡ old.core.frames)
+  pub tick : IfSome (raw_at old.files old.core old.jobs old.alarms.items s)
+      (λ q. tick_in (state_of old) s q (frame_at old.frames.items s) ≡ part_on (state_of old) s leads)
+  pub pages : IfSome (raw_at old.files old.core old.jobs old.alarms.items s)
+      (λ q. pages_in (state_of old) s q (frame_at old.frames.items s) old.core.frames ≡ old.core.frames)
   pub becomes : FrameBecomes old mid s (frame_next leads)
   pub fault : fault_of r ≡ fault_of leads
 
@@ -137,7 +139,8 @@ pub parse_part : (old mid : World) (s : ℕ) (r : Result (Unit {0}) Fault) → K
     → IfSome (entered_in (frame_at old.frames.items s)) (λ t. fault_of r ≡ fault_of (parse_of (core_at old.core s) t)) → Part old mid s r
 parse_part old mid s r k = go (frame_at old.frames.items s) refl
   where
-    go : (o : Option Frame) → frame_at old.frames.items s ≡ o → is_some (entered_in o) ≡ true → IfSome (entered_in o) (λ t. FrameBecomes old mid s (after_parse t (parse_of (core_at old.core s) t)))
+    go : (o : Option Frame) → frame_at old.frames.items s ≡ o → is_some (entered_in o) ≡ true
+        → IfSome (entered_in o) (λ t. FrameBecomes old mid s (after_parse t (parse_of (core_at old.core s) t)))
         → IfSome (entered_in o) (λ t. fault_of r ≡ fault_of (parse_of (core_at old.core s) t)) → Part old mid s r
     go (Some (Entered g)) e h b f =
         let p = parse_of (core_at old.core s) g.site in
@@ -147,7 +150,8 @@ parse_part old mid s r k = go (frame_at old.frames.items s) refl
           tick = on_raw old s (λ q. tick_in (state_of old) s q (frame_at old.frames.items s) ≡ part_on (state_of old) s (parsed_next g.site p))
               (λ q c. ap (tick_in (state_of old) s q) e ∙ ap (λ x. parsed_on (state_of old) s g.site (parse x g.site)) c
               ∙ ap (parsed_on (state_of old) s g.site) (items_are (core_at old.core s) g.site) ∙ parsed_part (state_of old) s g.site p);
-          pages = all_some (raw_at old.files old.core old.jobs old.alarms.items s) (λ q. pages_in (state_of old) s q (frame_at old.frames.items s) old.core.frames ≡ old.core.frames)
+          pages = all_some (raw_at old.files old.core old.jobs old.alarms.items s)
+              (λ q. pages_in (state_of old) s q (frame_at old.frames.items s) old.core.frames ≡ old.core.frames)
               (λ q. ap (λ (x : Option Frame). pages_in (state_of old) s q x old.core.frames) e);
           becomes = subst (FrameBecomes old mid s) (parsed_frame g.site p) b;
           fault = f ∙ parsed_fault g.site p;
@@ -180,7 +184,8 @@ pub fetch_part : (old mid : World) (s : ℕ) (r : Result (Unit {0}) Fault) → K
     → IfSome (parsed_in (frame_at old.frames.items s)) (λ g. fault_of r ≡ fault_of (fetch_of (core_at old.core s) g.site g.block)) → Part old mid s r
 fetch_part old mid s r k = go (frame_at old.frames.items s) refl
   where
-    go : (o : Option Frame) → frame_at old.frames.items s ≡ o → is_some (parsed_in o) ≡ true → IfSome (parsed_in o) (λ g. FrameBecomes old mid s (after_fetch g.site (fetch_of (core_at old.core s) g.site g.block)))
+    go : (o : Option Frame) → frame_at old.frames.items s ≡ o → is_some (parsed_in o) ≡ true
+        → IfSome (parsed_in o) (λ g. FrameBecomes old mid s (after_fetch g.site (fetch_of (core_at old.core s) g.site g.block)))
         → IfSome (parsed_in o) (λ g. fault_of r ≡ fault_of (fetch_of (core_at old.core s) g.site g.block)) → Part old mid s r
     go (Some (Parsed g)) e h b f =
         let p = fetch_of (core_at old.core s) g.site g.block in
@@ -190,7 +195,8 @@ fetch_part old mid s r k = go (frame_at old.frames.items s) refl
           tick = on_raw old s (λ q. tick_in (state_of old) s q (frame_at old.frames.items s) ≡ part_on (state_of old) s (fetched_next g.site p))
               (λ q c. ap (tick_in (state_of old) s q) e ∙ ap (λ x. fetched_on (state_of old) s g.site (fetch x g.site g.block.items)) c
               ∙ ap (fetched_on (state_of old) s g.site) (fetch_is (core_at old.core s) g.site g.block) ∙ fetched_part (state_of old) s g.site p);
-          pages = all_some (raw_at old.files old.core old.jobs old.alarms.items s) (λ q. pages_in (state_of old) s q (frame_at old.frames.items s) old.core.frames ≡ old.core.frames)
+          pages = all_some (raw_at old.files old.core old.jobs old.alarms.items s)
+              (λ q. pages_in (state_of old) s q (frame_at old.frames.items s) old.core.frames ≡ old.core.frames)
               (λ q. ap (λ (x : Option Frame). pages_in (state_of old) s q x old.core.frames) e);
           becomes = subst (FrameBecomes old mid s) (fetched_frame g.site p) b;
           fault = f ∙ fetched_fault g.site p;
@@ -203,7 +209,8 @@ none_by (Ok u) n g e h = tt
 none_by (Err f) (Err x) g e h = h
 none_by (Err f) (Ok x) g e h = absurd cc
 
-row_by : (old mid : World) (v : State) (s : ℕ) (r : Result (Unit {0}) Fault) (n : Result Frame Fault) (p : Pace) → is_some (job_at old.jobs s) ≡ true → fault_of r ≡ fault_of n
+row_by : (old mid : World) (v : State) (s : ℕ) (r : Result (Unit {0}) Fault) (n : Result Frame Fault) (p : Pace)
+    → is_some (job_at old.jobs s) ≡ true → fault_of r ≡ fault_of n
     → FrameBecomes old mid s (frame_next n) → v ≡ state_decoded (state_of mid) s r → p ≡ pace_decoded r → part_on (state_of old) s n ≡ ticked v p
 row_by old mid v s (Ok u) (Ok g) p j f b h e =
     let is : with_slot (state_of old) s same (Some g) ≡ v = sym (kept_slot old mid s (Some g) j b) ∙ sym h in λ i. record { state = is i; pace = sym e i }
@@ -227,15 +234,19 @@ module _ (old mid : World) (s : ℕ) (r : Result (Unit {0}) Fault) (part : Part 
   part_tidy tidy = tidy_kept old mid s (frame_next part.leads) (clear_at old.core s) part.becomes tidy
 
   pub part_row : (new : World) (p : Pace) → state_of new ≡ state_decoded (state_of mid) s r → p ≡ pace_decoded r
-      → IfSome (raw_at old.files old.core old.jobs old.alarms.items s) (λ q. tick_in (state_of old) s q (frame_at old.frames.items s) ≡ ticked (state_of new) p)
+      → IfSome (raw_at old.files old.core old.jobs old.alarms.items s)
+      (λ q. tick_in (state_of old) s q (frame_at old.frames.items s) ≡ ticked (state_of new) p)
   part_row new p h e =
-      with_some (raw_at old.files old.core old.jobs old.alarms.items s) (λ q. tick_in (state_of old) s q (frame_at old.frames.items s) ≡ part_on (state_of old) s part.leads) _
+      with_some (raw_at old.files old.core old.jobs old.alarms.items s)
+      (λ q. tick_in (state_of old) s q (frame_at old.frames.items s) ≡ part_on (state_of old) s part.leads) _
       (λ q t. t ∙ row_by old mid (state_of new) s r part.leads p part.job part.fault part.becomes h e) part.tick
 
   pub part_pages : (new : World) → new.core.frames ≡ mid.core.frames
-      → IfSome (raw_at old.files old.core old.jobs old.alarms.items s) (λ q. new.core.frames ≡ pages_in (state_of old) s q (frame_at old.frames.items s) old.core.frames)
+      → IfSome (raw_at old.files old.core old.jobs old.alarms.items s)
+      (λ q. new.core.frames ≡ pages_in (state_of old) s q (frame_at old.frames.items s) old.core.frames)
   part_pages new h =
-      with_some (raw_at old.files old.core old.jobs old.alarms.items s) (λ q. pages_in (state_of old) s q (frame_at old.frames.items s) old.core.frames ≡ old.core.frames) _
+      with_some (raw_at old.files old.core old.jobs old.alarms.items s)
+      (λ q. pages_in (state_of old) s q (frame_at old.frames.items s) old.core.frames ≡ old.core.frames) _
       (λ q t. h ∙ becomes_pages old mid s _ _ (frame_next part.leads) part.becomes ∙ sym t) part.pages
 
 -- the frame to which a call goes on, if it is known which frame it has
@@ -243,7 +254,8 @@ pub went : (old new : World) (s : ℕ) (n : Next) (f : Frame) (r : Request) → 
     → IfSome (request_in (frame_at old.frames.items s)) (λ r. FrameBecomes old new s (Some (gone_to n r))) → FrameBecomes old new s (Some (gone_to n r))
 went old new s n f r e i h = subst (λ (o : Option Request). IfSome o (λ r. FrameBecomes old new s (Some (gone_to n r)))) (ap request_in e ∙ i) h
 
-pub can_go : (w : World) (s : ℕ) (f : Frame) → frame_at w.frames.items s ≡ Some f → is_some (request_in (Some f)) ≡ true → is_some (request_in (frame_at w.frames.items s)) ≡ true
+pub can_go : (w : World) (s : ℕ) (f : Frame) → frame_at w.frames.items s ≡ Some f → is_some (request_in (Some f)) ≡ true
+    → is_some (request_in (frame_at w.frames.items s)) ≡ true
 can_go w s f e h = ap (λ (o : Option Frame). is_some (request_in o)) e ∙ h
 
 -- a call that is to be prepared
@@ -252,7 +264,8 @@ pub record Asking (w : World) (s : ℕ) (b : Bool) : Type 0 where
   pub is : frame_at w.frames.items s ≡ Some (Asked frame)
   pub page : b ≡ reserves frame.ask
 
-pub asking : (w : World) (s : ℕ) (b : Bool) → is_some (asked_in (frame_at w.frames.items s)) ≡ true → IfSome (asked_in (frame_at w.frames.items s)) (λ a. b ≡ reserves a) → Asking w s b
+pub asking : (w : World) (s : ℕ) (b : Bool) → is_some (asked_in (frame_at w.frames.items s)) ≡ true
+    → IfSome (asked_in (frame_at w.frames.items s)) (λ a. b ≡ reserves a) → Asking w s b
 asking w s b = go (frame_at w.frames.items s) refl
   where
     go : (o : Option Frame) → frame_at w.frames.items s ≡ o → is_some (asked_in o) ≡ true → IfSome (asked_in o) (λ a. b ≡ reserves a) → Asking w s b
@@ -270,12 +283,15 @@ unfolding state_of
 asked_unreserved w s b x k = asked_bare ((state_of w).raw.jobs s) ((state_of w).frames s) ((state_of w).reserved s) x.frame (k.sound.each s).by x.is
 
 -- a page is reserved, and then the frame is put back; or the frame alone
-pub page_prepared : (old mid new : World) (s : ℕ) (t : Site) (a : Ask) → is_some (job_at old.jobs s) ≡ true → reserves a ≡ true → PageBecomes old mid s (Some 0)
+pub page_prepared : (old mid new : World) (s : ℕ) (t : Site) (a : Ask) → is_some (job_at old.jobs s) ≡ true → reserves a ≡ true
+    → PageBecomes old mid s (Some 0)
     → FrameBecomes mid new s (Some (holding t a (Some 0) 0)) → state_of new ≡ after_preparation (state_of old) s t a (reserves a)
 page_prepared old mid new s t a j e page frame =
-    kept_state old new s (Some (holding t a (Some 0) 0)) (Some 0) j (paged_becomes old mid new s (Some 0) _ page frame) ∙ ap (after_preparation (state_of old) s t a) (sym e)
+    kept_state old new s (Some (holding t a (Some 0) 0)) (Some 0) j (paged_becomes old mid new s (Some 0) _ page frame)
+    ∙ ap (after_preparation (state_of old) s t a) (sym e)
 
-pub none_prepared : (old new : World) (s : ℕ) (t : Site) (a : Ask) → is_some (job_at old.jobs s) ≡ true → reserves a ≡ false → FrameBecomes old new s (Some (holding t a None 0))
+pub none_prepared : (old new : World) (s : ℕ) (t : Site) (a : Ask) → is_some (job_at old.jobs s) ≡ true → reserves a ≡ false
+    → FrameBecomes old new s (Some (holding t a None 0))
     → state_of new ≡ after_preparation (state_of old) s t a (reserves a)
 none_prepared old new s t a j e frame = kept_slot old new s (Some (holding t a None 0)) j frame ∙ ap (after_preparation (state_of old) s t a) (sym e)
 
@@ -284,17 +300,21 @@ module _ (old : World) (s : ℕ) (b : Bool) (x : Asking old s b) (k : Kept old) 
   asked_job = (stands_at old s (Asked x.frame) k.sound x.is).0
 
   pub prepared_row : (new : World) → state_of new ≡ after_preparation (state_of old) s x.frame.site x.frame.ask (reserves x.frame.ask)
-      → IfSome (raw_at old.files old.core old.jobs old.alarms.items s) (λ q. tick_in (state_of old) s q (frame_at old.frames.items s) ≡ ticked (state_of new) Work)
+      → IfSome (raw_at old.files old.core old.jobs old.alarms.items s)
+      (λ q. tick_in (state_of old) s q (frame_at old.frames.items s) ≡ ticked (state_of new) Work)
   prepared_row new h =
-      all_some (raw_at old.files old.core old.jobs old.alarms.items s) (λ q. tick_in (state_of old) s q (frame_at old.frames.items s) ≡ ticked (state_of new) Work)
+      all_some (raw_at old.files old.core old.jobs old.alarms.items s)
+      (λ q. tick_in (state_of old) s q (frame_at old.frames.items s) ≡ ticked (state_of new) Work)
       (λ q. ap (tick_in (state_of old) s q) x.is ∙ ap works (sym h))
 
   pub bare_held : (new : World) → IfSome (request_in (frame_at old.frames.items s)) (λ r. FrameBecomes old new s (Some (gone_to (next.Holding None 0) r)))
       → FrameBecomes old new s (Some (holding x.frame.site x.frame.ask None 0))
   bare_held new h = went old new s (next.Holding None 0) (Asked x.frame) (request x.frame.site x.frame.ask) x.is refl h
 
-  pub bare_row : (new : World) → b ≡ false → IfSome (request_in (frame_at old.frames.items s)) (λ r. FrameBecomes old new s (Some (gone_to (next.Holding None 0) r)))
-      → IfSome (raw_at old.files old.core old.jobs old.alarms.items s) (λ q. tick_in (state_of old) s q (frame_at old.frames.items s) ≡ ticked (state_of new) Work)
+  pub bare_row : (new : World) → b ≡ false → IfSome (request_in (frame_at old.frames.items s))
+      (λ r. FrameBecomes old new s (Some (gone_to (next.Holding None 0) r)))
+      → IfSome (raw_at old.files old.core old.jobs old.alarms.items s)
+      (λ q. tick_in (state_of old) s q (frame_at old.frames.items s) ≡ ticked (state_of new) Work)
   bare_row new e h = prepared_row new (none_prepared old new s x.frame.site x.frame.ask asked_job (sym x.page ∙ e) (bare_held new h))
 
   -- a page was reserved
@@ -304,12 +324,15 @@ module _ (old : World) (s : ℕ) (b : Bool) (x : Asking old s b) (k : Kept old) 
   pub paged_goes : (mid : World) → PageBecomes old mid s (Some 0) → is_some (request_in (frame_at mid.frames.items s)) ≡ true
   paged_goes mid p = can_go mid s (Asked x.frame) (paged_frame mid p) refl
 
-  pub paged_held : (mid new : World) → PageBecomes old mid s (Some 0) → IfSome (request_in (frame_at mid.frames.items s)) (λ r. FrameBecomes mid new s (Some (gone_to (next.Holding (Some 0) 0) r)))
+  pub paged_held : (mid new : World) → PageBecomes old mid s (Some 0)
+      → IfSome (request_in (frame_at mid.frames.items s)) (λ r. FrameBecomes mid new s (Some (gone_to (next.Holding (Some 0) 0) r)))
       → FrameBecomes mid new s (Some (holding x.frame.site x.frame.ask (Some 0) 0))
   paged_held mid new p h = went mid new s (next.Holding (Some 0) 0) (Asked x.frame) (request x.frame.site x.frame.ask) (paged_frame mid p) refl h
 
-  pub paged_row : (mid new : World) → b ≡ true → PageBecomes old mid s (Some 0) → IfSome (request_in (frame_at mid.frames.items s)) (λ r. FrameBecomes mid new s (Some (gone_to (next.Holding (Some 0) 0) r)))
-      → IfSome (raw_at old.files old.core old.jobs old.alarms.items s) (λ q. tick_in (state_of old) s q (frame_at old.frames.items s) ≡ ticked (state_of new) Work)
+  pub paged_row : (mid new : World) → b ≡ true → PageBecomes old mid s (Some 0)
+      → IfSome (request_in (frame_at mid.frames.items s)) (λ r. FrameBecomes mid new s (Some (gone_to (next.Holding (Some 0) 0) r)))
+      → IfSome (raw_at old.files old.core old.jobs old.alarms.items s)
+      (λ q. tick_in (state_of old) s q (frame_at old.frames.items s) ≡ ticked (state_of new) Work)
   paged_row mid new e p h = prepared_row new (page_prepared old mid new s x.frame.site x.frame.ask asked_job (sym x.page ∙ e) p (paged_held mid new p h))
 
 -- a call that is held has reserved the page that its frame has
@@ -322,7 +345,8 @@ held_quarter : (w : State) (j : ℕ) (own : Whole) (s : Site) (a : Ask) (page : 
     → held_on w j own s a page n ≡ works (reserving (with_slot w j same (Some (holding s a (Some (c + 1)) n))) j (Some (c + 1)))
 held_quarter w j own s a page n c e l =
     ap (λ (x : Option ℕ). held_on w j own s a x n) e
-    ∙ ap (λ (b : Bool). if b then works (reserving (with_slot w j same (Some (holding s a (Some (c + 1)) n))) j (Some (c + 1))) else tried_by w j own s a n) (lt-ltb c 4 l)
+    ∙ ap (λ (b : Bool). if b then works (reserving (with_slot w j same (Some (holding s a (Some (c + 1)) n))) j (Some (c + 1))) else
+    tried_by w j own s a n) (lt-ltb c 4 l)
 
 -- the next quarter of its page is to be cleared
 pub record Clearing (w : World) (s c n : ℕ) : Type 0 where
@@ -350,18 +374,22 @@ module _ (old : World) (s c n : ℕ) (x : Clearing old s c n) (k : Kept old) whe
   cleared_goes mid p = can_go mid s (Holding x.frame) (cleared_frame mid p) refl
 
   -- it is cleared, and the call is held on
-  pub cleared_held : (mid new : World) → PageBecomes old mid s (Some (c + 1)) → IfSome (request_in (frame_at mid.frames.items s)) (λ r. FrameBecomes mid new s (Some (gone_to (next.Holding (Some (c + 1)) n) r)))
+  pub cleared_held : (mid new : World) → PageBecomes old mid s (Some (c + 1))
+      → IfSome (request_in (frame_at mid.frames.items s)) (λ r. FrameBecomes mid new s (Some (gone_to (next.Holding (Some (c + 1)) n) r)))
       → FrameBecomes mid new s (Some (holding x.frame.site x.frame.ask (Some (c + 1)) n))
   cleared_held mid new p h = went mid new s (next.Holding (Some (c + 1)) n) (Holding x.frame) (request x.frame.site x.frame.ask) (cleared_frame mid p) refl h
 
-  pub cleared_row : (mid new : World) → c < 4 → PageBecomes old mid s (Some (c + 1)) → FrameBecomes mid new s (Some (holding x.frame.site x.frame.ask (Some (c + 1)) n))
-      → IfSome (raw_at old.files old.core old.jobs old.alarms.items s) (λ q. tick_in (state_of old) s q (frame_at old.frames.items s) ≡ ticked (state_of new) Work)
+  pub cleared_row : (mid new : World) → c < 4 → PageBecomes old mid s (Some (c + 1))
+      → FrameBecomes mid new s (Some (holding x.frame.site x.frame.ask (Some (c + 1)) n))
+      → IfSome (raw_at old.files old.core old.jobs old.alarms.items s)
+      (λ q. tick_in (state_of old) s q (frame_at old.frames.items s) ≡ ticked (state_of new) Work)
   unfolding seen
   cleared_row mid new l paged framed =
       let g : Option Frame = Some (holding x.frame.site x.frame.ask (Some (c + 1)) n) in
       let is : state_of new ≡ reserving (with_slot (state_of old) s same g) s (Some (c + 1)) =
       kept_state old new s g (Some (c + 1)) (stands_at old s (Holding x.frame) k.sound x.is).0 (paged_becomes old mid new s (Some (c + 1)) g paged framed) in
-      all_some (raw_at old.files old.core old.jobs old.alarms.items s) (λ q. tick_in (state_of old) s q (frame_at old.frames.items s) ≡ ticked (state_of new) Work)
+      all_some (raw_at old.files old.core old.jobs old.alarms.items s)
+      (λ q. tick_in (state_of old) s q (frame_at old.frames.items s) ≡ ticked (state_of new) Work)
       (λ q. ap (tick_in (state_of old) s q) x.is
       ∙ held_quarter (state_of old) s (seen (Some (Holding x.frame)) q) x.frame.site x.frame.ask x.frame.page x.frame.owes c x.page l
       ∙ ap (λ (m : ℕ). works (reserving (with_slot (state_of old) s same (Some (holding x.frame.site x.frame.ask (Some (c + 1)) m))) s (Some (c + 1)))) x.owes

@@ -1,4 +1,5 @@
--- The pending parts of a half made close are performed in the store of a world, if a call on files is tried.
+-- The pending parts of a half made close are performed in the store of a world, if a call on files
+-- is tried.
 use Rattle.std.specs.Prelude.{◌≡◌, Bool, true, false, Option, Some, None, refl}
 use Rattle.std.proofs.Common.{sym, ◌∙◌, ap}
 use Rattle.its_files.specs.Files.{IsStore, after_help, directory}
@@ -9,7 +10,7 @@ use Rattle.its_world.specs.Storage.{OnlyStore}
 use Rattle.its_world.specs.Tidy.{Tidy}
 use Rattle.its_world.specs.World.{mark_of, state_of}
 use Rattle.its_world.specs.declared.world.World.{World}
-use Rattle.its_machine.proofs.KeptLaws.{Stays, helped_stays}
+use Rattle.its_shared.proofs.KeptLaws.{Stays, helped_stays}
 use Rattle.its_world.proofs.MarkLaws.{help_step, none_marked}
 use Rattle.its_world.proofs.StorageLaws.{files_are, marks_are, store_state, store_tidy}
 

@@ -16,3 +16,4 @@ pub mod WaitingLaws
 mod PartLaws
 mod ByteLaws
 mod DueLaws
+pub mod Groups

@@ -2,11 +2,11 @@
 use Rattle.std.specs.Prelude.{◌≡◌, ℕ, false, Option, Some, None, is_some, List, [], ◌∷◌, ◌++◌, refl}
 use Rattle.std.proofs.Common.{sym, ◌∙◌, ap}
 use Rattle.its_records.specs.Tree.{slots_below}
-use Rattle.its_plain.specs.Change.{superiors}
-use Rattle.its_plain.specs.Decide.{listed}
+use Rattle.its_plain.specs.Machine.Change.{superiors}
+use Rattle.its_plain.specs.Call.Decide.{listed}
 use Rattle.its_stepped.specs.State.{State}
 use Rattle.its_stepped.specs.Unwind.{all_unwound, unwound}
-use Rattle.its_stepped.proofs.UnwindLaws.{unwound_still, all_unwound_end}
+use Rattle.its_stepped.proofs.Unwinding.UnwindLaws.{unwound_still, all_unwound_end}
 use Rattle.its_world.specs.World.{state_of, raw_at, frame_at}
 use Rattle.its_world.specs.declared.world.World.{World}
 use Rattle.its_world.proofs.StorageLaws.{frame_is}
@@ -35,9 +35,11 @@ pub tree_unwound : (u w v : State) (j k : ℕ) (o : Option ℕ) → u ≡ all_un
     → v ≡ all_unwound (slots_below (superiors w.raw) j ++ listed o) w
 tree_unwound u w v j k o below e is =
     let ks : List ℕ = slots_below (superiors w.raw) j in
-    e ∙ unwound_one k u ∙ ap (all_unwound (k ∷ [])) below ∙ sym (unwound_append ks (k ∷ []) w) ∙ ap (λ (o : Option ℕ). all_unwound (ks ++ listed o) w) (sym is)
+    e ∙ unwound_one k u ∙ ap (all_unwound (k ∷ [])) below ∙ sym (unwound_append ks (k ∷ []) w)
+    ∙ ap (λ (o : Option ℕ). all_unwound (ks ++ listed o) w) (sym is)
 
-pub branch_unwound : (u w v : State) (j : ℕ) → u ≡ all_unwound (slots_below (superiors w.raw) j) w → v ≡ unwound u j → v ≡ all_unwound (slots_below (superiors w.raw) j ++ j ∷ []) w
+pub branch_unwound : (u w v : State) (j : ℕ) → u ≡ all_unwound (slots_below (superiors w.raw) j) w → v ≡ unwound u j
+    → v ≡ all_unwound (slots_below (superiors w.raw) j ++ j ∷ []) w
 branch_unwound u w v j below e = tree_unwound u w v j j (Some j) below e refl
 
 pub root_unwound : (w v : State) (j : ℕ) (o : Option ℕ) → v ≡ all_unwound (slots_below (superiors w.raw) j) w → o ≡ None

@@ -4,11 +4,12 @@ use Rattle.std.proofs.Common.{sym, ap}
 use Rattle.its_records.specs.declared.jobs.Job.{Job}
 use Rattle.its_core.specs.Cores.{core_at}
 use Rattle.its_jobs.specs.Table.{job_at, superior_at}
-use Rattle.its_plain.specs.Turns.{is_running, runs}
+use Rattle.its_plain.specs.Transcript.Turns.{is_running, runs}
 use Rattle.its_world.specs.World.{alarm_at, raw_of, state_of}
 use Rattle.its_world.specs.declared.world.World.{World}
 
-runs_by : (w : World) (s : ℕ) (o : Option Job) → job_at w.jobs s ≡ o → runs (state_of w).raw s ≡ is_running (raw_of w.files (core_at w.core s) (superior_at w.jobs s) (alarm_at w.alarms.items s) o)
+runs_by : (w : World) (s : ℕ) (o : Option Job) → job_at w.jobs s ≡ o
+    → runs (state_of w).raw s ≡ is_running (raw_of w.files (core_at w.core s) (superior_at w.jobs s) (alarm_at w.alarms.items s) o)
 unfolding state_of
 runs_by w s o e = ap (λ o. is_running (raw_of w.files (core_at w.core s) (superior_at w.jobs s) (alarm_at w.alarms.items s) o)) e
 

@@ -1,5 +1,5 @@
--- What the changes of a call leave of another slot: one that has a frame they leave as it is, and in an empty one they can make
--- an inferior of the caller alone.
+-- What the changes of a call leave of another slot: one that has a frame they leave as it is, and
+-- in an empty one they can make an inferior of the caller alone.
 use Rattle.std.specs.Prelude.{if◌then◌else◌, ◌==◌, ◌≡◌, ◌≢◌, ◌||◌, ◌&&◌, not, ℕ, suc, Bool, true, false, Option, Some, None, IfSome, List, [], ◌∷◌, option_map, refl}
 use Rattle.std.proofs.Common.{sym, ◌∙◌, ap, subst, inl, inr}
 use Rattle.std.proofs.lemmas.Bool.{cases_Bool, cases_eq, and_parts, ne_eqb}
@@ -9,17 +9,17 @@ use Rattle.its_records.proofs.ClimbLaws.{more}
 use Rattle.its_frame.specs.declared.change.Change.{Change}
 use Rattle.its_frame.specs.declared.change.Change.TheVariants as changes
 use Rattle.its_frame.specs.declared.frame.Frame.{Frame}
-use Rattle.its_plain.specs.CallBasic.{told_superior}
-use Rattle.its_plain.specs.Change.{on_slot, in_job, channel_in, chan_after_removal, after_shut, job_after_removal, is_gone, superiors, inferior, with_page_at, with_protection, poke, with_alarm, with_inf, after_removal, effect}
+use Rattle.its_plain.specs.Call.Basic.{told_superior}
+use Rattle.its_plain.specs.Machine.Change.{on_slot, in_job, channel_in, chan_after_removal, after_shut, job_after_removal, is_gone, superiors, inferior, with_page_at, with_protection, poke, with_alarm, with_inf, after_removal, effect}
 use Rattle.its_plain.specs.Machine.{Chan, Shut, On, Whole, Machine, changed}
-use Rattle.its_plain.specs.Own.{with_stores, with_registers, on_channel, with_variable}
+use Rattle.its_plain.specs.Machine.Own.{with_stores, with_registers, on_channel, with_variable}
 use Rattle.its_stepped.specs.Commit.{effect_on, effects_on}
 use Rattle.its_stepped.specs.Forest.{OnInferior, Forest}
 use Rattle.its_stepped.specs.Quiet.{Reached, Quiet, AllQuiet}
 use Rattle.its_stepped.specs.State.{State, plain}
-use Rattle.its_stepped.proofs.EffectLaws.{superiors_plain, effect_plain, effect_others}
-use Rattle.its_stepped.proofs.ForestLaws.{ChangeFits, AllFit, forest_raw, effect_forest, gone_forest}
-use Rattle.its_stepped.proofs.FrameLaws.{changed_only, on_slot_other}
+use Rattle.its_stepped.proofs.Committing.EffectLaws.{superiors_plain, effect_plain, effect_others}
+use Rattle.its_stepped.proofs.Keeping.ForestLaws.{ChangeFits, AllFit, forest_raw, effect_forest, gone_forest}
+use Rattle.its_stepped.proofs.Frame.FrameLaws.{changed_only, on_slot_other}
 
 -- the superior of a job that is removed is removed too, except for that of the root
 climb_on : (sup : ℕ → Option ℕ) (r n k : ℕ) → climbs_to sup r (suc n) (Some k) ≡ ((k == r) || climbs_to sup r n (sup k))
@@ -34,10 +34,12 @@ above_gone : (sup : ℕ → Option ℕ) (r i k : ℕ) → is_below sup r i ≡ t
 unfolding is_below
 above_gone sup r i k below e =
     let climbs : climbs_to sup r slots (sup i) ≡ true = (and_parts (not (i == r)) (climbs_to sup r slots (sup i)) below).1 in
-    either_way (k == r) (climbs_to sup r slots (sup k)) (sym (climb_on sup r slots k) ∙ more sup r slots (Some k) (ap (climbs_to sup r slots) (sym e) ∙ climbs))
+    either_way (k == r) (climbs_to sup r slots (sup k)) (sym (climb_on sup r slots k)
+    ∙ more sup r slots (Some k) (ap (climbs_to sup r slots) (sym e) ∙ climbs))
 
 -- a job that stays, other than the superior of the root, has no channel on one that is removed
-inferior_stays : (m : Machine) (r i k : ℕ) → is_gone (superiors m) r k ≡ false → superiors m r ≢ Some k → superiors m i ≡ Some k → is_gone (superiors m) r i ≡ false
+inferior_stays : (m : Machine) (r i k : ℕ) → is_gone (superiors m) r k ≡ false → superiors m r ≢ Some k → superiors m i ≡ Some k
+    → is_gone (superiors m) r i ≡ false
 inferior_stays m r i k stays apart e = elim (cases_eq i r) [
   | inl at ↦ absurd (apart (subst (λ (x : ℕ). superiors m x ≡ Some k) at e))
   | inr ne ↦ elim (cases_Bool (is_below (superiors m) r i)) [
@@ -46,7 +48,8 @@ inferior_stays m r i k stays apart e = elim (cases_eq i r) [
   ]
 ]
 
-channel_stays : (m : Machine) (r k : ℕ) (c : Chan) → is_gone (superiors m) r k ≡ false → superiors m r ≢ Some k → OnInferior m k c → chan_after_removal (is_gone (superiors m) r) c ≡ c
+channel_stays : (m : Machine) (r k : ℕ) (c : Chan) → is_gone (superiors m) r k ≡ false → superiors m r ≢ Some k → OnInferior m k c
+    → chan_after_removal (is_gone (superiors m) r) c ≡ c
 channel_stays m r k (On i write at) stays apart on = ap (λ (b : Bool). if b then Shut else On i write at) (inferior_stays m r i k stays apart on)
 channel_stays m r k _ stays apart on = refl
 
@@ -61,23 +64,27 @@ job_stays m r k forest stays apart = ap (λ (b : Bool). job_after_removal (is_go
         λ n. channel_stays m r k (q.channels n) stays apart (subst (λ (o : Option Whole). OnInferior m k (channel_in o n)) at (forest.channels k n)) in
         λ t. Some (record q { channels = λ n. same n t })
 
--- a slot that has a frame, beside the caller's. States u and v have the same raw machine: what is reached has no frame in u
+-- a slot that has a frame, beside the caller's. States u and v have the same raw machine: what is
+-- reached has no frame in u
 reached_other : (u : State) (j s k : ℕ) (f : Frame) → Reached u j s → k ≢ j → u.frames k ≡ Some f → k ≢ s
 reached_other u j s k f r ne fr e = let none : u.frames k ≡ None = ap u.frames e ∙ r.other (λ t. ne (e ∙ t)) in cc
 
-stays_there : (u v : State) (j s k : ℕ) (f : Frame) → Quiet (changes.Remove s) j u → u.raw ≡ v.raw → k ≢ j → u.frames k ≡ Some f → is_gone (superiors v.raw) s k ≡ false
+stays_there : (u v : State) (j s k : ℕ) (f : Frame) → Quiet (changes.Remove s) j u → u.raw ≡ v.raw → k ≢ j → u.frames k ≡ Some f
+    → is_gone (superiors v.raw) s k ≡ false
 stays_there u v j s k f h e ne fr = elim (cases_Bool (is_gone (superiors v.raw) s k)) [
   | inl gone ↦ absurd (let none : u.frames k ≡ None = h k (ap (λ (m : Machine). is_gone (superiors m) s k) e ∙ gone) ne in cc)
   | inr stays ↦ stays
 ]
 
-removed_same : (j : ℕ) (u v : State) (s k : ℕ) (f : Frame) → Quiet (changes.Remove s) j u → superiors (plain v) s ≢ Some k → Forest (plain v) → u.raw ≡ v.raw → k ≢ j → u.frames k ≡ Some f
+removed_same : (j : ℕ) (u v : State) (s k : ℕ) (f : Frame) → Quiet (changes.Remove s) j u → superiors (plain v) s ≢ Some k
+    → Forest (plain v) → u.raw ≡ v.raw → k ≢ j → u.frames k ≡ Some f
     → (effect_on (changes.Remove s) j v).raw.jobs k ≡ v.raw.jobs k
 unfolding effect_on effect after_removal
 removed_same j u v s k f h apart forest e ne fr =
     job_stays v.raw s k (forest_raw v forest) (stays_there u v j s k f h e ne fr) (subst (λ (sup : ℕ → Option ℕ). sup s ≢ Some k) (superiors_plain v) apart)
 
-effect_same : (c : Change) (j : ℕ) (u v : State) (k : ℕ) (f : Frame) → Quiet c j u → ChangeFits c j (plain v) → Forest (plain v) → u.raw ≡ v.raw → k ≢ j → u.frames k ≡ Some f
+effect_same : (c : Change) (j : ℕ) (u v : State) (k : ℕ) (f : Frame) → Quiet c j u → ChangeFits c j (plain v) → Forest (plain v)
+    → u.raw ≡ v.raw → k ≢ j → u.frames k ≡ Some f
     → (effect_on c j v).raw.jobs k ≡ v.raw.jobs k
 unfolding effect_on effect
 effect_same (changes.Take c) j u v k f h fits forest e ne fr = refl
@@ -85,8 +92,10 @@ effect_same (changes.Put c b) j u v k f h fits forest e ne fr = refl
 effect_same (changes.Hold c s) j u v k f h fits forest e ne fr = refl
 effect_same (changes.Send l x) j u v k f h fits forest e ne fr = refl
 effect_same (changes.Receive l) j u v k f h fits forest e ne fr = refl
-effect_same (changes.Poke s a x) j u v k f h fits forest e ne fr = on_slot_other v.raw.jobs s k (with_stores (poke a x ∷ [])) (reached_other u j s k f h ne fr)
-effect_same (changes.Set s y x) j u v k f h fits forest e ne fr = on_slot_other v.raw.jobs s k (with_registers (with_variable y x)) (reached_other u j s k f h ne fr)
+effect_same (changes.Poke s a x) j u v k f h fits forest e ne fr =
+    on_slot_other v.raw.jobs s k (with_stores (poke a x ∷ [])) (reached_other u j s k f h ne fr)
+effect_same (changes.Set s y x) j u v k f h fits forest e ne fr =
+    on_slot_other v.raw.jobs s k (with_registers (with_variable y x)) (reached_other u j s k f h ne fr)
 effect_same (changes.Map s p) j u v k f h fits forest e ne fr = on_slot_other v.raw.jobs s k _ (reached_other u j s k f h.reached ne fr)
 effect_same (changes.Unmap s p) j u v k f h fits forest e ne fr = on_slot_other v.raw.jobs s k (with_page_at p None) (reached_other u j s k f h ne fr)
 effect_same (changes.Protect s p b) j u v k f h fits forest e ne fr = on_slot_other v.raw.jobs s k (with_protection p b) (reached_other u j s k f h ne fr)
@@ -109,19 +118,23 @@ raw_on (changes.Remove s) j u v e = ap (effect (changes.Remove s) j) e
 raw_on c j u v e = ap (effect c j) e
 
 -- several changes, of which each keeps jobs as they lie
-pub effects_same : (cs : List Change) (j : ℕ) (u v : State) (k : ℕ) (f : Frame) → AllQuiet cs j u → AllQuiet cs j v → AllFit cs j (plain v) → Forest (plain v) → u.raw ≡ v.raw → k ≢ j
+pub effects_same : (cs : List Change) (j : ℕ) (u v : State) (k : ℕ) (f : Frame) → AllQuiet cs j u → AllQuiet cs j v → AllFit cs j (plain v)
+    → Forest (plain v) → u.raw ≡ v.raw → k ≢ j
     → u.frames k ≡ Some f → (effects_on cs j v).raw.jobs k ≡ v.raw.jobs k
 effects_same [] j u v k f qu qv fits forest e ne fr = refl
 effects_same (c ∷ cs) j u v k f qu qv fits forest e ne fr =
     let next : plain (effect_on c j v) ≡ effect c j (plain v) = effect_plain c j v qv.0 in
     effects_same cs j (effect_on c j u) (effect_on c j v) k f qu.1 qv.1
-    (subst (AllFit cs j) (sym next) fits.1) (subst Forest (sym next) (effect_forest c j (plain v) fits.0 forest)) (raw_on c j u v e) ne ((effect_others c j u k qu.0 ne).frame ∙ fr)
+    (subst (AllFit cs j) (sym next) fits.1) (subst Forest (sym next) (effect_forest c j (plain v) fits.0 forest)) (raw_on c j u v e) ne
+    ((effect_others c j u k qu.0 ne).frame ∙ fr)
     ∙ effect_same c j u v k f qu.0 fits.0 forest e ne fr
 
 -- a job that goes: its superior is reached, as INF is set in it
-superior_reached : (cs : List Change) (j : ℕ) (u : State) (o : Option ℕ) (k : ℕ) (f : Frame) → AllQuiet (changes.Remove j ∷ cs) j u → cs ≡ told_superior o → k ≢ j → u.frames k ≡ Some f → o ≢ Some k
+superior_reached : (cs : List Change) (j : ℕ) (u : State) (o : Option ℕ) (k : ℕ) (f : Frame) → AllQuiet (changes.Remove j ∷ cs) j u
+    → cs ≡ told_superior o → k ≢ j → u.frames k ≡ Some f → o ≢ Some k
 superior_reached cs j u o k f q is ne fr e =
-    let quiet : AllQuiet (changes.Inform k ∷ []) j (effect_on (changes.Remove j) j u) = subst (λ (cs : List Change). AllQuiet cs j (effect_on (changes.Remove j) j u)) (is ∙ ap told_superior e) q.1 in
+    let quiet : AllQuiet (changes.Inform k ∷ []) j (effect_on (changes.Remove j) j u) =
+    subst (λ (cs : List Change). AllQuiet cs j (effect_on (changes.Remove j) j u)) (is ∙ ap told_superior e) q.1 in
     let none : (effect_on (changes.Remove j) j u).frames k ≡ None = quiet.0.other ne in
     let some : (effect_on (changes.Remove j) j u).frames k ≡ Some f = (effect_others (changes.Remove j) j u k q.0 ne).frame ∙ fr in
     let no : None ≡ Some f = sym none ∙ some in cc
@@ -133,14 +146,16 @@ gone_same cs j u v k f qu qv fits told forest e ne fr =
     let c : Change = changes.Remove j in
     let next : plain (effect_on c j v) ≡ effect c j (plain v) = effect_plain c j v qv.0 in
     effects_same cs j (effect_on c j u) (effect_on c j v) k f qu.1 qv.1
-    (subst (AllFit cs j) (sym next) fits) (subst Forest (sym next) (gone_forest (plain v) j j forest)) (raw_on c j u v e) ne ((effect_others c j u k qu.0 ne).frame ∙ fr)
+    (subst (AllFit cs j) (sym next) fits) (subst Forest (sym next) (gone_forest (plain v) j j forest)) (raw_on c j u v e) ne
+    ((effect_others c j u k qu.0 ne).frame ∙ fr)
     ∙ removed_same j u v j k f qu.0 (superior_reached cs j u (superiors (plain v) j) k f qu told ne fr) forest e ne fr
 
 -- in an empty slot
 abbrev pub InferiorOf : ℕ → Option Whole → Type 0
 InferiorOf j o = IfSome o (λ q. q.superior ≡ Some j)
 
-slot_inferior : (jobs : ℕ → Option Whole) (j s k : ℕ) (h : Whole → Whole) → ((q : Whole) → (h q).superior ≡ q.superior) → InferiorOf j (jobs k) → InferiorOf j (on_slot jobs s h k)
+slot_inferior : (jobs : ℕ → Option Whole) (j s k : ℕ) (h : Whole → Whole) → ((q : Whole) → (h q).superior ≡ q.superior)
+    → InferiorOf j (jobs k) → InferiorOf j (on_slot jobs s h k)
 slot_inferior jobs j s k h same x = go (k == s) (jobs k) x
   where
     go : (b : Bool) (o : Option Whole) → InferiorOf j o → InferiorOf j (if b then option_map h o else o)

@@ -10,8 +10,8 @@ use Rattle.its_files.specs.Files.{Store}
 use Rattle.its_jobs.specs.Table.{job_at, superior_at}
 use Rattle.its_frame.specs.declared.frame.Frame.{Frame}
 use Rattle.its_world.specs.Tidy.{Tidy}
-use Rattle.its_plain.specs.OperatorClock.{clock_end}
-use Rattle.its_plain.specs.Interrupt.{deliverable, delivered}
+use Rattle.its_plain.specs.Operator.Clock.{clock_end}
+use Rattle.its_plain.specs.Unit.Interrupt.{deliverable, delivered}
 use Rattle.its_plain.specs.Machine.{Whole, Machine}
 use Rattle.its_plain.specs.Unit.{unit}
 use Rattle.its_stepped.specs.Address.{Addressed}
@@ -19,22 +19,22 @@ use Rattle.its_stepped.specs.Consoled.{Consoled}
 use Rattle.its_stepped.specs.Duty.{Given}
 use Rattle.its_stepped.specs.Alarmed.{Alarmed}
 use Rattle.its_stepped.specs.Forest.{Forest}
-use Rattle.its_plain.specs.Licence.{Licensed}
+use Rattle.its_plain.specs.Transcript.Licence.{Licensed}
 use Rattle.its_stepped.specs.Sound.{Sound}
 use Rattle.its_stepped.specs.State.{State, plain}
 use Rattle.its_stepped.specs.Tick.{Ticked, after_delivery, unit_on, user_on, tick_in, tick_unless, tick_of, tick}
-use Rattle.its_stepped.proofs.AddressLaws.{step_addressed}
-use Rattle.its_stepped.proofs.ClockLaws.{step_clock}
-use Rattle.its_stepped.proofs.AlarmLaws.{step_alarmed}
-use Rattle.its_stepped.proofs.ConsoledLaws.{step_consoled}
-use Rattle.its_stepped.proofs.DecodingLaws.{decoding}
-use Rattle.its_stepped.proofs.FitLaws.{forest_steps}
-use Rattle.its_stepped.proofs.GivenLaws.{given}
-use Rattle.its_stepped.proofs.SoundLaws.{tick_sound}
-use Rattle.its_stepped.proofs.TickLaws.{tick_is}
+use Rattle.its_stepped.proofs.Keeping.AddressLaws.{step_addressed}
+use Rattle.its_stepped.proofs.Keeping.ClockLaws.{step_clock}
+use Rattle.its_stepped.proofs.Keeping.AlarmLaws.{step_alarmed}
+use Rattle.its_stepped.proofs.Keeping.ConsoledLaws.{step_consoled}
+use Rattle.its_stepped.proofs.Frame.DecodingLaws.{decoding}
+use Rattle.its_stepped.proofs.Duties.FitLaws.{forest_steps}
+use Rattle.its_stepped.proofs.Duties.GivenLaws.{given}
+use Rattle.its_stepped.proofs.Ticking.SoundLaws.{tick_sound}
+use Rattle.its_stepped.proofs.Ticking.TickLaws.{tick_is}
 use Rattle.its_world.specs.World.{alarm_at, state_of, raw_at, frame_at}
 use Rattle.its_world.specs.declared.world.World.{World}
-use Rattle.its_machine.proofs.BareLaws.{deliverable_bare}
+use Rattle.its_shared.proofs.BareLaws.{deliverable_bare}
 use Rattle.its_world.proofs.StateLaws.{raw_job, raw_some, raw_none}
 use Rattle.its_tick.specs.Kept.{Kept}
 use Rattle.its_tick.specs.Ticks.{ticked}
@@ -83,7 +83,8 @@ tick_call old new s j p is runs row = runs_by old s j (frame_at old.frames.items
 deliverable_raw : (s : Store) (c : Core) (j : Job) (o : Option ℕ) (a : Option (ℕ × ℕ)) → deliverable (raw_job s c j o a).job ≡ deliverable j
 deliverable_raw s c j o a = deliverable_bare j
 
-user_by : (w : World) (s : ℕ) (j : Job) (b : Bool) (t : Ticked) → job_at w.jobs s ≡ Some j → j.stopped ≡ false → frame_at w.frames.items s ≡ None → deliverable j ≡ b
+user_by : (w : World) (s : ℕ) (j : Job) (b : Bool) (t : Ticked) → job_at w.jobs s ≡ Some j → j.stopped ≡ false
+    → frame_at w.frames.items s ≡ None → deliverable j ≡ b
     → IfSome (raw_at w.files w.core w.jobs w.alarms.items s) (λ q. user_on (state_of w) s q b ≡ t) → tick (state_of w) s ≡ t
 user_by w s j b t is runs fr d row =
     let q : Whole = raw_job w.files (core_at w.core s) j (superior_at w.jobs s) (alarm_at w.alarms.items s) in
@@ -92,17 +93,23 @@ user_by w s j b t is runs fr d row =
     ∙ ap (user_on (state_of w) s q) (deliverable_raw w.files (core_at w.core s) j (superior_at w.jobs s) (alarm_at w.alarms.items s) ∙ d)
     ∙ subst (λ (o : Option Whole). IfSome o (λ q. user_on (state_of w) s q b ≡ t)) (raw_some w s j is) row
 
-delivered_row : (o : Option Whole) (v w : State) (s : ℕ) → IfSome o (λ q. v ≡ after_delivery w s q (delivered q.core q.job)) → IfSome o (λ q. user_on w s q true ≡ ticked v Step)
+delivered_row : (o : Option Whole) (v w : State) (s : ℕ) → IfSome o (λ q. v ≡ after_delivery w s q (delivered q.core q.job))
+    → IfSome o (λ q. user_on w s q true ≡ ticked v Step)
 delivered_row (Some q) v w s h = ap (λ (x : State). ticked x Step) (sym h)
 delivered_row None v w s h = tt
 
-pub tick_delivery : (old new : World) (s : ℕ) (j : Job) → job_at old.jobs s ≡ Some j → j.stopped ≡ false → is_some (frame_at old.frames.items s) ≡ false → deliverable j ≡ true
-    → IfSome (raw_at old.files old.core old.jobs old.alarms.items s) (λ q. state_of new ≡ after_delivery (state_of old) s q (delivered q.core q.job)) → tick (state_of old) s ≡ ticked (state_of new) Step
+pub tick_delivery : (old new : World) (s : ℕ) (j : Job) → job_at old.jobs s ≡ Some j → j.stopped ≡ false
+    → is_some (frame_at old.frames.items s) ≡ false → deliverable j ≡ true
+    → IfSome (raw_at old.files old.core old.jobs old.alarms.items s)
+    (λ q. state_of new ≡ after_delivery (state_of old) s q (delivered q.core q.job)) → tick (state_of old) s ≡ ticked (state_of new) Step
 tick_delivery old new s j is runs fr d row =
-    user_by old s j true (ticked (state_of new) Step) is runs (none_is (frame_at old.frames.items s) fr) d (delivered_row (raw_at old.files old.core old.jobs old.alarms.items s) (state_of new) (state_of old) s row)
+    user_by old s j true (ticked (state_of new) Step) is runs (none_is (frame_at old.frames.items s) fr) d
+    (delivered_row (raw_at old.files old.core old.jobs old.alarms.items s) (state_of new) (state_of old) s row)
 
-pub tick_unit : (old new : World) (s : ℕ) (j : Job) (p : Pace) → job_at old.jobs s ≡ Some j → j.stopped ≡ false → is_some (frame_at old.frames.items s) ≡ false → deliverable j ≡ false
-    → IfSome (raw_at old.files old.core old.jobs old.alarms.items s) (λ q. unit_on (state_of old) s (unit q.core q.job) ≡ ticked (state_of new) p) → tick (state_of old) s ≡ ticked (state_of new) p
+pub tick_unit : (old new : World) (s : ℕ) (j : Job) (p : Pace) → job_at old.jobs s ≡ Some j → j.stopped ≡ false
+    → is_some (frame_at old.frames.items s) ≡ false → deliverable j ≡ false
+    → IfSome (raw_at old.files old.core old.jobs old.alarms.items s)
+    (λ q. unit_on (state_of old) s (unit q.core q.job) ≡ ticked (state_of new) p) → tick (state_of old) s ≡ ticked (state_of new) p
 tick_unit old new s j p is runs fr d row = user_by old s j false (ticked (state_of new) p) is runs (none_is (frame_at old.frames.items s) fr) d row
 
 -- a tick is licensed by its letter
@@ -136,7 +143,13 @@ lasts m n s Off h (r, e) = subst Lasts (sym e) h
 
 pub tick_kept : (old new : World) (s : ℕ) (p : Pace) → Kept old → tick (state_of old) s ≡ ticked (state_of new) p → Tidy new → Kept new
 tick_kept old new s p kept e tidy =
-    let h : Lasts (plain (state_of old)) = record { forest = kept.forest; addressed = record { each = kept.addressed }; consoled = record { each = kept.consoled }; timed = kept.timed; alarmed = kept.alarmed } in
+    let h : Lasts (plain (state_of old)) = record {
+      forest = kept.forest;
+      addressed = record { each = kept.addressed };
+      consoled = record { each = kept.consoled };
+      timed = kept.timed;
+      alarmed = kept.alarmed;
+    } in
     let l = lasts (plain (state_of old)) (plain (state_of new)) s p h (tick_licensed old new s p kept e) in
     kept_is new
     (subst (λ (t : Ticked). Sound t.state) e (tick_sound (state_of old) s kept.sound (given_of old s kept)))

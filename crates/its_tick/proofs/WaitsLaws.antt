@@ -1,6 +1,6 @@
--- Each list of those that wait holds the slots that the plain machine says: its reason to wait alone decides to which
--- list a slot belongs, and the decision of the plain machine waits for a reason if the slot belongs to the list of this
--- reason.
+-- Each list of those that wait holds the slots that the plain machine says: its reason to wait
+-- alone decides to which list a slot belongs, and the decision of the plain machine waits for a
+-- reason if the slot belongs to the list of this reason.
 use Rattle.std.specs.Prelude.{◌≡◌, ◌<◌, ◌≤◌, ◌+◌, ◌^◌, ℕ, Bool, true, false, Option, Some, None, IfSome, option_map, List, nat_lt, slice_index_or, unwrap_or, refl}
 use Rattle.std.proofs.Common.{sym, ◌∙◌, ap, subst, inl, inr, arith}
 use Rattle.std.proofs.lemmas.Bool.{cases_eq, cases_Bool}
@@ -22,31 +22,31 @@ use Rattle.its_frame.specs.declared.frame.Frame.TheVariants as frames
 use Rattle.its_frame.specs.declared.frame.Waiting.{Waiting}
 use Rattle.its_frame.specs.declared.name.CallName.{CallName}
 use Rattle.its_frame.specs.declared.name.CallName.TheVariants as calls
-use Rattle.its_plain.specs.Arguments.{input}
-use Rattle.its_plain.specs.CallBasic.{channel_at}
-use Rattle.its_plain.specs.CallStep.{decision}
-use Rattle.its_plain.specs.Decide.{call_named}
+use Rattle.its_plain.specs.Call.Arguments.{input}
+use Rattle.its_plain.specs.Call.Basic.{channel_at}
+use Rattle.its_plain.specs.Call.Step.{decision}
+use Rattle.its_plain.specs.Call.Decide.{call_named}
 use Rattle.its_plain.specs.Machine.{Chan, Shut, TtyIn, TtyOut, On, Linked, Whole}
-use Rattle.its_plain.specs.Moves.{Device, AtConsole, AtLink}
-use Rattle.its_plain.specs.Reasons.{Doors, doors, held_up, of_transfer, of_finish, of_listen, reason_by, reason_in}
+use Rattle.its_plain.specs.Call.Moves.{Device, AtConsole, AtLink}
+use Rattle.its_plain.specs.Call.Reasons.{Doors, doors, held_up, of_transfer, of_finish, of_listen, reason_by, reason_in}
 use Rattle.its_stepped.specs.Sound.{Sound, SoundBy, SoundFrame}
 use Rattle.its_stepped.specs.State.{State, plain, seen}
-use Rattle.its_stepped.proofs.ConsoledLaws.{raw_consoled}
-use Rattle.its_stepped.proofs.JoinedLaws.{link_stands}
-use Rattle.its_stepped.proofs.WaitLaws.{blocked_so}
+use Rattle.its_stepped.proofs.Keeping.ConsoledLaws.{raw_consoled}
+use Rattle.its_stepped.proofs.Keeping.JoinedLaws.{link_stands}
+use Rattle.its_stepped.proofs.Ticking.WaitLaws.{blocked_so}
 use Rattle.its_world.specs.World.{chan_of, alarm_at, frame_at, state_of}
-use Rattle.its_world.specs.Rings.{IsWaitRing, ring_of, awake_of, post_of, awake_head, is_within, Within, place_at, mark, StandsIn}
-use Rattle.its_world.specs.Filed.{kind_of, channel_of, wait_reason, if_within, place_for, place_by, doors_of, wait_list_of, Ringed}
+use Rattle.its_world.specs.WaitLists.{IsWaitList, list_for, awake_of, post_of, awake_head, is_within, Within, place_at, mark, StandsIn}
+use Rattle.its_world.specs.Filed.{kind_of, channel_of, wait_reason, if_within, place_for, place_by, doors_of, wait_list_of, OnLists}
 use Rattle.its_world.specs.declared.world.World.{World}
 use Rattle.its_world.proofs.PlaceLaws.{within_is, is_within_so}
 use Rattle.its_world.proofs.StateLaws.{raw_job, raw_some, raw_none}
 use Rattle.its_world.proofs.StorageLaws.{frame_is}
-use Rattle.its_plain.specs.OperatorClock.{clock_end}
+use Rattle.its_plain.specs.Operator.Clock.{clock_end}
 use Rattle.its_stepped.specs.Alarmed.{Alarmed}
 use Rattle.its_stepped.specs.Forest.{Forest}
 use Rattle.its_world.specs.Tidy.{Tidy}
 use Rattle.its_tick.specs.Kept.{Kept}
-use Rattle.its_tick.specs.Waits.{WaitsFor, CanGoOn, HoldsJust, WaitRings}
+use Rattle.its_tick.specs.Waits.{WaitsFor, CanGoOn, HoldsJust, WaitListsHold}
 
 -- a slot that is on a list belongs there, and is there once
 mark_most : (p : Option ℕ) (h : ℕ) → mark p h ≤ 1
@@ -69,19 +69,19 @@ stands_once lists k h p s = subst (λ n. n ≤ 1) (sym (s.at h)) (mark_most p h)
 pub stands_here : (lists : List (List ℕ)) (k h : ℕ) (p : Option ℕ) → StandsIn lists k p → p ≡ Some h → 0 < count k (list_at lists h)
 stands_here lists k h p s e = let one = s.at h ∙ ap (λ o. mark o h) e ∙ hit_same h in omega arith
 
--- the rings and the Awake lists
+-- the wait_lists and the Awake lists
 abbrev pub IsPost : Device → Type 0
 IsPost (AtConsole c) = c < 8
 IsPost (AtLink l) = l < most_links
 
-past : (d : Device) → IsPost d → IsWaitRing (awake_head d) → ⊥
-past (AtConsole c) l w = elim w [ inl low ↦ omega arith | inr high ↦ let past_rings = high.0 in omega arith ]
+past : (d : Device) → IsPost d → IsWaitList (awake_head d) → ⊥
+past (AtConsole c) l w = elim w [ inl low ↦ omega arith | inr high ↦ let past_lists = high.0 in omega arith ]
 past (AtLink n) l w = elim w [ inl low ↦ omega arith | inr high ↦ let before_lists = high.1 in omega arith ]
 
-past_some : (d : Device) (g : ℕ) → IsPost d → Some (awake_head d) ≡ Some g → IsWaitRing g → ⊥
-past_some d g l e w = let q : awake_head d ≡ g = cc in past d l (subst IsWaitRing (sym q) w)
+past_some : (d : Device) (g : ℕ) → IsPost d → Some (awake_head d) ≡ Some g → IsWaitList g → ⊥
+past_some d g l e w = let q : awake_head d ≡ g = cc in past d l (subst IsWaitList (sym q) w)
 
-awake_past : (r : Wait) (g : ℕ) → Within r → awake_of r ≡ Some g → IsWaitRing g → ⊥
+awake_past : (r : Wait) (g : ℕ) → Within r → awake_of r ≡ Some g → IsWaitList g → ⊥
 awake_past Hang g l e w = cc
 awake_past Clock g l e w = cc
 awake_past (Input c) g l e w = past_some (AtConsole c) g l e w
@@ -90,27 +90,27 @@ awake_past (Drained c) g l e w = past_some (AtConsole c) g l e w
 awake_past (Empty n) g l e w = past_some (AtLink n) g l e w
 awake_past (Room n) g l e w = past_some (AtLink n) g l e w
 
-pub ring_within : (r : Wait) → Within r → IsWaitRing (ring_of r)
-ring_within Hang l = inl (omega arith)
-ring_within Clock l = inl (omega arith)
-ring_within (Input c) l = inl (omega arith)
-ring_within (Output c) l = inl (omega arith)
-ring_within (Drained c) l = inl (omega arith)
-ring_within (Empty n) l = inr (omega arith, omega arith)
-ring_within (Room n) l = inr (omega arith, omega arith)
+pub list_within : (r : Wait) → Within r → IsWaitList (list_for r)
+list_within Hang l = inl (omega arith)
+list_within Clock l = inl (omega arith)
+list_within (Input c) l = inl (omega arith)
+list_within (Output c) l = inl (omega arith)
+list_within (Drained c) l = inl (omega arith)
+list_within (Empty n) l = inr (omega arith, omega arith)
+list_within (Room n) l = inr (omega arith, omega arith)
 
--- two reasons have two rings
-ring_same : (r s : Wait) → Within r → Within s → ring_of r ≡ ring_of s → r ≡ s
-ring_same Hang Hang l m e = refl
-ring_same Clock Clock l m e = refl
-ring_same (Input c) (Input d) l m e = ap Input (omega arith)
-ring_same (Output c) (Output d) l m e = ap Output (omega arith)
-ring_same (Drained c) (Drained d) l m e = ap Drained (omega arith)
-ring_same (Empty c) (Empty d) l m e = ap Empty (omega arith)
-ring_same (Room c) (Room d) l m e = ap Room (omega arith)
-ring_same _ _ l m e = absurd (omega arith)
+-- two reasons have two wait_lists
+list_same : (r s : Wait) → Within r → Within s → list_for r ≡ list_for s → r ≡ s
+list_same Hang Hang l m e = refl
+list_same Clock Clock l m e = refl
+list_same (Input c) (Input d) l m e = ap Input (omega arith)
+list_same (Output c) (Output d) l m e = ap Output (omega arith)
+list_same (Drained c) (Drained d) l m e = ap Drained (omega arith)
+list_same (Empty c) (Empty d) l m e = ap Empty (omega arith)
+list_same (Room c) (Room d) l m e = ap Room (omega arith)
+list_same _ _ l m e = absurd (omega arith)
 
-pub held_place : (r : Wait) (b : Bool) (g : ℕ) → Within r → place_at r b ≡ Some g → IsWaitRing g → (b ≡ true) × (ring_of r ≡ g)
+pub held_place : (r : Wait) (b : Bool) (g : ℕ) → Within r → place_at r b ≡ Some g → IsWaitList g → (b ≡ true) × (list_for r ≡ g)
 held_place r true g l e w = (refl, cc)
 held_place r false g l e w = absurd (awake_past r g l e w)
 
@@ -145,18 +145,20 @@ awake_post (Empty n) d e l = at_post (AtLink n) d e l
 awake_post (Room n) d e l = at_post (AtLink n) d e l
 
 awake_place : (r : Wait) (b : Bool) (d : Device) → Within r → IsPost d → place_at r b ≡ Some (awake_head d) → post_of r ≡ Some d
-awake_place r true d l m e = let q : ring_of r ≡ awake_head d = cc in absurd (past d m (subst IsWaitRing q (ring_within r l)))
+awake_place r true d l m e = let q : list_for r ≡ awake_head d = cc in absurd (past d m (subst IsWaitList q (list_within r l)))
 awake_place r false d l m e = awake_named r d l m e
 
 -- the reason that the world gives is that of the job of the state
-shut_named : (i : ℕ) (c : Chan) (n : CallName) → of_transfer i c ≡ None → of_finish i c ≡ None → of_listen i c ≡ None → reason_by i c (Some n) ≡ reason_by i Shut (Some n)
+shut_named : (i : ℕ) (c : Chan) (n : CallName) → of_transfer i c ≡ None → of_finish i c ≡ None → of_listen i c ≡ None
+    → reason_by i c (Some n) ≡ reason_by i Shut (Some n)
 shut_named i c calls.Iot t f l = t
 shut_named i c calls.Siot t f l = t
 shut_named i c calls.Finish t f l = f
 shut_named i c calls.Listen t f l = l
 shut_named i c _ t f l = refl
 
-shut_as : (i : ℕ) (c : Chan) (o : Option CallName) → of_transfer i c ≡ None → of_finish i c ≡ None → of_listen i c ≡ None → reason_by i c o ≡ reason_by i Shut o
+shut_as : (i : ℕ) (c : Chan) (o : Option CallName) → of_transfer i c ≡ None → of_finish i c ≡ None → of_listen i c ≡ None
+    → reason_by i c o ≡ reason_by i Shut o
 shut_as i c (Some n) t f l = shut_named i c n t f l
 shut_as i c None t f l = refl
 
@@ -169,7 +171,8 @@ kind_reason s i _ o = refl
 kind_at : (s : Store) (j : Job) (n : ℕ) → chan_of s (channel_of j n) ≡ channel_at (λ m. chan_of s (slice_index_or j.channels m channels.Closed)) n
 kind_at s j n = elim (cases_Bool (nat_lt n 16)) [ inl t ↦ rw t refl | inr t ↦ rw t refl ]
 
-reason_raw : (w : World) (s : ℕ) (j : Job) (a : Ask) → wait_reason (Some j) a ≡ reason_in (raw_job w.files (core_at w.core s) j (superior_at w.jobs s) (alarm_at w.alarms.items s)) a
+reason_raw : (w : World) (s : ℕ) (j : Job) (a : Ask) → wait_reason (Some j)
+    a ≡ reason_in (raw_job w.files (core_at w.core s) j (superior_at w.jobs s) (alarm_at w.alarms.items s)) a
 reason_raw w s j a =
     let i = unwrap_or j.console 0 in
     kind_reason w.files i (channel_of j (input a 0)) (call_named a.name) ∙ ap (λ c. reason_by i c (call_named a.name)) (kind_at w.files j (input a 0))
@@ -182,15 +185,18 @@ doors_plain : (w : World) → doors (plain (state_of w)) ≡ doors_of w
 unfolding plain state_of
 doors_plain w = refl
 
-place_waiting : (w : World) (s : ℕ) (f : Waiting) (o : Option Job) → job_at w.jobs s ≡ o → frame_at w.frames.items s ≡ Some (frames.Waiting f) → wait_list_of w s ≡ place_for (doors_of w) s (input f.ask 0) (wait_reason o f.ask)
+place_waiting : (w : World) (s : ℕ) (f : Waiting) (o : Option Job) → job_at w.jobs s ≡ o
+    → frame_at w.frames.items s ≡ Some (frames.Waiting f) → wait_list_of w s ≡ place_for (doors_of w) s (input f.ask 0) (wait_reason o f.ask)
 unfolding wait_list_of
 place_waiting w s f o job fr = λ t. place_by (doors_of w) s (job t) (fr t)
 
 pub sound_at : (w : State) (j : ℕ) (q : Whole) (f : Frame) → Sound w → w.raw.jobs j ≡ Some q → w.frames j ≡ Some f → SoundFrame q f (w.reserved j)
 sound_at w j q f sound is fr =
-    subst (λ (o : Option Frame). SoundBy (Some q) o (w.reserved j)) fr (subst (λ (o : Option Whole). SoundBy o (w.frames j) (w.reserved j)) is (sound.each j).by)
+    subst (λ (o : Option Frame). SoundBy (Some q) o (w.reserved j)) fr
+    (subst (λ (o : Option Whole). SoundBy o (w.frames j) (w.reserved j)) is (sound.each j).by)
 
-pub raw_is : (w : World) (s : ℕ) (j : Job) → job_at w.jobs s ≡ Some j → (state_of w).raw.jobs s ≡ Some (raw_job w.files (core_at w.core s) j (superior_at w.jobs s) (alarm_at w.alarms.items s))
+pub raw_is : (w : World) (s : ℕ) (j : Job) → job_at w.jobs s ≡ Some j
+    → (state_of w).raw.jobs s ≡ Some (raw_job w.files (core_at w.core s) j (superior_at w.jobs s) (alarm_at w.alarms.items s))
 unfolding state_of
 raw_is w s j is = raw_some w s j is
 
@@ -209,7 +215,8 @@ pub record Placed (w : World) (k g : ℕ) : Type 0 where
   pub within : Within reason
   pub at : place_at reason (held_up (doors_of w) k (input frame.ask 0) reason) ≡ Some g
 
-placed_if : (w : World) (k g : ℕ) (j : Job) (f : Waiting) (r : Wait) (t : Bool) → job_at w.jobs k ≡ Some j → frame_at w.frames.items k ≡ Some (frames.Waiting f) → wait_reason (Some j) f.ask ≡ Some r
+placed_if : (w : World) (k g : ℕ) (j : Job) (f : Waiting) (r : Wait) (t : Bool) → job_at w.jobs k ≡ Some j
+    → frame_at w.frames.items k ≡ Some (frames.Waiting f) → wait_reason (Some j) f.ask ≡ Some r
     → is_within r ≡ t → if_within t (place_at r (held_up (doors_of w) k (input f.ask 0) r)) ≡ Some g → Placed w k g
 placed_if w k g j f r true job fr is less e = record {
   job = j;
@@ -223,12 +230,14 @@ placed_if w k g j f r true job fr is less e = record {
 }
 placed_if w k g j f r false job fr is less e = absurd cc
 
-placed_for : (w : World) (k g : ℕ) (j : Job) (f : Waiting) (o : Option Wait) → job_at w.jobs k ≡ Some j → frame_at w.frames.items k ≡ Some (frames.Waiting f) → wait_reason (Some j) f.ask ≡ o
+placed_for : (w : World) (k g : ℕ) (j : Job) (f : Waiting) (o : Option Wait) → job_at w.jobs k ≡ Some j
+    → frame_at w.frames.items k ≡ Some (frames.Waiting f) → wait_reason (Some j) f.ask ≡ o
     → place_for (doors_of w) k (input f.ask 0) o ≡ Some g → Placed w k g
 placed_for w k g j f (Some r) job fr is e = placed_if w k g j f r (is_within r) job fr is refl e
 placed_for w k g j f None job fr is e = absurd cc
 
-placed_by : (w : World) (k g : ℕ) (o : Option Job) (p : Option Frame) → job_at w.jobs k ≡ o → frame_at w.frames.items k ≡ p → (o ≡ None → p ≡ None) → place_by (doors_of w) k o p ≡ Some g → Placed w k g
+placed_by : (w : World) (k g : ℕ) (o : Option Job) (p : Option Frame) → job_at w.jobs k ≡ o → frame_at w.frames.items k ≡ p
+    → (o ≡ None → p ≡ None) → place_by (doors_of w) k o p ≡ Some g → Placed w k g
 placed_by w k g (Some j) (Some (frames.Waiting f)) job fr bare e = placed_for w k g j f (wait_reason (Some j) f.ask) job fr refl e
 placed_by w k g None (Some (frames.Waiting f)) job fr bare e = let n = bare refl in absurd cc
 placed_by w k g o _ job fr bare e = absurd cc
@@ -236,7 +245,8 @@ placed_by w k g o _ job fr bare e = absurd cc
 -- a slot without a job has no frame
 pub frame_none : (w : World) (k : ℕ) → Sound (state_of w) → job_at w.jobs k ≡ None → frame_at w.frames.items k ≡ None
 frame_none w k sound none =
-    sym (frame_is w k) ∙ (subst (λ (o : Option Whole). SoundBy o ((state_of w).frames k) ((state_of w).reserved k)) (raw_is_none w k none) (sound.each k).by).0
+    sym (frame_is w k) ∙ (subst (λ (o : Option Whole). SoundBy o ((state_of w).frames k) ((state_of w).reserved k)) (raw_is_none w k none)
+    (sound.each k).by).0
 
 pub placed : (w : World) (k g : ℕ) → Sound (state_of w) → wait_list_of w k ≡ Some g → Placed w k g
 unfolding wait_list_of
@@ -252,17 +262,19 @@ unfolding plain
 plain_none v k e = ap (option_map (seen (v.frames k))) e
 
 -- the call of a slot whose reason holds waits for it
-pub waits_decided : (w : World) (k : ℕ) (j : Job) (f : Waiting) (r : Wait) → Sound (state_of w) → job_at w.jobs k ≡ Some j → frame_at w.frames.items k ≡ Some (frames.Waiting f)
+pub waits_decided : (w : World) (k : ℕ) (j : Job) (f : Waiting) (r : Wait) → Sound (state_of w) → job_at w.jobs k ≡ Some j
+    → frame_at w.frames.items k ≡ Some (frames.Waiting f)
     → wait_reason (Some j) f.ask ≡ Some r → held_up (doors_of w) k (input f.ask 0) r ≡ true
-    → decision (plain (state_of w)) k (seen (Some (frames.Waiting f)) (raw_job w.files (core_at w.core k) j (superior_at w.jobs k) (alarm_at w.alarms.items k))) f.ask ≡ Waits r
+    → decision (plain (state_of w)) k (seen (Some (frames.Waiting f))
+    (raw_job w.files (core_at w.core k) j (superior_at w.jobs k) (alarm_at w.alarms.items k))) f.ask ≡ Waits r
 waits_decided w k j f r sound job fr is holds =
     let q : Whole = raw_job w.files (core_at w.core k) j (superior_at w.jobs k) (alarm_at w.alarms.items k) in
     let s = sound_at (state_of w) k q (frames.Waiting f) sound (raw_is w k j job) (frame_is w k ∙ fr) in
     s.stuck.again (plain (state_of w)) k r (sym (reason_seen q f) ∙ sym (reason_raw w k j f.ask) ∙ is)
     (subst (λ (d : Doors). held_up d k (input f.ask 0) r ≡ true) (sym (doors_plain w)) holds)
 
--- the other way: a decision that waits is that of a slot that is on the list of its reason, and a link that a call waits at is
--- one of those that there can be
+-- the other way: a decision that waits is that of a slot that is on the list of its reason, and a
+-- link that a call waits at is one of those that there can be
 abbrev LinkFits : Chan → Type 0
 LinkFits c = (l : ℕ) (write : Bool) → c ≡ Linked l write → l < most_links
 
@@ -300,7 +312,8 @@ console_fits (Some c) l = l
 console_fits None l = omega arith
 
 plain_job : (w : World) (k : ℕ) (j : Job) (f : Waiting) → job_at w.jobs k ≡ Some j → frame_at w.frames.items k ≡ Some (frames.Waiting f)
-    → (plain (state_of w)).jobs k ≡ Some (seen (Some (frames.Waiting f)) (raw_job w.files (core_at w.core k) j (superior_at w.jobs k) (alarm_at w.alarms.items k)))
+    → (plain (state_of w)).jobs k ≡ Some (seen (Some (frames.Waiting f))
+    (raw_job w.files (core_at w.core k) j (superior_at w.jobs k) (alarm_at w.alarms.items k)))
 plain_job w k j f job fr =
     let q : Whole = raw_job w.files (core_at w.core k) j (superior_at w.jobs k) (alarm_at w.alarms.items k) in
     plain_at (state_of w) k q (raw_is w k j job) ∙ ap (λ o. Some (seen o q)) (frame_is w k ∙ fr)
@@ -310,16 +323,19 @@ channel_seen : (q : Whole) (f : Waiting) (n : ℕ) → channel_at (seen (Some (f
 unfolding seen
 channel_seen q f n = refl
 
-link_fits : (w : World) (s : ℕ) (j : Job) (f : Waiting) (n : ℕ) → Forest (plain (state_of w)) → job_at w.jobs s ≡ Some j → frame_at w.frames.items s ≡ Some (frames.Waiting f)
+link_fits : (w : World) (s : ℕ) (j : Job) (f : Waiting) (n : ℕ) → Forest (plain (state_of w)) → job_at w.jobs s ≡ Some j
+    → frame_at w.frames.items s ≡ Some (frames.Waiting f)
     → LinkFits (channel_at (raw_job w.files (core_at w.core s) j (superior_at w.jobs s) (alarm_at w.alarms.items s)).channels n)
 link_fits w s j f n forest job fr l write on =
     let q : Whole = raw_job w.files (core_at w.core s) j (superior_at w.jobs s) (alarm_at w.alarms.items s) in
     (link_stands (plain (state_of w)) s n l write (seen (Some (frames.Waiting f)) q) forest.links (plain_job w s j f job fr) (channel_seen q f n ∙ on)).0
 
 -- the list to which a slot belongs whose call waits
-pub waits_place : (w : World) (s : ℕ) (j : Job) (f : Waiting) (r : Wait) → Sound (state_of w) → Forest (plain (state_of w)) → job_at w.jobs s ≡ Some j → frame_at w.frames.items s ≡ Some (frames.Waiting f)
-    → decision (plain (state_of w)) s (seen (Some (frames.Waiting f)) (raw_job w.files (core_at w.core s) j (superior_at w.jobs s) (alarm_at w.alarms.items s))) f.ask ≡ Waits r
-    → IfSome j.console (λ c. c < 8) → (wait_list_of w s ≡ Some (ring_of r)) × Within r
+pub waits_place : (w : World) (s : ℕ) (j : Job) (f : Waiting) (r : Wait) → Sound (state_of w) → Forest (plain (state_of w))
+    → job_at w.jobs s ≡ Some j → frame_at w.frames.items s ≡ Some (frames.Waiting f)
+    → decision (plain (state_of w)) s (seen (Some (frames.Waiting f))
+    (raw_job w.files (core_at w.core s) j (superior_at w.jobs s) (alarm_at w.alarms.items s))) f.ask ≡ Waits r
+    → IfSome j.console (λ c. c < 8) → (wait_list_of w s ≡ Some (list_for r)) × Within r
 waits_place w s j f r sound forest job fr d housed =
     let q : Whole = raw_job w.files (core_at w.core s) j (superior_at w.jobs s) (alarm_at w.alarms.items s) in
     let k = sound_at (state_of w) s q (frames.Waiting f) sound (raw_is w s j job) (frame_is w s ∙ fr) in
@@ -327,10 +343,12 @@ waits_place w s j f r sound forest job fr d housed =
     let raw : reason_in q f.ask ≡ Some r = reason_seen q f ∙ b.reason in
     let is : wait_reason (Some j) f.ask ≡ Some r = reason_raw w s j f.ask ∙ raw in
     let fits : Within r =
-    reason_fits (unwrap_or j.console 0) (channel_at q.channels (input f.ask 0)) (call_named f.ask.name) r (console_fits j.console housed) (link_fits w s j f (input f.ask 0) forest job fr) raw in
+    reason_fits (unwrap_or j.console 0) (channel_at q.channels (input f.ask 0)) (call_named f.ask.name) r (console_fits j.console housed)
+    (link_fits w s j f (input f.ask 0) forest job fr) raw in
     let holds : held_up (doors_of w) s (input f.ask 0) r ≡ true = subst (λ (d : Doors). held_up d s (input f.ask 0) r ≡ true) (doors_plain w) b.holds in
     let there : is_within r ≡ true = is_within_so r fits in (
-      place_waiting w s f (Some j) job fr ∙ ap (place_for (doors_of w) s (input f.ask 0)) is ∙ ap (λ t. if_within t (place_at r (held_up (doors_of w) s (input f.ask 0) r))) there ∙ ap (place_at r) holds,
+      place_waiting w s f (Some j) job fr ∙ ap (place_for (doors_of w) s (input f.ask 0)) is
+          ∙ ap (λ t. if_within t (place_at r (held_up (doors_of w) s (input f.ask 0) r))) there ∙ ap (place_at r) holds,
       fits,
     )
 
@@ -340,16 +358,17 @@ AllHoused w = (k : ℕ) → IfSome ((plain (state_of w)).jobs k) (λ q. IfSome q
 
 pub housed_at : (w : World) (k : ℕ) (j : Job) → AllHoused w → job_at w.jobs k ≡ Some j → IfSome j.console (λ c. c < 8)
 housed_at w k j consoled job =
-    raw_consoled (state_of w) k (raw_job w.files (core_at w.core k) j (superior_at w.jobs k) (alarm_at w.alarms.items k)) (record { each = consoled }) (raw_is w k j job)
+    raw_consoled (state_of w) k (raw_job w.files (core_at w.core k) j (superior_at w.jobs k) (alarm_at w.alarms.items k))
+    (record { each = consoled }) (raw_is w k j job)
 
 some_same : {X : Type 0} (o : Option X) (a b : X) → o ≡ Some a → o ≡ Some b → a ≡ b
 some_same o a b e h = let q = sym e ∙ h in cc
 
 -- a slot that is on the list of a reason waits for it
-waits_of : (w : World) (k : ℕ) (r : Wait) → Sound (state_of w) → Within r → Placed w k (ring_of r) → WaitsFor (state_of w) k r
+waits_of : (w : World) (k : ℕ) (r : Wait) → Sound (state_of w) → Within r → Placed w k (list_for r) → WaitsFor (state_of w) k r
 waits_of w k r sound l x =
-    let h = held_place x.reason (held_up (doors_of w) k (input x.frame.ask 0) x.reason) (ring_of r) x.within x.at (ring_within r l) in
-    let same : x.reason ≡ r = ring_same x.reason r x.within l h.1 in
+    let h = held_place x.reason (held_up (doors_of w) k (input x.frame.ask 0) x.reason) (list_for r) x.within x.at (list_within r l) in
+    let same : x.reason ≡ r = list_same x.reason r x.within l h.1 in
     record {
       frame = x.frame;
       job = seen (Some (frames.Waiting x.frame)) (raw_job w.files (core_at w.core k) x.job (superior_at w.jobs k) (alarm_at w.alarms.items k));
@@ -358,19 +377,23 @@ waits_of w k r sound l x =
       waits = waits_decided w k x.job x.frame x.reason sound x.in_job x.in_frame x.can_wait h.0 ∙ ap Waits same;
     }
 
--- a slot that waits for a reason belongs in its ring
-waits_at : (w : World) (k : ℕ) (f : Waiting) (p : Whole) (r : Wait) (o : Option Job) → Sound (state_of w) → Forest (plain (state_of w)) → AllHoused w → job_at w.jobs k ≡ o → frame_at w.frames.items k ≡ Some (frames.Waiting f)
-    → (plain (state_of w)).jobs k ≡ Some p → decision (plain (state_of w)) k p f.ask ≡ Waits r → wait_list_of w k ≡ Some (ring_of r)
+-- a slot that waits for a reason belongs in its list
+waits_at : (w : World) (k : ℕ) (f : Waiting) (p : Whole) (r : Wait) (o : Option Job) → Sound (state_of w) → Forest (plain (state_of w))
+    → AllHoused w → job_at w.jobs k ≡ o → frame_at w.frames.items k ≡ Some (frames.Waiting f)
+    → (plain (state_of w)).jobs k ≡ Some p → decision (plain (state_of w)) k p f.ask ≡ Waits r → wait_list_of w k ≡ Some (list_for r)
 waits_at w k f p r (Some j) sound forest consoled job fr there d =
     let same = some_same ((plain (state_of w)).jobs k) _ _ there (plain_job w k j f job fr) in
     (waits_place w k j f r sound forest job fr (ap (λ q. decision (plain (state_of w)) k q f.ask) (sym same) ∙ d) (housed_at w k j consoled job)).0
 waits_at w k f p r None sound forest consoled job fr there d = let n = sym (plain_none (state_of w) k (raw_is_none w k job)) ∙ there in absurd cc
 
-waits_placed : (w : World) (k : ℕ) (r : Wait) → Sound (state_of w) → Forest (plain (state_of w)) → AllHoused w → WaitsFor (state_of w) k r → wait_list_of w k ≡ Some (ring_of r)
-waits_placed w k r sound forest consoled x = waits_at w k x.frame x.job r (job_at w.jobs k) sound forest consoled refl (sym (frame_is w k) ∙ x.in_frame) x.there x.waits
+waits_placed : (w : World) (k : ℕ) (r : Wait) → Sound (state_of w) → Forest (plain (state_of w)) → AllHoused w → WaitsFor (state_of w) k r
+    → wait_list_of w k ≡ Some (list_for r)
+waits_placed w k r sound forest consoled x = waits_at w k x.frame x.job r (job_at w.jobs k) sound forest consoled refl
+    (sym (frame_is w k) ∙ x.in_frame) x.there x.waits
 
 -- a slot that is on an Awake list can go on
-can_of : (w : World) (k : ℕ) (d : Device) → Sound (state_of w) → Forest (plain (state_of w)) → AllHoused w → IsPost d → wait_list_of w k ≡ Some (awake_head d) → Placed w k (awake_head d) → CanGoOn (state_of w) k d
+can_of : (w : World) (k : ℕ) (d : Device) → Sound (state_of w) → Forest (plain (state_of w)) → AllHoused w → IsPost d
+    → wait_list_of w k ≡ Some (awake_head d) → Placed w k (awake_head d) → CanGoOn (state_of w) k d
 can_of w k d sound forest consoled l e x =
     let q : Whole = raw_job w.files (core_at w.core k) x.job (superior_at w.jobs k) (alarm_at w.alarms.items k) in
     record {
@@ -383,12 +406,13 @@ can_of w k d sound forest consoled l e x =
       here = awake_place x.reason (held_up (doors_of w) k (input x.frame.ask 0) x.reason) d x.within l x.at;
       ready = λ r h.
           let p = waits_place w k x.job x.frame r sound forest x.in_job x.in_frame h (housed_at w k x.job consoled x.in_job) in
-          let same : ring_of r ≡ awake_head d = some_same (wait_list_of w k) _ _ p.0 e in
-          past d l (subst IsWaitRing same (ring_within r p.1));
+          let same : list_for r ≡ awake_head d = some_same (wait_list_of w k) _ _ p.0 e in
+          past d l (subst IsWaitList same (list_within r p.1));
     }
 
 -- a slot that waits at a console or a link and can go on belongs in the Awake list there
-can_at : (w : World) (k : ℕ) (d : Device) (x : CanGoOn (state_of w) k d) (o : Option Job) → Sound (state_of w) → IsPost d → job_at w.jobs k ≡ o → frame_at w.frames.items k ≡ Some (frames.Waiting x.frame)
+can_at : (w : World) (k : ℕ) (d : Device) (x : CanGoOn (state_of w) k d) (o : Option Job) → Sound (state_of w) → IsPost d
+    → job_at w.jobs k ≡ o → frame_at w.frames.items k ≡ Some (frames.Waiting x.frame)
     → wait_list_of w k ≡ Some (awake_head d)
 can_at w k d x (Some j) sound l job fr =
     let q : Whole = raw_job w.files (core_at w.core k) j (superior_at w.jobs k) (alarm_at w.alarms.items k) in
@@ -399,7 +423,8 @@ can_at w k d x (Some j) sound l job fr =
     let same : x.job ≡ seen (Some (frames.Waiting f)) q = some_same ((plain (state_of w)).jobs k) _ _ x.there (plain_job w k j f job fr) in
     let is : wait_reason (Some j) f.ask ≡ Some r = reason_raw w k j f.ask ∙ reason_seen q f ∙ ap (λ p. reason_in p f.ask) (sym same) ∙ x.can_wait in
     let there : is_within r ≡ true = is_within_so r a.1 in
-    let place = place_waiting w k f (Some j) job fr ∙ ap (place_for (doors_of w) k n) is ∙ ap (λ t. if_within t (place_at r (held_up (doors_of w) k n r))) there in
+    let place = place_waiting w k f (Some j) job fr ∙ ap (place_for (doors_of w) k n) is
+    ∙ ap (λ t. if_within t (place_at r (held_up (doors_of w) k n r))) there in
     elim (cases_Bool (held_up (doors_of w) k n r)) [
       | inl holds ↦ absurd (x.ready r (ap (λ p. decision (plain (state_of w)) k p f.ask) same ∙ waits_decided w k j f r sound job fr is holds))
       | inr free ↦ place ∙ ap (place_at r) free ∙ a.0
@@ -407,33 +432,38 @@ can_at w k d x (Some j) sound l job fr =
 can_at w k d x None sound l job fr = let n = sym (plain_none (state_of w) k (raw_is_none w k job)) ∙ x.there in absurd cc
 
 -- all lists
-awake_holds : (w : World) (d : Device) → Sound (state_of w) → Forest (plain (state_of w)) → AllHoused w → Ringed w → IsPost d → HoldsJust (list_at w.rings.lists (awake_head d)) (λ k. CanGoOn (state_of w) k d)
-awake_holds w d sound forest consoled ringed l = record {
-  once = λ k. stands_once w.rings.lists k (awake_head d) (wait_list_of w k) (ringed.each k);
+awake_holds : (w : World) (d : Device) → Sound (state_of w) → Forest (plain (state_of w)) → AllHoused w → OnLists w → IsPost d
+    → HoldsJust (list_at w.wait_lists.lists (awake_head d)) (λ k. CanGoOn (state_of w) k d)
+awake_holds w d sound forest consoled on_lists l = record {
+  once = λ k. stands_once w.wait_lists.lists k (awake_head d) (wait_list_of w k) (on_lists.each k);
   just = λ k. (
     (λ here.
-        let e = stands_there w.rings.lists k (awake_head d) (wait_list_of w k) (ringed.each k) here in
+        let e = stands_there w.wait_lists.lists k (awake_head d) (wait_list_of w k) (on_lists.each k) here in
         can_of w k d sound forest consoled l e (placed w k (awake_head d) sound e)),
-    (λ x. stands_here w.rings.lists k (awake_head d) (wait_list_of w k) (ringed.each k) (can_at w k d x (job_at w.jobs k) sound l refl (sym (frame_is w k) ∙ x.in_frame))),
+    (λ x. stands_here w.wait_lists.lists k (awake_head d) (wait_list_of w k) (on_lists.each k)
+        (can_at w k d x (job_at w.jobs k) sound l refl (sym (frame_is w k) ∙ x.in_frame))),
   );
 }
 
-pub rings_hold : (w : World) → Sound (state_of w) → Forest (plain (state_of w)) → AllHoused w → Ringed w → WaitRings w
-rings_hold w sound forest consoled ringed = record {
-  rings = λ r l. record {
-    once = λ k. stands_once w.rings.lists k (ring_of r) (wait_list_of w k) (ringed.each k);
+pub lists_hold : (w : World) → Sound (state_of w) → Forest (plain (state_of w)) → AllHoused w → OnLists w → WaitListsHold w
+lists_hold w sound forest consoled on_lists = record {
+  wait_lists = λ r l. record {
+    once = λ k. stands_once w.wait_lists.lists k (list_for r) (wait_list_of w k) (on_lists.each k);
     just = λ k. (
-      (λ here. waits_of w k r sound l (placed w k (ring_of r) sound (stands_there w.rings.lists k (ring_of r) (wait_list_of w k) (ringed.each k) here))),
-      (λ x. stands_here w.rings.lists k (ring_of r) (wait_list_of w k) (ringed.each k) (waits_placed w k r sound forest consoled x)),
+      (λ here. waits_of w k r sound l (placed w k (list_for r) sound
+          (stands_there w.wait_lists.lists k (list_for r) (wait_list_of w k) (on_lists.each k) here))),
+      (λ x. stands_here w.wait_lists.lists k (list_for r) (wait_list_of w k) (on_lists.each k) (waits_placed w k r sound forest consoled x)),
     );
   };
-  at_consoles = λ c l. awake_holds w (AtConsole c) sound forest consoled ringed l;
-  at_links = λ n l. awake_holds w (AtLink n) sound forest consoled ringed l;
-  one = λ k g h here there. some_same (wait_list_of w k) _ _ (stands_there w.rings.lists k g (wait_list_of w k) (ringed.each k) here) (stands_there w.rings.lists k h (wait_list_of w k) (ringed.each k) there);
+  at_consoles = λ c l. awake_holds w (AtConsole c) sound forest consoled on_lists l;
+  at_links = λ n l. awake_holds w (AtLink n) sound forest consoled on_lists l;
+  one = λ k g h here there. some_same (wait_list_of w k) _ _ (stands_there w.wait_lists.lists k g (wait_list_of w k) (on_lists.each k) here)
+      (stands_there w.wait_lists.lists k h (wait_list_of w k) (on_lists.each k) there);
 }
 
 -- a world of which all the rest holds is kept
-pub kept_is : (w : World) → Sound (state_of w) → Forest (plain (state_of w)) → Tidy w → ((k : ℕ) → IfSome ((plain (state_of w)).jobs k) (λ q. q.job.pc < 2 ^ 18)) → AllHoused w
+pub kept_is : (w : World) → Sound (state_of w) → Forest (plain (state_of w)) → Tidy w
+    → ((k : ℕ) → IfSome ((plain (state_of w)).jobs k) (λ q. q.job.pc < 2 ^ 18)) → AllHoused w
     → (plain (state_of w)).clock < clock_end → Alarmed (plain (state_of w)) → Kept w
 kept_is w sound forest tidy addressed consoled timed alarmed = record {
   sound = sound;
@@ -443,5 +473,5 @@ kept_is w sound forest tidy addressed consoled timed alarmed = record {
   consoled = consoled;
   timed = timed;
   alarmed = alarmed;
-  rings = rings_hold w sound forest consoled tidy.ringed;
+  wait_lists = lists_hold w sound forest consoled tidy.on_lists;
 }

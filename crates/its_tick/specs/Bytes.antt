@@ -24,9 +24,9 @@ abbrev pub Still : World → ℕ → Type 0
 Still w s = IfSome (raw_in w s) (λ q. pages_in (state_of w) s q (call_in w s) w.core.frames ≡ w.core.frames)
 
 -- a call that is held without a page is SIOT, and its decoding gave no error
-abbrev pub is_moving : Option Frame → Bool
-is_moving (Some (frames.Holding f)) = is_none f.page && asks_siot f.ask
-is_moving _ = false
+abbrev pub holds_byte : Option Frame → Bool
+holds_byte (Some (frames.Holding f)) = is_none f.page && asks_siot f.ask
+holds_byte _ = false
 
 -- the call of slot s has a part that is done next
 abbrev pub has_part : World → ℕ → Option Holding → Option Whole → Bool
@@ -36,9 +36,10 @@ has_part w s _ _ = false
 abbrev pub part_due : World → ℕ → Bool
 part_due w s = has_part w s (standing_of (call_in w s)) (raw_in w s)
 
--- the next tick of slot s moves a byte of SIOT by one change: its job runs, and such a call has such a part
+-- the next tick of slot s moves a byte of SIOT by one change: its job runs, and such a call has
+-- such a part
 abbrev pub byte_due_of : World → ℕ → Option Job → Bool
-byte_due_of w s (Some j) = not j.stopped && (is_moving (call_in w s) && part_due w s)
+byte_due_of w s (Some j) = not j.stopped && (holds_byte (call_in w s) && part_due w s)
 byte_due_of w s None = false
 
 abbrev pub byte_due : World → ℕ → Bool

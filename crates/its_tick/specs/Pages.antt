@@ -1,14 +1,14 @@
--- In which page frames pages are after a tick, and which page frames are free. No state says it: two worlds that differ in this alone
--- have the same state.
+-- In which page frames pages are after a tick, and which page frames are free. No state says it:
+-- two worlds that differ in this alone have the same state.
 -- No promise rests on this.
 use Rattle.std.specs.Prelude.{if◌then◌else◌, ℕ, Bool, true, false, Option, Some, None, nat_lt}
 use Rattle.its_records.specs.declared.calls.Ask.{Ask}
 use Rattle.its_core.specs.Frames.{Frames, frames_reserve}
 use Rattle.its_frame.specs.declared.frame.Frame.{Frame}
 use Rattle.its_frame.specs.declared.frame.Frame.TheVariants.{Entered, Parsed, Asked, Holding, Waiting, Moving, Ending}
-use Rattle.its_plain.specs.CallStep.{decision, informed_slots}
-use Rattle.its_plain.specs.Decide.{reach}
-use Rattle.its_plain.specs.Interrupt.{deliverable, delivered}
+use Rattle.its_plain.specs.Call.Step.{decision, informed_slots}
+use Rattle.its_plain.specs.Call.Decide.{reach}
+use Rattle.its_plain.specs.Unit.Interrupt.{deliverable, delivered}
 use Rattle.its_plain.specs.Machine.{Whole}
 use Rattle.its_stepped.specs.State.{State}
 use Rattle.its_stepped.specs.Tick.{after_help_if, helps, quarters, reserves}

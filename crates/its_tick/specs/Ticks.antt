@@ -16,11 +16,11 @@ pub use Rattle.its_commit.specs.Carried.{pace_of}
 pub use Rattle.pdp_exec.specs.Units.{Left, left, after_outcome, unit_unless, after_unit, after_units}
 use Rattle.its_frame.specs.declared.name.CallName.{CallName}
 use Rattle.its_frame.specs.declared.name.CallName.TheVariants.{Logout, Uclose}
-use Rattle.its_plain.specs.CallStep.{with_fault}
-use Rattle.its_plain.specs.Change.{superiors}
-use Rattle.its_plain.specs.Decide.{call_named, listed, with_below}
+use Rattle.its_plain.specs.Call.Step.{with_fault}
+use Rattle.its_plain.specs.Machine.Change.{superiors}
+use Rattle.its_plain.specs.Call.Decide.{call_named, listed, with_below}
 use Rattle.its_plain.specs.Machine.{Machine, Whole}
-use Rattle.its_plain.specs.Interrupt.{deliverable}
+use Rattle.its_plain.specs.Unit.Interrupt.{deliverable}
 use Rattle.its_plain.specs.Unit.{Outcome, Changed, Faulted, Called, unit}
 use Rattle.its_stepped.specs.State.{State, with_slot}
 use Rattle.its_stepped.specs.Tick.{Ticked}
@@ -55,7 +55,8 @@ pub record UnitsMade (old new : World) (s n k : ℕ) : Type 0 where
   pub becomes : Becomes old new s left.core (Some left.job) (frame_at old.frames.items s) (clear_at old.core s)
   pub most : n < k → after_unit (Some left) ≡ None
 
--- whether the next tick of a slot executes a unit: its job runs in user mode, no interrupt is deliverable, and the unit is no call
+-- whether the next tick of a slot executes a unit: its job runs in user mode, no interrupt is
+-- deliverable, and the unit is no call
 abbrev pub is_made : Outcome → Bool
 is_made (Changed c k) = true
 is_made (Faulted f) = true
@@ -97,8 +98,9 @@ abbrev pub is_waiting : Option Frame → Bool
 is_waiting (Some (frames.Waiting f)) = true
 is_waiting _ = false
 
--- the call of slot s was found not ready, and the slot is on a wait list, whether it belongs there or not
-pub record InRing (w : World) (s : ℕ) : Type 0 where
+-- the call of slot s was found not ready, and the slot is on a wait list, whether it belongs there
+-- or not
+pub record OnWaitList (w : World) (s : ℕ) : Type 0 where
   pub waits : is_waiting (frame_at w.frames.items s) ≡ true
   pub stands : Blocked w s
 

@@ -1,12 +1,13 @@
-//! Ticks of a job inside a call: its decoding in two steps, its preparation, its trials, and its pending steps. The frame stays in its
-//! place: a tick reads what it needs, and writes what it changes.
+//! Ticks of a job inside a call: its decoding in two steps, its preparation, its trials, and its
+//! pending steps. The frame stays in its place: a tick reads what it needs, and writes what it
+//! changes.
 ghost use Rattle.std.specs.Prelude.{if◌then◌else◌, ◌≡◌, ◌<◌, ◌+◌, Some, None, IfSome, IfErr, is_some, true, false, length};
-ghost use Rattle.its_calls.specs.Calls.{entered_in, parsed_in};
+ghost use Rattle.its_in_call.specs.Calls.{entered_in, parsed_in};
 ghost use Rattle.its_core.specs.Cores.{clear_at};
 ghost use Rattle.its_jobs.specs.Table.{job_at};
 ghost use Rattle.its_world.specs.Tidy.{Tidy};
 ghost use Rattle.its_commit.specs.Carried.{standing_of};
-ghost use Rattle.its_plain.specs.CallStep.{decision, with_fault};
+ghost use Rattle.its_plain.specs.Call.Step.{decision, with_fault};
 ghost use Rattle.its_stepped.specs.Forest.{Forest};
 ghost use Rattle.its_stepped.specs.Duty.{IsTried};
 ghost use Rattle.its_stepped.specs.State.{with_slot};
@@ -20,9 +21,9 @@ ghost use Rattle.its_tick.specs.Ticks.{asked_in, pace_of, pace_decoded, state_de
 use super::bytes::bytes;
 use super::ready::make_ready;
 use call_core::{decide, reserves};
-use its_calls::{Next, View};
 use its_commit::{carry_out, standing};
 use its_frame::Decision;
+use its_in_call::{Next, View};
 use its_pclsr::unwind_one;
 use its_records::Pace;
 use its_word::{Fault, Slot};
@@ -100,7 +101,8 @@ fn fetch(w: &mut World, slot: Slot) -> Pace
     decoded(w, slot, answer)
 }
 
-/// The letter of a step of the decoding. At a fault the job, which is in user mode again, gets its bit.
+/// The letter of a step of the decoding. At a fault the job, which is in user mode again, gets its
+/// bit.
 #[inline]
 fn decoded(w: &mut World, slot: Slot, answer: Result<(), Fault>) -> Pace
     requires job { is_some (job_at w.old.jobs slot) ≡ true }
@@ -208,8 +210,8 @@ fn clear_quarter(w: &mut World, slot: Slot, q: u8)
     w.core.clear_quarter(slot, q);
 }
 
-/// A call that is held is tried. If it is SIOT, most trials move one byte, and need neither a world that is made ready nor a decision as a
-/// value.
+/// A call that is held is tried. If it is SIOT, most trials move one byte, and need neither a world
+/// that is made ready nor a decision as a value.
 #[inline]
 fn attempt_held(w: &mut World, slot: Slot) -> Pace
     requires kept { Kept w.old }

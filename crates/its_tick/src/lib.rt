@@ -6,7 +6,7 @@
 //!   step exactly with `*`, and the letter is licensed (`licensed`; the count of `.` is part of the
 //!   transcript theorem instead).
 //! - The letter of a call that was found not ready is `w` exactly if the slot is on a wait list,
-//!   even if it is there wrongly (`waits`, `ring`).
+//!   even if it is there wrongly (`waits`, `list`).
 //! - What a tick leaves of other slots is `others`; in which page frames pages are after it, and
 //!   which are free, is `pages`.
 //! - `steps` leaves the state of so many ticks (`state`), each with the letter `*` (`paces`). They
@@ -25,7 +25,7 @@
 //!
 //! A TICK line gives a slot up to 512 ticks. Half of what a tick of SIOT took was the way to its
 //! call and back: the loop over ticks, the dispatch by the frame, and the calls of functions. So
-//! `its_tick` has one loop that moves a byte for each tick (`run_bytes`), like the loop of units in
+//! `its_tick` has one loop that moves a byte for each tick (`bytes_row`), like the loop of units in
 //! user mode, and `steps` uses it inside a call. It asks before each byte all that a tick asks:
 //! nothing is known from the byte before. That the tests of arguments hold for the next byte too
 //! could be proved, and then be left out; it would save more, but each store outside the call would
@@ -53,7 +53,7 @@
 
 // The files:
 // - `ticks.rt`: the tick, many units in one call, and whether a slot runs
-// - `users.rt`: user mode: a delivery, a unit, or the entry of a call
+// - `user_mode.rt`: user mode: a delivery, a unit, or the entry of a call
 // - `calls.rt`: one step of a call
 // - `bytes.rt`: the bytes that SIOT moves
 // - `reach.rt`: the jobs that a call reaches are unwound
@@ -63,7 +63,7 @@ mod calls;
 mod reach;
 mod ready;
 mod ticks;
-mod users;
+mod user_mode;
 
 pub use its_records::Pace;
 pub use its_world::World;

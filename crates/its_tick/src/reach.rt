@@ -3,7 +3,7 @@ ghost use Rattle.std.specs.Prelude.{◌≡◌, Some, None, IfSome, is_some, true
 ghost use Rattle.its_jobs.specs.Table.{job_at, superior_at};
 ghost use Rattle.its_world.specs.Tidy.{Tidy};
 ghost use Rattle.its_pclsr.specs.Pages.{pages_unwound};
-ghost use Rattle.its_plain.specs.Decide.{reach, with_below};
+ghost use Rattle.its_plain.specs.Call.Decide.{reach, with_below};
 ghost use Rattle.its_stepped.specs.Forest.{Forest};
 ghost use Rattle.its_stepped.specs.Sound.{Sound};
 ghost use Rattle.its_stepped.specs.Unwind.{all_unwound, unwound};
@@ -17,8 +17,8 @@ use its_records::Ask;
 use its_word::Slot;
 use its_world::World;
 
-/// The jobs that a call reaches: the one that its argument names, of UCLOSE with all jobs below it; or of LOGOUT all jobs
-/// below its caller and its superior.
+/// The jobs that a call reaches: the one that its argument names, of UCLOSE with all jobs below it;
+/// or of LOGOUT all jobs below its caller and its superior.
 #[derive(Clone, Copy, Debug, PartialEq, Eq)]
 pub enum Reach {
     Nobody,

@@ -1,11 +1,12 @@
-//! What is done before a call is tried: the jobs that it reaches are unwound, and if it is one on files, the pending parts of a half made
-//! close are performed. The name of a call shows that it reaches nobody and is not on files.
+//! What is done before a call is tried: the jobs that it reaches are unwound, and if it is one on
+//! files, the pending parts of a half made close are performed. The name of a call shows that it
+//! reaches nobody and is not on files.
 ghost use Rattle.std.specs.Prelude.{◌≡◌, true, Some, IfSome, is_some};
 ghost use Rattle.its_jobs.specs.Table.{job_at, superior_at};
 ghost use Rattle.its_world.specs.Tidy.{Tidy};
 ghost use Rattle.its_commit.specs.Carried.{standing_of};
 ghost use Rattle.its_pclsr.specs.Pages.{pages_unwound};
-ghost use Rattle.its_plain.specs.Decide.{reach};
+ghost use Rattle.its_plain.specs.Call.Decide.{reach};
 ghost use Rattle.its_stepped.specs.Forest.{Forest};
 ghost use Rattle.its_stepped.specs.Duty.{IsTried};
 ghost use Rattle.its_stepped.specs.Tick.{after_help_if, helps};
@@ -29,8 +30,8 @@ struct Needs {
     on_files: bool,
 }
 
-/// Makes the world ready for the call in the frame of a slot: the jobs that it reaches are unwound, and if it is one on files, the
-/// pending parts of a half made close are performed.
+/// Makes the world ready for the call in the frame of a slot: the jobs that it reaches are unwound,
+/// and if it is one on files, the pending parts of a half made close are performed.
 #[tactic(auto, using(crate::proofs::TrialLaws::stands_job))]
 pub fn make_ready(w: &mut World, slot: Slot)
     requires kept { Kept w.old }

@@ -10,17 +10,17 @@ use Rattle.its_asm.specs.Assembly.{assembly}
 use Rattle.its_asm.specs.declared.assembly.Image.{Image}
 use Rattle.its_asm.specs.declared.reason.AsmFault.{AsmFault}
 use Rattle.its_asm.specs.declared.reason.AsmFault.TheVariants.{Line, NoMemory}
-use Rattle.its_assembly.specs.Past.{runs_past}
-use Rattle.its_assembly.specs.Written.{assembly_text, image_events}
-use Rattle.its_assembly.specs.Made.{MadeFrom, IsRefusal, IsSession}
-use Rattle.its_assembly.proofs.FitLaws.{image_fits}
-use Rattle.its_assembly.proofs.LoadLaws.{image_whole}
-use Rattle.its_assembly.specs.declared.source.Made.TheVariants as mades
-use Rattle.its_assembly.specs.declared.source.Unmade.TheVariants as unmades
-use Rattle.its_top.specs.declared.commands.Command.{Command}
-use Rattle.its_top.specs.declared.commands.Command.TheVariants as commands
-use Rattle.its_top.specs.declared.status.Status.{Status}
-use Rattle.its_top.specs.declared.status.Status.TheVariants as statuses
+use Rattle.its_asm_command.specs.Past.{runs_past}
+use Rattle.its_asm_command.specs.Written.{assembly_text, image_events}
+use Rattle.its_asm_command.specs.Made.{MadeFrom, IsRefusal, IsSession}
+use Rattle.its_asm_command.proofs.FitLaws.{image_fits}
+use Rattle.its_asm_command.proofs.LoadLaws.{image_whole}
+use Rattle.its_asm_command.specs.declared.source.Made.TheVariants as mades
+use Rattle.its_asm_command.specs.declared.source.Unmade.TheVariants as unmades
+use Rattle.its_top.specs.declared.commands.words.Command.{Command}
+use Rattle.its_top.specs.declared.commands.words.Command.TheVariants as commands
+use Rattle.its_top.specs.declared.commands.status.Status.{Status}
+use Rattle.its_top.specs.declared.commands.status.Status.TheVariants as statuses
 use Rattle.its_top.specs.Checking.{StatusFor, WroteText}
 use Rattle.its_top.specs.Assembling.{Asm, AsmOf, answer_to}
 use Rattle.its_top.specs.Promise.{Assembled}
@@ -39,7 +39,8 @@ refusal_is (Err (Line n reason)) t s = s
 refusal_is (Err NoMemory) t s = absurd s
 
 -- a session or a refusal was to be written
-session_as : (st : Status) (t bytes read w : List ℕ) → (runs_past bytes ≡ false) × IsSession (assembly bytes) t × (read ≡ bytes) → StatusFor st statuses.Done t w → AsmOf st bytes read w
+session_as : (st : Status) (t bytes read w : List ℕ) → (runs_past bytes ≡ false) × IsSession (assembly bytes) t × (read ≡ bytes)
+    → StatusFor st statuses.Done t w → AsmOf st bytes read w
 session_as statuses.Done t bytes read w e f = (e.0, subst (IsSession (assembly bytes)) f.1 e.1, e.2)
 session_as statuses.WriteFault t bytes read w e f = (e.0, (f.0, sym (session_is (assembly bytes) t e.1) ∙ f.1))
 session_as statuses.Usage t bytes read w e f = absurd (let k : statuses.Usage ≡ statuses.Done = f.0 in cc)
@@ -48,7 +49,8 @@ session_as statuses.ReadFault t bytes read w e f = absurd (let k : statuses.Read
 session_as statuses.NoMemory t bytes read w e f = absurd (let k : statuses.NoMemory ≡ statuses.Done = f.0 in cc)
 session_as statuses.TooLong t bytes read w e f = absurd (let k : statuses.TooLong ≡ statuses.Done = f.0 in cc)
 
-refusal_as : (st : Status) (t bytes read w : List ℕ) → (runs_past bytes ≡ false) × IsRefusal (assembly bytes) t → StatusFor st statuses.Refused t w → AsmOf st bytes read w
+refusal_as : (st : Status) (t bytes read w : List ℕ) → (runs_past bytes ≡ false) × IsRefusal (assembly bytes) t
+    → StatusFor st statuses.Refused t w → AsmOf st bytes read w
 refusal_as statuses.Refused t bytes read w e f = (e.0, subst (IsRefusal (assembly bytes)) f.1 e.1)
 refusal_as statuses.WriteFault t bytes read w e f = (e.0, (f.0, sym (refusal_is (assembly bytes) t e.1) ∙ f.1))
 refusal_as statuses.Usage t bytes read w e f = absurd (let k : statuses.Usage ≡ statuses.Refused = f.0 in cc)
@@ -65,7 +67,8 @@ took_memory : (st good : Status) (bytes w : List ℕ) → good ≢ statuses.NoMe
 took_memory statuses.NoMemory good bytes w n f = λ k. n (sym f.0)
 took_memory _ good bytes w n f = λ k. cc
 
-pub asm_session : (st : Status) (t : Vec ℕ) (left rest old new : Option (List ℕ)) → MadeFrom (Ok (mades.Session t)) left rest → WroteText st statuses.Done t.items old new → Asm st left rest old new
+pub asm_session : (st : Status) (t : Vec ℕ) (left rest old new : Option (List ℕ)) → MadeFrom (Ok (mades.Session t)) left rest
+    → WroteText st statuses.Done t.items old new → Asm st left rest old new
 asm_session st t left rest old new e w = record {
   read = e.read;
   wrote = w.wrote;
@@ -76,7 +79,8 @@ asm_session st t left rest old new e w = record {
   unwritten = λ k. absurd (took_memory st statuses.Done t.items w.wrote (λ j. cc) w.complete k);
 }
 
-pub asm_refusal : (st : Status) (t : ArrayVec ℕ) (left rest old new : Option (List ℕ)) → MadeFrom (Ok (mades.Refusal t)) left rest → WroteText st statuses.Refused t.items old new → Asm st left rest old new
+pub asm_refusal : (st : Status) (t : ArrayVec ℕ) (left rest old new : Option (List ℕ)) → MadeFrom (Ok (mades.Refusal t)) left rest
+    → WroteText st statuses.Refused t.items old new → Asm st left rest old new
 asm_refusal st t left rest old new e w = record {
   read = e.read;
   wrote = w.wrote;
@@ -121,11 +125,13 @@ asm_unmade left rest out e = record {
 }
 
 -- the clauses of the top call
-found_as : (st good : Status) (d : Option Command) (left rest old new : Option (List ℕ)) → Obeyed d st left rest old new → d ≡ Some commands.Asm → st ≡ good → good ≢ statuses.NoMemory → Asm good left rest old new
+found_as : (st good : Status) (d : Option Command) (left rest old new : Option (List ℕ)) → Obeyed d st left rest old new
+    → d ≡ Some commands.Asm → st ≡ good → good ≢ statuses.NoMemory → Asm good left rest old new
 found_as st good d left rest old new o c e n =
     subst (λ x. Asm x left rest old new) e (done_for d (Some commands.Asm) st left rest old new o c (λ k. n (sym e ∙ k)))
 
-done_by : (r : Result Image AsmFault) (bytes w : List ℕ) (rest old new : Option (List ℕ)) → r ≡ assembly bytes → runs_past bytes ≡ false → IsSession r w → Appends old new w → rest ≡ Some [] → Assembled bytes rest old new
+done_by : (r : Result Image AsmFault) (bytes w : List ℕ) (rest old new : Option (List ℕ)) → r ≡ assembly bytes → runs_past bytes ≡ false
+    → IsSession r w → Appends old new w → rest ≡ Some [] → Assembled bytes rest old new
 done_by (Ok i) bytes w rest old new e p s a o =
     record {
       over = o;
@@ -148,12 +154,14 @@ all_read : (bytes read : List ℕ) (rest : Option (List ℕ)) → Consumes (Some
 all_read bytes read None c e = absurd c
 all_read bytes read (Some ys) c e = ap Some (nothing_behind read ys (e ∙ c))
 
-refused_by : (r : Result Image AsmFault) (bytes w : List ℕ) (old new : Option (List ℕ)) → r ≡ assembly bytes → runs_past bytes ≡ false → IsRefusal r w → Appends old new w → AsmRefuses bytes old new
+refused_by : (r : Result Image AsmFault) (bytes w : List ℕ) (old new : Option (List ℕ)) → r ≡ assembly bytes → runs_past bytes ≡ false
+    → IsRefusal r w → Appends old new w → AsmRefuses bytes old new
 refused_by (Ok i) bytes w old new e p s a = absurd s
 refused_by (Err (Line n reason)) bytes w old new e p s a = record { line = n; reason = reason; refused = sym e; few = p; wrote = subst (Appends old new) s a }
 refused_by (Err NoMemory) bytes w old new e p s a = absurd s
 
-pub asm_done : (d : Option Command) (st : Status) (left rest old new : Option (List ℕ)) → Obeyed d st left rest old new → d ≡ Some commands.Asm → st ≡ statuses.Done → IfSome left (λ bytes. Assembled bytes rest old new)
+pub asm_done : (d : Option Command) (st : Status) (left rest old new : Option (List ℕ)) → Obeyed d st left rest old new
+    → d ≡ Some commands.Asm → st ≡ statuses.Done → IfSome left (λ bytes. Assembled bytes rest old new)
 asm_done d st left rest old new o c e = told_done left rest old new (found_as st statuses.Done d left rest old new o c e (λ j. cc))
   where
     told_done : (l rest old new : Option (List ℕ)) → Asm statuses.Done l rest old new → IfSome l (λ bytes. Assembled bytes rest old new)
@@ -162,28 +170,40 @@ asm_done d st left rest old new o c e = told_done left rest old new (found_as st
         let f = k.found in
         done_by (assembly bytes) bytes k.wrote rest old new refl f.0 f.1 k.appended (all_read bytes k.read rest k.consumed f.2)
 
-pub asm_refused : (d : Option Command) (st : Status) (left rest old new : Option (List ℕ)) → Obeyed d st left rest old new → d ≡ Some commands.Asm → st ≡ statuses.Refused → IfSome left (λ bytes. AsmRefuses bytes old new)
+pub asm_refused : (d : Option Command) (st : Status) (left rest old new : Option (List ℕ)) → Obeyed d st left rest old new
+    → d ≡ Some commands.Asm → st ≡ statuses.Refused → IfSome left (λ bytes. AsmRefuses bytes old new)
 asm_refused d st left rest old new o c e =
     let k = found_as st statuses.Refused d left rest old new o c e (λ j. cc) in
-    if_then left (λ bytes. AsmOf statuses.Refused bytes k.read k.wrote) _ (λ bytes f. refused_by (assembly bytes) bytes k.wrote old new refl f.0 f.1 k.appended) k.found
+    if_then left (λ bytes. AsmOf statuses.Refused bytes k.read k.wrote) _
+    (λ bytes f. refused_by (assembly bytes) bytes k.wrote old new refl f.0 f.1 k.appended) k.found
 
-pub asm_too_long : (d : Option Command) (st : Status) (left rest old new : Option (List ℕ)) → Obeyed d st left rest old new → d ≡ Some commands.Asm → st ≡ statuses.TooLong → IfSome left (λ bytes. AsmRunsOn bytes old new)
+pub asm_too_long : (d : Option Command) (st : Status) (left rest old new : Option (List ℕ)) → Obeyed d st left rest old new
+    → d ≡ Some commands.Asm → st ≡ statuses.TooLong → IfSome left (λ bytes. AsmRunsOn bytes old new)
 asm_too_long d st left rest old new o c e =
     let k = found_as st statuses.TooLong d left rest old new o c e (λ j. cc) in
-    if_then left (λ bytes. AsmOf statuses.TooLong bytes k.read k.wrote) _ (λ bytes f. record { beyond = f.0; wrote = subst (Appends old new) f.1 k.appended }) k.found
+    if_then left (λ bytes. AsmOf statuses.TooLong bytes k.read k.wrote) _
+    (λ bytes f. record { beyond = f.0; wrote = subst (Appends old new) f.1 k.appended }) k.found
 
 told_breaks : (left rest old new : Option (List ℕ)) → Asm statuses.ReadFault left rest old new → IfSome left (λ bytes. AsmBreaks bytes rest old new)
 told_breaks None rest old new k = tt
-told_breaks (Some bytes) rest old new k = record { read = k.read; consumed = k.consumed; limits = k.found.0; wrote = subst (Appends old new) k.found.1 k.appended }
+told_breaks (Some bytes) rest old new k = record {
+  read = k.read;
+  consumed = k.consumed;
+  limits = k.found.0;
+  wrote = subst (Appends old new) k.found.1 k.appended;
+}
 
-pub asm_breaks : (d : Option Command) (st : Status) (left rest old new : Option (List ℕ)) → Obeyed d st left rest old new → d ≡ Some commands.Asm → st ≡ statuses.ReadFault → IfSome left (λ bytes. AsmBreaks bytes rest old new)
+pub asm_breaks : (d : Option Command) (st : Status) (left rest old new : Option (List ℕ)) → Obeyed d st left rest old new
+    → d ≡ Some commands.Asm → st ≡ statuses.ReadFault → IfSome left (λ bytes. AsmBreaks bytes rest old new)
 asm_breaks d st left rest old new o c e = told_breaks left rest old new (found_as st statuses.ReadFault d left rest old new o c e (λ j. cc))
 
-pub asm_begins : (d : Option Command) (st : Status) (left rest old new : Option (List ℕ)) → Obeyed d st left rest old new → d ≡ Some commands.Asm → st ≡ statuses.WriteFault
+pub asm_begins : (d : Option Command) (st : Status) (left rest old new : Option (List ℕ)) → Obeyed d st left rest old new
+    → d ≡ Some commands.Asm → st ≡ statuses.WriteFault
     → IfSome left (λ bytes. AsmBegins bytes old new)
 asm_begins d st left rest old new o c e =
     let k = found_as st statuses.WriteFault d left rest old new o c e (λ j. cc) in
-    if_then left (λ bytes. AsmOf statuses.WriteFault bytes k.read k.wrote) _ (λ bytes f. record { few = f.0; begins = record { first = k.wrote; more = f.1.0; whole = f.1.1; wrote = k.appended } }) k.found
+    if_then left (λ bytes. AsmOf statuses.WriteFault bytes k.read k.wrote) _
+    (λ bytes f. record { few = f.0; begins = record { first = k.wrote; more = f.1.0; whole = f.1.1; wrote = k.appended } }) k.found
 
 -- without a fault the status is the answer to the text
 session_answer : (r : Result Image AsmFault) (t : List ℕ) → IsSession r t → statuses.Done ≡ answer_to r
@@ -208,7 +228,8 @@ answers statuses.NoMemory bytes read w r k f = within statuses.NoMemory bytes f.
 answers statuses.Usage bytes read w r k f = absurd f
 
 -- its result, or nothing for want of memory
-asm_of : (st : Status) (bytes : List ℕ) (rest old new : Option (List ℕ)) → Obeyed (Some commands.Asm) st (Some bytes) rest old new → st ≢ statuses.ReadFault → st ≢ statuses.WriteFault → AsmAnswers st bytes
+asm_of : (st : Status) (bytes : List ℕ) (rest old new : Option (List ℕ)) → Obeyed (Some commands.Asm) st (Some bytes) rest old new
+    → st ≢ statuses.ReadFault → st ≢ statuses.WriteFault → AsmAnswers st bytes
 asm_of statuses.NoMemory bytes rest old new o r k = within statuses.NoMemory bytes o.obeys.1 (inr refl)
 asm_of statuses.Done bytes rest old new o r k = answers statuses.Done bytes o.obeys.read o.obeys.wrote r k o.obeys.found
 asm_of statuses.Refused bytes rest old new o r k = answers statuses.Refused bytes o.obeys.read o.obeys.wrote r k o.obeys.found
@@ -217,11 +238,13 @@ asm_of statuses.ReadFault bytes rest old new o r k = absurd (r refl)
 asm_of statuses.WriteFault bytes rest old new o r k = absurd (k refl)
 asm_of statuses.Usage bytes rest old new o r k = absurd (o.obeys.ran refl)
 
-told_answers : (st : Status) (left rest old new : Option (List ℕ)) → Obeyed (Some commands.Asm) st left rest old new → st ≢ statuses.ReadFault → st ≢ statuses.WriteFault → IfSome left (λ bytes. AsmAnswers st bytes)
+told_answers : (st : Status) (left rest old new : Option (List ℕ)) → Obeyed (Some commands.Asm) st left rest old new
+    → st ≢ statuses.ReadFault → st ≢ statuses.WriteFault → IfSome left (λ bytes. AsmAnswers st bytes)
 told_answers st None rest old new o r k = tt
 told_answers st (Some bytes) rest old new o r k = asm_of st bytes rest old new o r k
 
-pub asm_answered : (d : Option Command) (st : Status) (left rest old new : Option (List ℕ)) → Obeyed d st left rest old new → d ≡ Some commands.Asm → st ≢ statuses.ReadFault → st ≢ statuses.WriteFault
+pub asm_answered : (d : Option Command) (st : Status) (left rest old new : Option (List ℕ)) → Obeyed d st left rest old new
+    → d ≡ Some commands.Asm → st ≢ statuses.ReadFault → st ≢ statuses.WriteFault
     → IfSome left (λ bytes. AsmAnswers st bytes)
 asm_answered d st left rest old new o c r w = told_answers st left rest old new (subst (λ x. Obeyed x st left rest old new) c o) r w
 

@@ -18,11 +18,11 @@ use Rattle.its_reader.specs.Bytes.{pending}
 use Rattle.its_reader.specs.Lines.{BetweenLines}
 use Rattle.its_reader.specs.Items.{is_last, is_end, last_items, Finds, FoundSoFar, AllFound}
 use Rattle.its_reader.proofs.ItemsLaws as reader
-use Rattle.its_top.specs.declared.checking.Checked.{Checked}
-use Rattle.its_top.specs.declared.checking.Checked.TheVariants.{Ended, TooLong}
+use Rattle.its_top.specs.declared.commands.checking.Checked.{Checked}
+use Rattle.its_top.specs.declared.commands.checking.Checked.TheVariants.{Ended, TooLong}
 use Rattle.its_top.specs.Checking.{checked_from, checked, CheckedBy, CheckSoFar, FoundIn, Finding, GoesOn, Passes, Fails, checked_text, StatusFor, WroteText, CheckedAs, Reported, CheckOf, Check}
-use Rattle.its_top.specs.declared.status.Status.{Status}
-use Rattle.its_top.specs.declared.status.Status.TheVariants as statuses
+use Rattle.its_top.specs.declared.commands.status.Status.{Status}
+use Rattle.its_top.specs.declared.commands.status.Status.TheVariants as statuses
 use Rattle.its_top.specs.Telling.{goes_on_after}
 use Rattle.its_top.specs.Conclusion.{WasRun}
 
@@ -42,24 +42,29 @@ line_ends n f e h g = subst (CheckedBy (Some (Ended n)) n) (sym h) (by e g)
     by _ g = cc
 
 -- the start of a check
-pub so_start : (r : Items) (left : Option (List ℕ)) → r.lines.number ≡ 0 → r.lines.ended ≡ false → pending r.lines.buffer ≡ [] → r.place ≡ places.First → r.version ≡ 1 → CheckSoFar r (r.lines.number + 1) left left
+pub so_start : (r : Items) (left : Option (List ℕ)) → r.lines.number ≡ 0 → r.lines.ended ≡ false → pending r.lines.buffer ≡ []
+    → r.place ≡ places.First → r.version ≡ 1 → CheckSoFar r (r.lines.number + 1) left left
 unfolding checked
 so_start r left n o p q v = record { items = []; found = reader.so_start r left n o p q v; checks = λ behind. ap (λ k. checked_from (k + 1) behind) (sym n) }
 
 -- the check goes on
-found_on : (f : Found) (es : List Item) (old new : Items) (left mid rest : Option (List ℕ)) → is_last f ≡ false → FoundSoFar es old left mid → Finds (Ok f) old new mid rest → FoundSoFar (es ++ last_items f) new left rest
+found_on : (f : Found) (es : List Item) (old new : Items) (left mid rest : Option (List ℕ)) → is_last f ≡ false → FoundSoFar es old left mid
+    → Finds (Ok f) old new mid rest → FoundSoFar (es ++ last_items f) new left rest
 found_on (Line e) es old new left mid rest l s f = reader.so_next es e old new left mid rest l s f
 found_on _ es old new left mid rest l s f = cc
 
-pub so_next : (f : Found) (n k : ℕ) (r r' : Items) (left mid rest : Option (List ℕ)) → k ≡ n → CheckSoFar r k left mid → Finds (Ok f) r r' mid rest → CheckedBy None n f → CheckSoFar r' (n + 1) left rest
+pub so_next : (f : Found) (n k : ℕ) (r r' : Items) (left mid rest : Option (List ℕ)) → k ≡ n → CheckSoFar r k left mid
+    → Finds (Ok f) r r' mid rest → CheckedBy None n f → CheckSoFar r' (n + 1) left rest
 so_next f n k r r' left mid rest e s t c = record {
   items = s.items ++ last_items f;
   found = found_on f s.items r r' left mid rest c.0 s.found t;
-  checks = λ behind. ap checked (append_assoc s.items (last_items f) behind) ∙ s.checks (last_items f ++ behind) ∙ ap (λ x. checked_from x (last_items f ++ behind)) e ∙ c.1 behind;
+  checks = λ behind. ap checked (append_assoc s.items (last_items f) behind) ∙ s.checks (last_items f ++ behind)
+      ∙ ap (λ x. checked_from x (last_items f ++ behind)) e ∙ c.1 behind;
 }
 
 -- the check is over
-told_over : (c : Checked) (f : Found) (n : ℕ) (es : List Item) (left : Option (List ℕ)) (read : List ℕ) → ((behind : List Item) → checked (es ++ behind) ≡ checked_from n behind) → checked_from n (last_items f) ≡ c
+told_over : (c : Checked) (f : Found) (n : ℕ) (es : List Item) (left : Option (List ℕ)) (read : List ℕ)
+    → ((behind : List Item) → checked (es ++ behind) ≡ checked_from n behind) → checked_from n (last_items f) ≡ c
     → IfSome left (λ bytes. AllFound (Ok f) es bytes read) → IfSome left (λ bytes. FoundIn (Ok c) bytes read)
 told_over c f n es None read s e a = tt
 told_over c f n es (Some bytes) read s e a = ap checked a ∙ s (last_items f) ∙ e
@@ -70,7 +75,8 @@ passes_end (Bad r) n l p = absurd p
 passes_end founds.Beyond n l p = absurd p
 passes_end founds.End n l p = refl
 
-pub check_over : (c : Checked) (f : Found) (n k : ℕ) (r r' : Items) (left mid rest : Option (List ℕ)) → k ≡ n → BetweenLines r'.lines rest → CheckSoFar r k left mid → Finds (Ok f) r r' mid rest → CheckedBy (Some c) n f
+pub check_over : (c : Checked) (f : Found) (n k : ℕ) (r r' : Items) (left mid rest : Option (List ℕ)) → k ≡ n → BetweenLines r'.lines rest
+    → CheckSoFar r k left mid → Finds (Ok f) r r' mid rest → CheckedBy (Some c) n f
     → Finding (Ok c) left rest
 check_over c f n k r r' left mid rest e y s t h =
     let d = reader.ended_by f s.items r r' left mid rest h.0 y s.found t in
@@ -82,18 +88,21 @@ check_over c f n k r r' left mid rest e y s t h =
     }
 
 -- the source failed
-told_fault : (x : Failed) (n : ℕ) (es : List Item) (left : Option (List ℕ)) (read : List ℕ) → ((behind : List Item) → checked (es ++ behind) ≡ checked_from n behind)
+told_fault : (x : Failed) (n : ℕ) (es : List Item) (left : Option (List ℕ)) (read : List ℕ)
+    → ((behind : List Item) → checked (es ++ behind) ≡ checked_from n behind)
     → IfSome left (λ bytes. AllFound (Err x) es bytes read) → IfSome left (λ bytes. FoundIn (Err x) bytes read)
 told_fault x n es None read s a = tt
 told_fault x n es (Some bytes) read s a = (subst GoesOn (sym (ap checked (a.0 ∙ sym (append-nil es)) ∙ s [])) tt, a.1)
 
-pub check_fault : (x y : Failed) (n : ℕ) (r r' : Items) (left mid rest : Option (List ℕ)) → CheckSoFar r n left mid → Finds (Err x) r r' mid rest → Finding (Err y) left rest
+pub check_fault : (x y : Failed) (n : ℕ) (r r' : Items) (left mid rest : Option (List ℕ)) → CheckSoFar r n left mid
+    → Finds (Err x) r r' mid rest → Finding (Err y) left rest
 check_fault x y n r r' left mid rest s t =
     let d = reader.ended_broken x s.items r r' left mid rest s.found t in
     record { read = d.read; consumed = d.consumed; found = told_fault x n s.items left d.read s.checks d.all; input = tt }
 
 -- what was written
-pub wrote_all : (good : Status) (bytes : List ℕ) (old new : Option (List ℕ)) → good ≢ statuses.WriteFault → Appends old new bytes → WroteText good good bytes old new
+pub wrote_all : (good : Status) (bytes : List ℕ) (old new : Option (List ℕ)) → good ≢ statuses.WriteFault → Appends old new bytes
+    → WroteText good good bytes old new
 wrote_all good bytes old new n a = record { wrote = bytes; appended = a; complete = by good n }
   where
     by : (st : Status) → st ≢ statuses.WriteFault → StatusFor st st bytes bytes
@@ -105,7 +114,8 @@ wrote_all good bytes old new n a = record { wrote = bytes; appended = a; complet
     by statuses.NoMemory n = (refl, refl)
     by statuses.TooLong n = (refl, refl)
 
-pub wrote_begun : (good : Status) (bytes : List ℕ) (old new : Option (List ℕ)) → (wrote : List ℕ) × Wrote old new wrote bytes → WroteText statuses.WriteFault good bytes old new
+pub wrote_begun : (good : Status) (bytes : List ℕ) (old new : Option (List ℕ)) → (wrote : List ℕ) × Wrote old new wrote bytes
+    → WroteText statuses.WriteFault good bytes old new
 wrote_begun good bytes old new w = record { wrote = w.0; appended = w.1.appended; complete = w.1.rest }
 
 ran_by : (st good : Status) (bytes w : List ℕ) → WasRun good → StatusFor st good bytes w → WasRun st
@@ -131,11 +141,23 @@ refused_as statuses.ReadFault c bytes w p e f = absurd (let k : statuses.ReadFau
 refused_as statuses.NoMemory c bytes w p e f = absurd (let k : statuses.NoMemory ≡ statuses.Refused = f.0 in cc)
 refused_as statuses.TooLong c bytes w p e f = absurd (let k : statuses.TooLong ≡ statuses.Refused = f.0 in cc)
 
-pub reported_ok : (st : Status) (c : Checked) (bytes : List ℕ) (old new : Option (List ℕ)) → Passes c → bytes ≡ checked_text c → WroteText st statuses.Done bytes old new → Reported st c old new
-reported_ok st c bytes old new p e t = record { ran = ran_by st statuses.Done bytes t.wrote tt t.complete; wrote = t.wrote; appended = t.appended; reported = done_by st c bytes t.wrote p e t.complete }
+pub reported_ok : (st : Status) (c : Checked) (bytes : List ℕ) (old new : Option (List ℕ)) → Passes c → bytes ≡ checked_text c
+    → WroteText st statuses.Done bytes old new → Reported st c old new
+reported_ok st c bytes old new p e t = record {
+  ran = ran_by st statuses.Done bytes t.wrote tt t.complete;
+  wrote = t.wrote;
+  appended = t.appended;
+  reported = done_by st c bytes t.wrote p e t.complete;
+}
 
-pub reported_refused : (st : Status) (c : Checked) (bytes : List ℕ) (old new : Option (List ℕ)) → Fails c → bytes ≡ checked_text c → WroteText st statuses.Refused bytes old new → Reported st c old new
-reported_refused st c bytes old new p e t = record { ran = ran_by st statuses.Refused bytes t.wrote tt t.complete; wrote = t.wrote; appended = t.appended; reported = refused_as st c bytes t.wrote p e t.complete }
+pub reported_refused : (st : Status) (c : Checked) (bytes : List ℕ) (old new : Option (List ℕ)) → Fails c → bytes ≡ checked_text c
+    → WroteText st statuses.Refused bytes old new → Reported st c old new
+reported_refused st c bytes old new p e t = record {
+  ran = ran_by st statuses.Refused bytes t.wrote tt t.complete;
+  wrote = t.wrote;
+  appended = t.appended;
+  reported = refused_as st c bytes t.wrote p e t.complete;
+}
 
 pub reported_beyond : (out : Option (List ℕ)) → Reported statuses.TooLong TooLong out out
 reported_beyond out = record { ran = tt; wrote = []; appended = Appends-nil out; reported = (refl, refl) }
@@ -164,7 +186,8 @@ checks st c left rest old new f r = record {
   input = λ e. f.input ((subst (λ x. CheckedAs x c r.wrote) e r.reported).0);
 }
 
-told_broken : (e : Failed) (left : Option (List ℕ)) (read : List ℕ) → IfSome left (λ bytes. FoundIn (Err e) bytes read) → IfSome left (λ bytes. CheckOf statuses.ReadFault bytes read [])
+told_broken : (e : Failed) (left : Option (List ℕ)) (read : List ℕ) → IfSome left (λ bytes. FoundIn (Err e) bytes read)
+    → IfSome left (λ bytes. CheckOf statuses.ReadFault bytes read [])
 told_broken e None read f = tt
 told_broken e (Some bytes) read f = (f.0, f.1, refl)
 

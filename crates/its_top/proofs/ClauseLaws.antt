@@ -7,10 +7,10 @@ use Rattle.its_print.specs.Printing.{text}
 use Rattle.its_session.specs.Events.{events_of}
 use Rattle.its_reader.specs.Items.{ReadOut}
 use Rattle.its_stepped.specs.Lines.{stepped}
-use Rattle.its_top.specs.declared.commands.Command.{Command}
-use Rattle.its_top.specs.declared.commands.Command.TheVariants as commands
-use Rattle.its_top.specs.declared.status.Status.{Status}
-use Rattle.its_top.specs.declared.status.Status.TheVariants as statuses
+use Rattle.its_top.specs.declared.commands.words.Command.{Command}
+use Rattle.its_top.specs.declared.commands.words.Command.TheVariants as commands
+use Rattle.its_top.specs.declared.commands.status.Status.{Status}
+use Rattle.its_top.specs.declared.commands.status.Status.TheVariants as statuses
 use Rattle.its_top.specs.Checking.{Passes, checked}
 use Rattle.its_top.specs.Commands.{IfGenerates, keeps, reads_input}
 use Rattle.its_top.specs.Conclusion.{IsDone}
@@ -32,10 +32,12 @@ if_then None P Q f h = tt
 if_then (Some b) P Q f h = f b h
 
 -- run
-pub run_written : (st : Status) (left rest old new : Option (List ℕ)) → OfRun st left rest old new → WroteAll st → IfSome left (λ bytes. Appends old new (text (stepped (events_of bytes)).lines))
+pub run_written : (st : Status) (left rest old new : Option (List ℕ)) → OfRun st left rest old new → WroteAll st
+    → IfSome left (λ bytes. Appends old new (text (stepped (events_of bytes)).lines))
 run_written st left rest old new o w = if_then left (λ bytes. RunSays st bytes rest old new) _ (λ bytes s. (s.written w).wrote) o.says
 
-answered : (st : Status) (bytes : List ℕ) (rest old new : Option (List ℕ)) → st ≢ statuses.Usage → Unfailed st → RunSays st bytes rest old new → Transcribed st bytes old new ⊎ (st ≡ statuses.NoMemory)
+answered : (st : Status) (bytes : List ℕ) (rest old new : Option (List ℕ)) → st ≢ statuses.Usage → Unfailed st
+    → RunSays st bytes rest old new → Transcribed st bytes old new ⊎ (st ≡ statuses.NoMemory)
 answered statuses.Usage bytes rest old new n u s = absurd (n refl)
 answered statuses.NoMemory bytes rest old new n u s = inr refl
 answered statuses.Done bytes rest old new n u s = inl (s.transcript tt)
@@ -44,38 +46,45 @@ answered statuses.TooLong bytes rest old new n u s = inl (s.transcript tt)
 answered statuses.ReadFault bytes rest old new n u s = absurd u
 answered statuses.WriteFault bytes rest old new n u s = absurd u
 
-pub run_answered : (st : Status) (left rest old new : Option (List ℕ)) (sf tf kf lf : ℕ) → OfRun st left rest old new → Faults statuses.ReadFault st sf tf → Faults statuses.WriteFault st kf lf → tf ≡ sf → lf ≡ kf
+pub run_answered : (st : Status) (left rest old new : Option (List ℕ)) (sf tf kf lf : ℕ) → OfRun st left rest old new
+    → Faults statuses.ReadFault st sf tf → Faults statuses.WriteFault st kf lf → tf ≡ sf → lf ≡ kf
     → IfSome left (λ bytes. Transcribed st bytes old new ⊎ (st ≡ statuses.NoMemory))
 run_answered st left rest old new sf tf kf lf o r w e f =
     if_then left (λ bytes. RunSays st bytes rest old new) _ (λ bytes s. answered st bytes rest old new o.command (unfailed st sf tf kf lf r w e f) s) o.says
 
-pub run_complete : (st : Status) (left rest old new : Option (List ℕ)) (sf tf kf lf : ℕ) → OfRun st left rest old new → Faults statuses.ReadFault st sf tf → Faults statuses.WriteFault st kf lf → tf ≡ sf → lf ≡ kf
+pub run_complete : (st : Status) (left rest old new : Option (List ℕ)) (sf tf kf lf : ℕ) → OfRun st left rest old new
+    → Faults statuses.ReadFault st sf tf → Faults statuses.WriteFault st kf lf → tf ≡ sf → lf ≡ kf
     → IfSome left (λ bytes. IsDone (stepped (events_of bytes)).fate → (st ≡ statuses.Done) ⊎ (st ≡ statuses.NoMemory))
 run_complete st left rest old new sf tf kf lf o r w e f =
     if_then left (λ bytes. RunSays st bytes rest old new) _ (λ bytes s. s.complete (unfailed st sf tf kf lf r w e f)) o.says
 
 -- check
-pub check_complete : (st : Status) (left rest old new : Option (List ℕ)) (sf tf kf lf : ℕ) → OfCheck st left rest old new → Faults statuses.ReadFault st sf tf → Faults statuses.WriteFault st kf lf → tf ≡ sf → lf ≡ kf
+pub check_complete : (st : Status) (left rest old new : Option (List ℕ)) (sf tf kf lf : ℕ) → OfCheck st left rest old new
+    → Faults statuses.ReadFault st sf tf → Faults statuses.WriteFault st kf lf → tf ≡ sf → lf ≡ kf
     → IfSome left (λ bytes. Passes (checked (events_of bytes)) → st ≡ statuses.Done)
 check_complete st left rest old new sf tf kf lf o r w e f =
     if_then left (λ bytes. CheckSays st bytes rest old new) _ (λ bytes s. s.complete (unfailed st sf tf kf lf r w e f)) o.says
 
 -- gen
-gen_ended : (st : Status) (kf lf : ℕ) → ((st ≡ statuses.Done) ⊎ (st ≡ statuses.WriteFault)) ⊎ (st ≡ statuses.NoMemory) → Faults statuses.WriteFault st kf lf → lf ≡ kf → (st ≡ statuses.Done) ⊎ (st ≡ statuses.NoMemory)
+gen_ended : (st : Status) (kf lf : ℕ) → ((st ≡ statuses.Done) ⊎ (st ≡ statuses.WriteFault)) ⊎ (st ≡ statuses.NoMemory)
+    → Faults statuses.WriteFault st kf lf → lf ≡ kf → (st ≡ statuses.Done) ⊎ (st ≡ statuses.NoMemory)
 gen_ended st kf lf (inl (inl d)) w f = inl d
 gen_ended st kf lf (inl (inr k)) w f = absurd (let l : lf ≡ kf + 1 = w.once k in omega (arith, l, f))
 gen_ended st kf lf (inr m) w f = inr m
 
-pub gen_complete : (n : ℕ) (st : Status) (left rest old new : Option (List ℕ)) (kf lf : ℕ) → OfGen n st left rest old new → Faults statuses.WriteFault st kf lf → lf ≡ kf → (st ≡ statuses.Done) ⊎ (st ≡ statuses.NoMemory)
+pub gen_complete : (n : ℕ) (st : Status) (left rest old new : Option (List ℕ)) (kf lf : ℕ) → OfGen n st left rest old new
+    → Faults statuses.WriteFault st kf lf → lf ≡ kf → (st ≡ statuses.Done) ⊎ (st ≡ statuses.NoMemory)
 gen_complete n st left rest old new kf lf o w f = gen_ended st kf lf o.ends w f
 
 -- verify and asm
-pub verify_answered : (st : Status) (left rest old new : Option (List ℕ)) (sf tf kf lf : ℕ) → OfVerify st left rest old new → Faults statuses.ReadFault st sf tf → Faults statuses.WriteFault st kf lf → tf ≡ sf → lf ≡ kf
+pub verify_answered : (st : Status) (left rest old new : Option (List ℕ)) (sf tf kf lf : ℕ) → OfVerify st left rest old new
+    → Faults statuses.ReadFault st sf tf → Faults statuses.WriteFault st kf lf → tf ≡ sf → lf ≡ kf
     → IfSome left (λ bytes. VerifyAnswers st bytes)
 verify_answered st left rest old new sf tf kf lf o r w e f =
     if_then left (λ bytes. VerifySays st bytes rest old new) _ (λ bytes s. s.answered (unfailed st sf tf kf lf r w e f)) o.says
 
-pub asm_answered : (st : Status) (left rest old new : Option (List ℕ)) (sf tf kf lf : ℕ) → OfAsm st left rest old new → Faults statuses.ReadFault st sf tf → Faults statuses.WriteFault st kf lf → tf ≡ sf → lf ≡ kf
+pub asm_answered : (st : Status) (left rest old new : Option (List ℕ)) (sf tf kf lf : ℕ) → OfAsm st left rest old new
+    → Faults statuses.ReadFault st sf tf → Faults statuses.WriteFault st kf lf → tf ≡ sf → lf ≡ kf
     → IfSome left (λ bytes. AsmAnswers st bytes)
 asm_answered st left rest old new sf tf kf lf o r w e f =
     if_then left (λ bytes. AsmSays st bytes rest old new) _ (λ bytes s. s.answered (unfailed st sf tf kf lf r w e f)) o.says
@@ -95,9 +104,11 @@ at_end bytes rest e =
     let consumed : Consumes (Some bytes) rest bytes = subst (λ (x : Option (List ℕ)). Consumes (Some bytes) x bytes) (sym e) (sym (append-nil bytes)) in
     record { read = bytes; consumed = consumed; out = inl refl }
 
-pub input_read : (c : Option Command) (st : Status) (left rest old new : Option (List ℕ)) → All c st left rest old new → reads_input c ≡ true → st ≡ statuses.Done → IfSome left (λ bytes. ReadOut bytes rest)
+pub input_read : (c : Option Command) (st : Status) (left rest old new : Option (List ℕ)) → All c st left rest old new
+    → reads_input c ≡ true → st ≡ statuses.Done → IfSome left (λ bytes. ReadOut bytes rest)
 input_read (Some commands.Run) st left rest old new a r e = if_then left (λ bytes. RunSays st bytes rest old new) _ (λ bytes s. s.input e) (a.run refl).says
-input_read (Some commands.Check) st left rest old new a r e = if_then left (λ bytes. CheckSays st bytes rest old new) _ (λ bytes s. s.input e) (a.check refl).says
+input_read (Some commands.Check) st left rest old new a r e =
+    if_then left (λ bytes. CheckSays st bytes rest old new) _ (λ bytes s. s.input e) (a.check refl).says
 input_read (Some commands.Verify) st left rest old new a r e =
     if_then left (λ bytes. VerifySays st bytes rest old new) _ (λ bytes s. at_end bytes rest (s.done e).over) (a.verify refl).says
 input_read (Some commands.Asm) st left rest old new a r e =
@@ -120,7 +131,8 @@ none_reads : (st : Status) → (st ≡ statuses.Usage) ⊎ (st ≡ statuses.Writ
 none_reads st (inl u) e = cc
 none_reads st (inr w) e = cc
 
-pub unread_fault : (c : Option Command) (st : Status) (left rest old new : Option (List ℕ)) → All c st left rest old new → reads_input c ≡ false → st ≢ statuses.ReadFault
+pub unread_fault : (c : Option Command) (st : Status) (left rest old new : Option (List ℕ)) → All c st left rest old new
+    → reads_input c ≡ false → st ≢ statuses.ReadFault
 unread_fault (Some (commands.Gen n)) st left rest old new a r = gen_reads st a.gen.ends
 unread_fault None st left rest old new a r = none_reads st (a.none refl).ends
 unread_fault _ st left rest old new a r = λ e. cc
@@ -130,7 +142,8 @@ none_memory : (st : Status) → (st ≡ statuses.Usage) ⊎ (st ≡ statuses.Wri
 none_memory st (inl u) e = cc
 none_memory st (inr w) e = cc
 
-pub no_memory_unread : (c : Option Command) (st : Status) (left rest old new : Option (List ℕ)) → All c st left rest old new → keeps c ≡ false → st ≡ statuses.NoMemory → rest ≡ left
+pub no_memory_unread : (c : Option Command) (st : Status) (left rest old new : Option (List ℕ)) → All c st left rest old new
+    → keeps c ≡ false → st ≡ statuses.NoMemory → rest ≡ left
 no_memory_unread (Some commands.Run) st left rest old new a k e = (a.run refl).unread e
 no_memory_unread (Some commands.Check) st left rest old new a k e = absurd ((a.check refl).memory e)
 no_memory_unread (Some (commands.Gen n)) st left rest old new a k e = a.gen.unread

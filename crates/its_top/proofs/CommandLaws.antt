@@ -18,7 +18,7 @@ use Rattle.clap.specs.declared.parser.matches.Found.{Found}
 use Rattle.clap.specs.declared.error.Error.{Error}
 use Rattle.clap.specs.declared.error.kind.ErrorKind.TheVariants as kinds
 use Rattle.clap.proofs.OnLiterals.{clap_on_literals}
-use Rattle.its_top.specs.declared.commands.Command.{Command}
+use Rattle.its_top.specs.declared.commands.words.Command.{Command}
 use Rattle.its_top.specs.Commands.{bare_command, counted_command, command_from, command_of, is_option, is_rounds, IfGenerates}
 use Rattle.its_records.proofs.TreeLaws.{and_false}
 
@@ -54,7 +54,8 @@ fault_two (b ∷ bs) [] h k = simp h
 fault_two [] (c ∷ cs) h k = simp k
 fault_two (b ∷ bs) (c ∷ cs) h k = simp (h, k)
 
-rows_one : (w : Text) → is_option w ≡ false → (first_of (codes "command") (matches_of program (w ∷ [])) ≡ Some w) × (first_of (codes "number") (matches_of program (w ∷ [])) ≡ None)
+rows_one : (w : Text) → is_option w ≡ false → (first_of (codes "command") (matches_of program (w ∷ [])) ≡ Some w)
+    × (first_of (codes "number") (matches_of program (w ∷ [])) ≡ None)
 unfolding clap_on_literals
 rows_one [] h = (refl, refl)
 rows_one (b ∷ bs) h = (simp h, simp h)
@@ -67,7 +68,8 @@ rows_two (b ∷ bs) [] h k = (simp h, simp h)
 rows_two [] (c ∷ cs) h k = (simp k, simp k)
 rows_two (b ∷ bs) (c ∷ cs) h k = (simp (h, k), simp (h, k))
 
-fault_more : (w n v : Text) (ws : List Text) → is_option w ≡ false → is_option n ≡ false → is_option v ≡ false → fault_of program (w ∷ n ∷ v ∷ ws) ≡ kinds.UnknownArgument ∷ []
+fault_more : (w n v : Text) (ws : List Text) → is_option w ≡ false → is_option n ≡ false → is_option v ≡ false
+    → fault_of program (w ∷ n ∷ v ∷ ws) ≡ kinds.UnknownArgument ∷ []
 unfolding clap_on_literals
 fault_more [] [] [] ws h k l = refl
 fault_more (b ∷ bs) [] [] ws h k l = simp h
@@ -86,7 +88,8 @@ value_is f id = in_entries f.entries.items
     first_text [] = refl
     first_text (v ∷ vs) = refl
 
-    in_entries : (es : List Entry) → option_and_then (λ a. option_map (λ s. s.now) (slice_get a.vals.items 0)) (option_map (λ e. e.1) (find (λ e. bytes_eq e.0.now id) es)) ≡ first_of id (map row_of es)
+    in_entries : (es : List Entry) → option_and_then (λ a. option_map (λ s. s.now) (slice_get a.vals.items 0))
+        (option_map (λ e. e.1) (find (λ e. bytes_eq e.0.now id) es)) ≡ first_of id (map row_of es)
     in_entries [] = refl
     in_entries (e ∷ es) = elim (cases_Bool (bytes_eq e.0.now id)) [
       | inl t ↦ rw t (first_text e.1.vals.items)
@@ -122,7 +125,8 @@ no_kind e (inl o) g = g o
 no_kind e (inr b) g = b
 
 -- one that fails, except for want of memory, is of words that are none
-pub parse_refused : (ws : List Text) (e : Error) → list_any is_option ws ≡ false → HasKind (fault_of program ws) e → kind_of e ≢ kinds.OutOfMemory → command_of ws ≡ None
+pub parse_refused : (ws : List Text) (e : Error) → list_any is_option ws ≡ false → HasKind (fault_of program ws) e
+    → kind_of e ≢ kinds.OutOfMemory → command_of ws ≡ None
 unfolding command_of
 parse_refused [] e h f g = refl
 parse_refused (w ∷ []) e h f g = absurd (no_kind e (subst (λ k. HasKind k e) (fault_one w (no_option w [] h).0) f) g)
@@ -131,7 +135,8 @@ parse_refused (w ∷ n ∷ []) e h f g =
     absurd (no_kind e (subst (λ k. HasKind k e) (fault_two w n a.0 (no_option n [] a.1).0) f) g)
 parse_refused (w ∷ n ∷ v ∷ ws) e h f g = refl
 
-pub any_found : {X : Type 0} (p : List ℕ → Bool) (f : X → List ℕ) (xs : List X) (i : ℕ) (x : X) → i < length xs → x ≡ get_or xs i x → p (f x) ≡ true → list_any p (map f xs) ≡ true
+pub any_found : {X : Type 0} (p : List ℕ → Bool) (f : X → List ℕ) (xs : List X) (i : ℕ) (x : X) → i < length xs → x ≡ get_or xs i x
+    → p (f x) ≡ true → list_any p (map f xs) ≡ true
 any_found p f [] i x h e t = absurd (omega arith)
 any_found p f (y ∷ ys) zero x h e t = let k : p (f y) ≡ true = subst (λ z. p (f z) ≡ true) e t in rw k refl
 any_found p f (y ∷ ys) (suc i) x h e t = elim (cases_Bool (p (f y))) [
@@ -150,7 +155,8 @@ abbrev pub unversioned : App → App
 unversioned = on_top (λ s. record s { disable_version_flag = true })
 
 -- by the answer of the parse
-pub found_by : (ws : List Text) (r : Result ArgMatches Error) → list_any is_option ws ≡ false → FailsBy (fault_of program ws) r → IfOk r (HasMatchesOf program ws)
+pub found_by : (ws : List Text) (r : Result ArgMatches Error) → list_any is_option ws ≡ false → FailsBy (fault_of program ws) r
+    → IfOk r (HasMatchesOf program ws)
     → IfOk r (λ m. command_from (first_value (found_of m) (codes "command")) (first_value (found_of m) (codes "number")) ≡ command_of ws)
 found_by ws (Ok m) h f g = parse_found ws m h f g
 found_by ws (Err e) h f g = tt

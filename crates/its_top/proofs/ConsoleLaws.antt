@@ -5,8 +5,8 @@ use Rattle.std.proofs.lemmas.Bool.{cases_Bool, cases_eq, cases_lt, eq-eqb, ne_eq
 use Rattle.std.proofs.lemmas.List.{drop-drop, length-append, length-take-le, take-append-le, take_all}
 use Rattle.its_word.specs.Console.{Console, most_waiting}
 use Rattle.its_plain.specs.Machine.{Machine, changed}
-use Rattle.its_plain.specs.Change.{on_console}
-use Rattle.its_plain.specs.OperatorConsoles.{with_typed, dropped, after_drain}
+use Rattle.its_plain.specs.Machine.Change.{on_console}
+use Rattle.its_plain.specs.Operator.Consoles.{with_typed, dropped, after_drain}
 use Rattle.its_plain.proofs.MachineLaws.{machine_is}
 use Rattle.its_stepped.specs.State.{State}
 use Rattle.its_stepped.specs.Lines.{with_raw}
@@ -36,7 +36,8 @@ console_here m c f = changed_here m.consoles c (f (m.consoles c))
 
 on_then : (m : Machine) (c : ℕ) (f g h : Console → Console) → ((x : Console) → g (f x) ≡ h x) → on_console (on_console m c f) c g ≡ on_console m c h
 on_then m c f g h e = machine_is _ _ (λ k. refl)
-    (λ k. changed_twice m.consoles c _ _ k ∙ ap (λ x. changed m.consoles c (g x) k) (console_here m c f) ∙ ap (λ x. changed m.consoles c x k) (e (m.consoles c)))
+    (λ k. changed_twice m.consoles c _ _ k ∙ ap (λ x. changed m.consoles c (g x) k) (console_here m c f)
+    ∙ ap (λ x. changed m.consoles c x k) (e (m.consoles c)))
     (λ k. refl) refl refl refl (λ k. refl) (λ k. refl)
 
 on_same : (m : Machine) (c : ℕ) → on_console m c (λ x. x) ≡ m
@@ -57,7 +58,8 @@ take_front (suc n) (x ∷ xs) ys = ap (λ zs. x ∷ zs) (take_front n xs ys)
 
 typed_then : (m : Machine) (c : ℕ) (xs ys : List ℕ) → with_typed c ys (with_typed c xs m) ≡ with_typed c (xs ++ ys) m
 typed_then m c xs ys =
-    on_then m c (typed_by xs) (typed_by ys) (typed_by (xs ++ ys)) (λ x. ap (λ bs. record x { input = bs }) (take_front most_waiting (x.input ++ xs) ys ∙ ap (take most_waiting) (append_assoc x.input xs ys)))
+    on_then m c (typed_by xs) (typed_by ys) (typed_by (xs ++ ys))
+    (λ x. ap (λ bs. record x { input = bs }) (take_front most_waiting (x.input ++ xs) ys ∙ ap (take most_waiting) (append_assoc x.input xs ys)))
 
 -- how many bytes wait after one more, and what is dropped of those after it
 waits_room : (x : Console) (b : ℕ) → length x.input < most_waiting → length (take most_waiting (x.input ++ b ∷ [])) ≡ length x.input + 1
@@ -79,14 +81,16 @@ typing_start v c bytes = record {
 
 -- byte k, which is b, was typed in state `now`, and gave state `next`
 typing_next : (v now next : State) (c k n i b : ℕ) (bytes : List ℕ) → k < length bytes → b ≡ slice_index bytes k → TypedSo v now c k n bytes (drop k bytes)
-    → Lands now next (Ok (with_typed c (b ∷ []) now.raw)) → i + dropped (next.raw.consoles c) (drop (k + 1) bytes) ≡ n + dropped (now.raw.consoles c) (drop k bytes)
+    → Lands now next (Ok (with_typed c (b ∷ []) now.raw)) → i + dropped (next.raw.consoles c) (drop (k + 1) bytes) ≡ n + dropped
+    (now.raw.consoles c) (drop k bytes)
     → TypedSo v next c (k + 1) i bytes (drop (k + 1) bytes)
 typing_next v now next c k n i b bytes h e so d f =
     let is : with_typed c (b ∷ []) now.raw ≡ next.raw = landed now next _ d in
     let rest : b ∷ drop (k + 1) bytes ≡ drop k bytes = ap (λ x. x ∷ drop (k + 1) bytes) e ∙ sym (front bytes k h) in
     record {
       raw = still v now next _ so.raw d;
-      whole = ap (with_typed c (drop (k + 1) bytes)) (sym is) ∙ typed_then now.raw c (b ∷ []) (drop (k + 1) bytes) ∙ ap (λ l. with_typed c l now.raw) rest ∙ so.whole;
+      whole = ap (with_typed c (drop (k + 1) bytes)) (sym is) ∙ typed_then now.raw c (b ∷ []) (drop (k + 1) bytes)
+          ∙ ap (λ l. with_typed c l now.raw) rest ∙ so.whole;
       count = f ∙ so.count;
       reached = λ z. ap (with_typed c []) (sym is) ∙ typed_then now.raw c (b ∷ []) [] ∙ is;
     }
@@ -97,16 +101,19 @@ waits_now : (now next : State) (c b : ℕ) → Lands now next (Ok (with_typed c 
 waits_now now next c b d =
     ap (λ m. length (m.consoles c).input) (sym (landed now next _ d)) ∙ ap (λ x. length x.input) (console_here now.raw c (typed_by (b ∷ [])))
 
-pub typing_room : (v now next : State) (c k n i b : ℕ) (r : Bool) (bytes : List ℕ) → k < length bytes → b ≡ slice_index bytes k → TypedSo v now c k n bytes (drop k bytes)
+pub typing_room : (v now next : State) (c k n i b : ℕ) (r : Bool) (bytes : List ℕ) → k < length bytes → b ≡ slice_index bytes k
+    → TypedSo v now c k n bytes (drop k bytes)
     → Lands now next (Ok (with_typed c (b ∷ []) now.raw)) → (IsTrue r ↔ (length (now.raw.consoles c).input < most_waiting)) → r ≡ true → i ≡ n
     → TypedSo v next c (k + 1) i bytes (drop (k + 1) bytes)
 typing_room v now next c k n i b r bytes h e so d w t f =
     let room : length (now.raw.consoles c).input < most_waiting = w.0 t in
-    let more : length (next.raw.consoles c).input ≡ length (now.raw.consoles c).input + 1 = waits_now now next c b d ∙ waits_room (now.raw.consoles c) b room in
+    let more : length (next.raw.consoles c).input ≡ length (now.raw.consoles c).input + 1 = waits_now now next c b d
+    ∙ waits_room (now.raw.consoles c) b room in
     let l : length (drop k bytes) ≡ suc (length (drop (k + 1) bytes)) = ap length (front bytes k h) in
     typing_next v now next c k n i b bytes h e so d (omega arith)
 
-pub typing_full : (v now next : State) (c k n i b : ℕ) (r : Bool) (bytes : List ℕ) → k < length bytes → b ≡ slice_index bytes k → TypedSo v now c k n bytes (drop k bytes)
+pub typing_full : (v now next : State) (c k n i b : ℕ) (r : Bool) (bytes : List ℕ) → k < length bytes → b ≡ slice_index bytes k
+    → TypedSo v now c k n bytes (drop k bytes)
     → Lands now next (Ok (with_typed c (b ∷ []) now.raw)) → (IsTrue r ↔ (length (now.raw.consoles c).input < most_waiting)) → r ≡ false → i ≡ n + 1
     → TypedSo v next c (k + 1) i bytes (drop (k + 1) bytes)
 typing_full v now next c k n i b r bytes h e so d w t f =
@@ -158,7 +165,8 @@ draining_next v now next c n k bytes more h so d f =
           ∙ f ∙ ap (λ j. bytes ++ take j (now.raw.consoles c).output) e ∙ so.taken;
     }
 
-pub draining_some : (v now next : State) (c n k b : ℕ) (bytes more : List ℕ) → k < n → DrainedSo v now c n k bytes → Lands now next (Ok (after_drain c 1 now.raw))
+pub draining_some : (v now next : State) (c n k b : ℕ) (bytes more : List ℕ) → k < n → DrainedSo v now c n k bytes
+    → Lands now next (Ok (after_drain c 1 now.raw))
     → Some b ≡ slice_get (now.raw.consoles c).output 0 → more ≡ bytes ++ b ∷ [] → DrainedSo v next c n (k + 1) more
 draining_some v now next c n k b bytes more h so d e f =
     let j = n - (k + 1) in

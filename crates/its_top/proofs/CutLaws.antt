@@ -6,7 +6,7 @@ use Rattle.std.specs.List.{concat}
 use Rattle.its_records.specs.Item.{Item}
 use Rattle.its_session.specs.Events.{events_of, most_lines}
 use Rattle.its_plain.specs.Transcript.{at_start}
-use Rattle.its_plain.specs.Turns.{highest}
+use Rattle.its_plain.specs.Transcript.Turns.{highest}
 use Rattle.its_reader.specs.TextLines.{in_front, lines_in}
 use Rattle.its_verify.specs.Accepted.{IsFirst}
 use Rattle.its_verify.specs.Rulings.{Verdict, Yes, No, judged}
@@ -54,7 +54,8 @@ within_most n h = grind (arith, nat_tests)
 two_parts : (n : ℕ) (session : List ℕ) (lines : List (List ℕ)) → lines_in (concat lines) ≡ lines → TwoParts (parts_from n session lines)
 two_parts n session [] is = tt
 two_parts n session (line ∷ lines) is =
-    each_way (λ p q. TwoParts p) n session line lines lines tt tt (λ few. (within_most n few, others line lines is)) (two_parts (n + 1) (session ++ line) lines (others line lines is))
+    each_way (λ p q. TwoParts p) n session line lines lines tt tt (λ few. (within_most n few, others line lines is))
+    (two_parts (n + 1) (session ++ line) lines (others line lines is))
 
 -- the parts of bytes
 record Parted (bytes session : List ℕ) (count : ℕ) (texts : List (List ℕ)) : Type 0 where
@@ -62,7 +63,8 @@ record Parted (bytes session : List ℕ) (count : ℕ) (texts : List (List ℕ))
   lines : lines_in (concat texts) ≡ texts
   cut : IsCut bytes session count (concat texts)
 
-parted : (bytes session : List ℕ) (count : ℕ) (texts : List (List ℕ)) → parts_from 1 [] (lines_in bytes) ≡ Both session count texts → Parted bytes session count texts
+parted : (bytes session : List ℕ) (count : ℕ) (texts : List (List ℕ)) → parts_from 1 [] (lines_in bytes) ≡ Both session count texts
+    → Parted bytes session count texts
 parted bytes session count texts is =
     let all : lines_in (concat (lines_in bytes)) ≡ lines_in bytes = ap lines_in (concat_lines bytes) in
     let both = subst TwoParts is (two_parts 1 [] (lines_in bytes) all) in
@@ -153,7 +155,8 @@ pub why : (bytes : List ℕ) → Why bytes (verified bytes)
 unfolding verified
 why bytes = why_parts bytes (parts_from 1 [] (lines_in bytes)) refl
 
-cut_verified : (bytes session : List ℕ) (count : ℕ) (transcript : List ℕ) → IsCut bytes session count transcript → verified bytes ≡ bounded (most_lines - count) (events_of session) (lines_in transcript)
+cut_verified : (bytes session : List ℕ) (count : ℕ) (transcript : List ℕ) → IsCut bytes session count transcript
+    → verified bytes ≡ bounded (most_lines - count) (events_of session) (lines_in transcript)
 unfolding verified
 cut_verified bytes session count transcript c = ap by_parts c.parts
 
@@ -166,7 +169,8 @@ answer_by bytes (Judged (Yes n)) h =
     let room = h.room in
     let is = h.lines in
     cut_verified bytes h.session h.count h.transcript h.cut
-    ∙ has_yes (most_lines - h.count) (events_of h.session) (lines_in h.transcript) (omega arith) (lines_accepted (events_of h.session) h.transcript h.accepted)
+    ∙ has_yes (most_lines - h.count) (events_of h.session) (lines_in h.transcript) (omega arith)
+    (lines_accepted (events_of h.session) h.transcript h.accepted)
     ∙ ap (λ k. Judged (Yes k)) (sym is)
 answer_by bytes (Judged (No n)) h =
     cut_verified bytes h.session h.count h.transcript h.cut

@@ -60,7 +60,8 @@ end_event place v line h =
     ]
 
 -- lines after that of END change no item
-ends_items : (n : ℕ) (session : List ℕ) (lines : List (List ℕ)) (s : List ℕ) (count : ℕ) → parts_from n session lines ≡ Both s count [] → (place : Place) (v : ℕ) (more : List (List ℕ))
+ends_items : (n : ℕ) (session : List ℕ) (lines : List (List ℕ)) (s : List ℕ) (count : ℕ) → parts_from n session lines ≡ Both s count []
+    → (place : Place) (v : ℕ) (more : List (List ℕ))
     → items_from true n place v (map before_lf lines ++ more) ≡ items_from true n place v (map before_lf lines)
 ends_items n session [] s count is place v more = absurd (let none : NoEnd n ≡ Both s count [] = is in cc)
 ends_items n session (line ∷ lines) s count is place v more =
@@ -96,9 +97,11 @@ front_line kept (b ∷ bs) rest h =
           rw other (front_line (kept ++ b ∷ []) bs rest here ∙ ap (λ (k : List ℕ). k ∷ lines_from true [] rest) (append_assoc kept (b ∷ []) (before_lf bs))))
     ]
 
-front_lines : (texts : List (List ℕ)) (rest : List ℕ) → AllWhole texts → lines_from true [] (concat texts ++ rest) ≡ map before_lf texts ++ lines_from true [] rest
+front_lines : (texts : List (List ℕ)) (rest : List ℕ) → AllWhole texts
+    → lines_from true [] (concat texts ++ rest) ≡ map before_lf texts ++ lines_from true [] rest
 front_lines [] rest h = refl
-front_lines (t ∷ ts) rest h = rw (append_assoc t (concat ts) rest) (front_line [] t (concat ts ++ rest) h.0 ∙ ap (λ x. before_lf t ∷ x) (front_lines ts rest h.1))
+front_lines (t ∷ ts) rest h = rw (append_assoc t (concat ts) rest)
+    (front_line [] t (concat ts ++ rest) h.0 ∙ ap (λ x. before_lf t ∷ x) (front_lines ts rest h.1))
 
 -- all lines of bytes that end with LF have theirs
 abbrev SomeWhole : List (List ℕ) → Type 0
@@ -129,7 +132,8 @@ pub is_session : (session : List ℕ) (count : ℕ) → EndsSession session coun
 is_session session count s = record { ends = s.parts; whole = session_whole session count s }
 
 -- the events of a session, and of bytes after it
-front_events : (session rest : List ℕ) (count : ℕ) → EndsSession session count → events_of (session ++ rest) ≡ items_from true 1 places.First 1 (map before_lf (lines_in session))
+front_events : (session rest : List ℕ) (count : ℕ) → EndsSession session count
+    → events_of (session ++ rest) ≡ items_from true 1 places.First 1 (map before_lf (lines_in session))
 unfolding events_of
 front_events session rest count s =
     let texts = lines_in session in

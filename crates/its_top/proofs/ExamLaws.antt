@@ -4,7 +4,7 @@ use Rattle.std.proofs.Common.{sym, ◌∙◌, ap, subst, arith, append_assoc, ap
 use Rattle.its_word.specs.Core.{Core, word_at}
 use Rattle.its_records.specs.declared.session.Reason.{Reason}
 use Rattle.its_plain.specs.Machine.{Whole, Machine, joined, words_at}
-use Rattle.its_plain.specs.OperatorJobs.{on_job, seen, seen_word, word_seen, examined}
+use Rattle.its_plain.specs.Operator.Jobs.{on_job, seen, seen_word, word_seen, examined}
 use Rattle.its_stepped.specs.State.{State}
 use Rattle.its_stepped.specs.Unwind.{unwound}
 use Rattle.its_stepped.specs.Sound.{Sound}
@@ -72,7 +72,8 @@ no_word : (m : Machine) (s a n : ℕ) (r : Reason) → a < 2 ^ 18 → word_seen 
 unfolding examined word_seen
 no_word m s a n r h g = absent_on m s a n r (m.jobs s) h g
 
-pub exam_next : (m l : Machine) (s a n k v : ℕ) (ws us : List ℕ) → k < n → a + n ≤ 2 ^ 18 → l ≡ m → us ≡ ws ++ v ∷ [] → ExamSo m s a n k ws → word_seen l s (a + k) ≡ Ok v
+pub exam_next : (m l : Machine) (s a n k v : ℕ) (ws us : List ℕ) → k < n → a + n ≤ 2 ^ 18 → l ≡ m → us ≡ ws ++ v ∷ [] → ExamSo m s a n k ws
+    → word_seen l s (a + k) ≡ Ok v
     → ExamSo m s a n (k + 1) us
 exam_next m l s a n k v ws us h f same p so g =
     let e : n - k ≡ suc (n - (k + 1)) = omega arith in
@@ -85,7 +86,8 @@ exam_next m l s a n k v ws us h f same p so g =
       there = λ z. there_word m s (a + k) v here;
     }
 
-pub exam_fails : (m l : Machine) (s a n k : ℕ) (r : Reason) (ws : List ℕ) → k < n → a + n ≤ 2 ^ 18 → l ≡ m → ExamSo m s a n k ws → word_seen l s (a + k) ≡ Err r → examined m s a n ≡ Err r
+pub exam_fails : (m l : Machine) (s a n k : ℕ) (r : Reason) (ws : List ℕ) → k < n → a + n ≤ 2 ^ 18 → l ≡ m → ExamSo m s a n k ws
+    → word_seen l s (a + k) ≡ Err r → examined m s a n ≡ Err r
 exam_fails m l s a n k r ws h f same so g =
     let e : n - k ≡ suc (n - (k + 1)) = omega arith in
     let here : word_seen m s (a + k) ≡ Err r = subst (λ x. word_seen x s (a + k) ≡ Err r) same g in

@@ -9,27 +9,27 @@ use Rattle.its_records.specs.declared.calls.Pace.{Pace}
 use Rattle.its_records.specs.declared.calls.Pace.TheVariants.{Step, Work, Wait, Off}
 use Rattle.its_records.specs.declared.session.Event.{Event}
 use Rattle.its_print.specs.Printing.{Line}
-use Rattle.its_plain.specs.Course.{Course, Letter, Moment, machine_after, paced, past, course}
-use Rattle.its_plain.specs.Course as courses
-use Rattle.its_plain.specs.FewDots.{most_in_a_row, FewAt, FewDots}
-use Rattle.its_plain.specs.Licence.{Licensed, Dots, dots_after, dots_after_line}
+use Rattle.its_plain.specs.Transcript.Course.{Course, Letter, Moment, machine_after, paced, past, course}
+use Rattle.its_plain.specs.Transcript.Course as courses
+use Rattle.its_plain.specs.Promise.FewDots.{most_in_a_row, FewAt, FewDots}
+use Rattle.its_plain.specs.Transcript.Licence.{Licensed, Dots, dots_after, dots_after_line}
 use Rattle.its_plain.specs.Machine.{Machine, no_machine}
 use Rattle.its_plain.specs.Operator.{Block, no_block, Refuses, Does, Ticks, Quits}
-use Rattle.its_plain.specs.OperatorLines.{Lined, Done, Peeks, lined}
+use Rattle.its_plain.specs.Operator.Lines.{Lined, Done, Peeks, lined}
 use Rattle.its_plain.specs.Transcript.{Walk, at_start, after_letter, next_line}
-use Rattle.its_plain.specs.Turns.{turn_after, highest, turns_asked, ticks_asked}
+use Rattle.its_plain.specs.Transcript.Turns.{turn_after, highest, turns_asked, ticks_asked}
 use Rattle.its_plain.proofs.FairLaws.{turn_within}
 use Rattle.its_stepped.specs.Calling.{Decoding}
 use Rattle.its_stepped.specs.Forest.{Forest}
 use Rattle.its_stepped.specs.Lines.{Told, after_calm, with_raw, lifted_line, paces_of, after_ticks, told_by, turned_by, turned, told, stepped}
 use Rattle.its_stepped.specs.State.{State, plain, no_state}
 use Rattle.its_stepped.specs.Tick.{tick}
-use Rattle.its_stepped.proofs.DotsLaws.{bound, OwnDots, bound_few, tick_dots}
-use Rattle.its_stepped.proofs.SessionLaws.{HoldsAfter, Upkeep, turn_plain}
-use Rattle.its_stepped.proofs.SoundLaws.{tick_sound}
-use Rattle.its_stepped.proofs.StartLaws.{no_state_plain}
-use Rattle.its_stepped.proofs.UpkeepLaws.{Good, upkeep}
-use Rattle.its_stepped.proofs.WrittenLaws.{lasting}
+use Rattle.its_stepped.proofs.Ticking.DotsLaws.{bound, OwnDots, bound_few, tick_dots}
+use Rattle.its_stepped.proofs.Running.SessionLaws.{HoldsAfter, Upkeep, turn_plain}
+use Rattle.its_stepped.proofs.Ticking.SoundLaws.{tick_sound}
+use Rattle.its_stepped.proofs.Lining.StartLaws.{no_state_plain}
+use Rattle.its_stepped.proofs.Running.UpkeepLaws.{Good, upkeep}
+use Rattle.its_stepped.proofs.Running.WrittenLaws.{lasting}
 
 -- the machine after a letter that is licensed
 letter_leads : (m n : Machine) (i : ℕ) (p : Pace) → Licensed m i p n → machine_after m i p ≡ n
@@ -68,16 +68,19 @@ module _ (decoding : Decoding) where
   letter_few w d i g is =
       let given = (lasting decoding).duties w i g.sound g.placed in
       let sound = tick_sound w i g.sound given in
-      fewer (tick w i).pace (d i) (bound (w.frames i)) (bound ((tick w i).state.frames i)) (tick_dots w i g.sound given).own (g.dotted.each i) (bound_few (tick w i).state i sound) is
+      fewer (tick w i).pace (d i) (bound (w.frames i)) (bound ((tick w i).state.frames i)) (tick_dots w i g.sound given).own
+      (g.dotted.each i) (bound_few (tick w i).state i sound) is
 
   ticks_few : (k : ℕ) (w : State) (d : Dots) (b : Block) (i q : ℕ) (next : Walk → Course) → Fine d w
-      → ((f : Dots) → Fine f (after_ticks w i q) → Few (next (at k (after_ticks w i q) f b)).moments) → Few (paced (at k w d b) i (paces_of w i q) next).moments
+      → ((f : Dots) → Fine f (after_ticks w i q) → Few (next (at k (after_ticks w i q) f b)).moments)
+      → Few (paced (at k w d b) i (paces_of w i q) next).moments
   ticks_few k w d b i zero next g h = h d g
   ticks_few k w d b i (suc q) next g h =
       let p = (tick w i).pace in
       let n = plain (tick w i).state in (
         few_at d i p (λ is. letter_few w d i g is),
-        subst (λ m. Few (paced (after_letter (at k w d b) i p m) i (paces_of (tick w i).state i q) next).moments) (sym (letter_leads (plain w) n i p (u.paced d w i g)))
+        subst (λ m. Few (paced (after_letter (at k w d b) i p m) i (paces_of (tick w i).state i q) next).moments)
+            (sym (letter_leads (plain w) n i p (u.paced d w i g)))
             (ticks_few k (tick w i).state (dots_after (plain w) d i p) b i q next (u.ticks d w i g) h),
       )
 
@@ -93,33 +96,39 @@ module _ (decoding : Decoding) where
   turn_few k n q last w d b next more None l is g h go = h w d last g l
   turn_few k n q last w d b next more (Some s) l is g h go = (
     tt,
-    ticks_few k w d b s q (λ x. courses.turned n x s (turned n q (after_ticks w s q) s next).lines more) g (λ f good. go (after_ticks w s q) f s good (turn_within w.raw last s l is)),
+    ticks_few k w d b s q (λ x. courses.turned n x s (turned n q (after_ticks w s q) s next).lines more) g
+        (λ f good. go (after_ticks w s q) f s good (turn_within w.raw last s l is)),
   )
 
-  turns_few : (k n q last : ℕ) (w : State) (d : Dots) (b : Block) (next : State → ℕ → Told) (more : Walk → ℕ → List Line → Course) → last < slots → Fine d w → Follows k b next more
+  turns_few : (k n q last : ℕ) (w : State) (d : Dots) (b : Block) (next : State → ℕ → Told) (more : Walk → ℕ → List Line → Course)
+      → last < slots → Fine d w → Follows k b next more
       → Few (courses.turned n (at k w d b) last (turned n q w last next).lines more).moments
   turns_few k zero q last w d b next more l g h = h w d last g l
   turns_few k (suc n) q last w d b next more l g h =
       let lines = (turned (suc n) q w last next).lines in
-      subst (λ o. Few (courses.turned_by o (at k w d b) lines (λ x s rest. courses.turned n x s rest more) (more (at k w d b) last lines)).moments) (sym (turn_plain w last l))
+      subst (λ o. Few (courses.turned_by o (at k w d b) lines (λ x s rest. courses.turned n x s rest more)
+      (more (at k w d b) last lines)).moments) (sym (turn_plain w last l))
       (turn_few k n q last w d b next more (turn_after w.raw last) l refl g h (λ w' f s good is. turns_few k n q s w' f b next more is good h))
 
   -- a line, if the lines after it go on
-  line_few : (k n : ℕ) (w v : State) (d : Dots) (b : Block) (e : Event) (l : Lined) (next : State → Block → Told) (more : Walk → List Line → Course) → Fine d w → HoldsAfter Fine d v l
+  line_few : (k n : ℕ) (w v : State) (d : Dots) (b : Block) (e : Event) (l : Lined) (next : State → Block → Told)
+      (more : Walk → List Line → Course) → Fine d w → HoldsAfter Fine d v l
       → ((w' : State) (f : Dots) (c : Block) → Fine f w' → Few (more (at k w' f c) (next w' c).lines).moments)
       → Few (past (at k w d b) e (lifted_line v l) (told_by n w v b l next).lines more).moments
   line_few k n w v d b e (Done (Refuses r)) next more g a h = tt
   line_few k n w v d b e (Done (Does m out touched c)) next more g a h =
       let rest = (next (with_raw v m) c).lines in (
         tt,
-        subst (λ ls. Few (more (at k (with_raw v m) (dots_after_line d touched) c) ls).moments) (sym (drop_at out rest (length out) refl)) (h (with_raw v m) (dots_after_line d touched) c a),
+        subst (λ ls. Few (more (at k (with_raw v m) (dots_after_line d touched) c) ls).moments) (sym (drop_at out rest (length out) refl))
+            (h (with_raw v m) (dots_after_line d touched) c a),
       )
   line_few k n w v d b e (Done (Ticks s q)) next more g a h =
       ticks_few k w d b s q (λ x. more x (next (after_ticks w s q) b).lines) g (λ f good. h (after_ticks w s q) f b good)
   line_few k n w v d b e (Done Quits) next more g a h = tt
   line_few k n w v d b e (Peeks s) next more g a h = h w d b g
 
-  told_few : (k n : ℕ) (w : State) (d : Dots) (b : Block) (last : ℕ) (es : List Item) → last < slots → Fine d w → Few (course (at k w d b) last es (told n w b last es).lines).moments
+  told_few : (k n : ℕ) (w : State) (d : Dots) (b : Block) (last : ℕ) (es : List Item) → last < slots → Fine d w
+      → Few (course (at k w d b) last es (told n w b last es).lines).moments
   told_few k n w d b last (Read e ∷ es) l g =
       let more : Walk → List Line → Course = λ x rest. courses.turned (turns_asked e) x last rest (λ y i ls. course (next_line y) i es ls) in
       let next : State → Block → Told = λ v c. turned (turns_asked e) (ticks_asked e) v last (λ x i. told (n + 1) x c i es) in

@@ -18,11 +18,11 @@ use Rattle.its_print.specs.Printing as printed
 use Rattle.its_files.specs.Files.{Store, entry_at, is_file, names_at, words_at, file_at, directory, after_help}
 use Rattle.its_files.proofs.DirectoryLaws.{helped_unmarked}
 use Rattle.its_word.proofs.NamesLaws.{same_self}
-use Rattle.its_plain.specs.Own.{names_of}
-use Rattle.its_plain.specs.CallFile.{is_full, file_named}
+use Rattle.its_plain.specs.Machine.Own.{names_of}
+use Rattle.its_plain.specs.Call.File.{is_full, file_named}
 use Rattle.its_plain.specs.Machine.{Names, File, Machine}
 use Rattle.its_plain.specs.Operator.{and_then}
-use Rattle.its_plain.specs.OperatorFiles.{channels_of, with_files, with_word_added_if, with_word_added_to, with_word_added, with_words_added, is_in, files_in, show_of, filed_line, rows}
+use Rattle.its_plain.specs.Operator.Files.{channels_of, with_files, with_word_added_if, with_word_added_to, with_word_added, with_words_added, is_in, files_in, show_of, filed_line, rows}
 use Rattle.its_stepped.specs.State.{State, plain}
 use Rattle.its_stepped.specs.State as state
 use Rattle.its_stepped.specs.Unwind.{help}
@@ -30,12 +30,12 @@ use Rattle.its_stepped.specs.Lines.{with_raw}
 use Rattle.its_world.specs.World.{state_of}
 use Rattle.its_world.specs.declared.world.World.{World}
 use Rattle.its_world.proofs.MarkLaws.{none_marked, made_none}
-use Rattle.its_machine.proofs.StoreLaws.{changed_same}
+use Rattle.its_shared.proofs.StoreLaws.{changed_same}
 use Rattle.its_records.specs.Refusals.{reason_of}
 use Rattle.its_monitor.specs.Kept.{Lands, FileRefused}
 use Rattle.its_monitor.specs.Filing.{word_if, length_if}
-use Rattle.its_top.specs.declared.flow.Flow.{Flow}
-use Rattle.its_top.specs.declared.flow.Flow.TheVariants as flows
+use Rattle.its_top.specs.declared.sessions.flow.Flow.{Flow}
+use Rattle.its_top.specs.declared.sessions.flow.Flow.TheVariants as flows
 use Rattle.its_top.specs.Telling.{goes_on}
 use Rattle.its_top.specs.Answer.{WroteFor, Tells, Looked, Stood, AddSo, WritesSo}
 use Rattle.its_top.proofs.LoadingLaws.{front}
@@ -54,7 +54,8 @@ twice_helped v = refl
 pub looking_start : (w : World) → Looked w w 0
 looking_start w = record { found = refl; reached = λ h. absurd (omega arith); unmarked = λ h. absurd (omega arith) }
 
-pub looking_next : (old now then : World) (k : ℕ) → Looked old now k → state_of then ≡ help (state_of now) → then.files ≡ after_help now.files → Looked old then (k + 1)
+pub looking_next : (old now then : World) (k : ℕ) → Looked old now k → state_of then ≡ help (state_of now)
+    → then.files ≡ after_help now.files → Looked old then (k + 1)
 looking_next old now then k l e f = record {
   found = ap help e ∙ twice_helped (state_of now) ∙ l.found;
   reached = λ h. e ∙ l.found;
@@ -74,7 +75,8 @@ standing_start w = record { state = refl; files = refl }
 pub standing_then : (old now then : World) → Stood old now → Stood now then → Stood old then
 standing_then old now then s t = record { state = t.state ∙ s.state; files = t.files ∙ s.files }
 
-pub standing_next : (old now then : World) → old.files.mark ≡ None → Stood old now → state_of then ≡ help (state_of now) → then.files ≡ after_help now.files → Stood old then
+pub standing_next : (old now then : World) → old.files.mark ≡ None → Stood old now → state_of then ≡ help (state_of now)
+    → then.files ≡ after_help now.files → Stood old then
 standing_next old now then none s e f =
     standing_then old now then s (stood now then (ap (λ (x : Store). x.mark) s.files ∙ none) e f)
 
@@ -107,16 +109,19 @@ none_shown fs k h = elim (cases_lt k (length fs)) [
     go (Some g) e h = cc
     go None e h = cc
 
-pub counting_some : (old now : World) (d k : ℕ) (s : FileShow) → Looked old now k → Some s ≡ option_map show_of (slice_get (files_in d (plain (state_of now)).files) k)
+pub counting_some : (old now : World) (d k : ℕ) (s : FileShow) → Looked old now k
+    → Some s ≡ option_map show_of (slice_get (files_in d (plain (state_of now)).files) k)
     → k + 1 ≤ length (files_in d (help (state_of old)).raw.files)
 counting_some old now d k s l h =
-    let within = some_shown (files_in d (help (state_of old)).raw.files) k s (h ∙ ap (λ fs. option_map show_of (slice_get (files_in d fs) k)) (looked_files old now k l)) in
+    let within = some_shown (files_in d (help (state_of old)).raw.files) k s
+    (h ∙ ap (λ fs. option_map show_of (slice_get (files_in d fs) k)) (looked_files old now k l)) in
     omega (arith, within)
 
 pub counting_none : (old now : World) (d k : ℕ) → Looked old now k → k ≤ length (files_in d (help (state_of old)).raw.files)
     → None ≡ option_map show_of (slice_get (files_in d (plain (state_of now)).files) k) → k ≡ length (files_in d (help (state_of old)).raw.files)
 counting_none old now d k l some h =
-    let past = none_shown (files_in d (help (state_of old)).raw.files) k (h ∙ ap (λ fs. option_map show_of (slice_get (files_in d fs) k)) (looked_files old now k l)) in
+    let past = none_shown (files_in d (help (state_of old)).raw.files) k
+    (h ∙ ap (λ fs. option_map show_of (slice_get (files_in d fs) k)) (looked_files old now k l)) in
     omega (arith, past, some)
 
 -- a directory has no more files than all directories
@@ -124,7 +129,8 @@ few_in : (d : ℕ) (fs : List File) → length (files_in d fs) ≤ length fs
 unfolding files_in
 few_in d fs = subst (λ n. n ≤ length fs) (sym (length-filter (is_in d) fs)) (count_by-le-length (is_in d) fs)
 
-pub counting_end : (old now : World) (d k : ℕ) → 0 < k → Looked old now k → length now.files.order ≤ k → k ≤ length (files_in d (help (state_of old)).raw.files)
+pub counting_end : (old now : World) (d k : ℕ) → 0 < k → Looked old now k → length now.files.order ≤ k
+    → k ≤ length (files_in d (help (state_of old)).raw.files)
     → k ≡ length (files_in d (help (state_of old)).raw.files)
 counting_end old now d k some l few at_least =
     let fs = (help (state_of old)).raw.files in
@@ -144,7 +150,8 @@ wrote_on : (flow : Flow) (bytes wrote : List ℕ) → goes_on flow ≡ true → 
 wrote_on flows.On bytes wrote g c = c.1
 wrote_on _ bytes wrote g c = cc
 
-pub writes_next : (flow : Flow) (lines rest : List Line) (l : Line) (old now new : Option (List ℕ)) → goes_on flow ≡ true → WritesSo lines (l ∷ rest) old now → Tells flow flows.On (text_of_line l) now new
+pub writes_next : (flow : Flow) (lines rest : List Line) (l : Line) (old now new : Option (List ℕ)) → goes_on flow ≡ true
+    → WritesSo lines (l ∷ rest) old now → Tells flow flows.On (text_of_line l) now new
     → WritesSo lines rest old new
 writes_next flow lines rest l old now new g w t = record {
   wrote = w.wrote ++ t.wrote;
@@ -154,7 +161,8 @@ writes_next flow lines rest l old now new g w t = record {
 }
 
 -- a write that fails has begun what was to be written
-begun : (flow : Flow) (bytes wrote before behind : List ℕ) → goes_on flow ≡ false → WroteFor flow flows.On bytes wrote → WroteFor flow flows.On (before ++ (bytes ++ behind)) (before ++ wrote)
+begun : (flow : Flow) (bytes wrote before behind : List ℕ) → goes_on flow ≡ false → WroteFor flow flows.On bytes wrote
+    → WroteFor flow flows.On (before ++ (bytes ++ behind)) (before ++ wrote)
 begun flows.On bytes wrote before behind g c = cc
 begun flows.Ended bytes wrote before behind g c = absurd (let k : flows.Ended ≡ flows.On = c.0 in cc)
 begun flows.Refused bytes wrote before behind g c = absurd (let k : flows.Refused ≡ flows.On = c.0 in cc)
@@ -164,7 +172,8 @@ begun flows.Fault bytes wrote before behind g c = (
   ap (λ x. before ++ (x ++ behind)) c.1 ∙ ap (λ x. before ++ x) (append_assoc wrote c.0 behind) ∙ sym (append_assoc before wrote (c.0 ++ behind)),
 )
 
-pub writes_cut : (flow : Flow) (lines rest : List Line) (l : Line) (old now new : Option (List ℕ)) → goes_on flow ≡ false → WritesSo lines (l ∷ rest) old now → Tells flow flows.On (text_of_line l) now new
+pub writes_cut : (flow : Flow) (lines rest : List Line) (l : Line) (old now new : Option (List ℕ)) → goes_on flow ≡ false
+    → WritesSo lines (l ∷ rest) old now → Tells flow flows.On (text_of_line l) now new
     → Tells flow flows.On (text lines) old new
 writes_cut flow lines rest l old now new g w t = record {
   wrote = w.wrote ++ t.wrote;
@@ -189,30 +198,36 @@ then_by flows.Ended first more wrote c = absurd (let k : flows.Ended ≡ flows.O
 then_by flows.Refused first more wrote c = absurd (let k : flows.Refused ≡ flows.On = c.0 in cc)
 then_by flows.TooLong first more wrote c = absurd (let k : flows.TooLong ≡ flows.On = c.0 in cc)
 
-pub tells_then : (first flow : Flow) (l : Line) (ls : List Line) (old mid new : Option (List ℕ)) → goes_on first ≡ true → Tells first flows.On (text_of_line l) old mid → Tells flow flows.On (text ls) mid new
+pub tells_then : (first flow : Flow) (l : Line) (ls : List Line) (old mid new : Option (List ℕ)) → goes_on first ≡ true
+    → Tells first flows.On (text_of_line l) old mid → Tells flow flows.On (text ls) mid new
     → Tells flow flows.On (text (l ∷ ls)) old new
 tells_then first flow l ls old mid new g a b = record {
   wrote = a.wrote ++ b.wrote;
   appended = Appends-trans old mid new a.wrote b.wrote a.appended b.appended;
-  complete = subst (λ x. WroteFor flow flows.On x (a.wrote ++ b.wrote)) (sym (text_more l ls ∙ ap (λ x. x ++ text ls) (wrote_on first (text_of_line l) a.wrote g a.complete)))
+  complete = subst (λ x. WroteFor flow flows.On x (a.wrote ++ b.wrote))
+      (sym (text_more l ls ∙ ap (λ x. x ++ text ls) (wrote_on first (text_of_line l) a.wrote g a.complete)))
       (then_by flow a.wrote (text ls) b.wrote b.complete);
 }
 
-pub tells_cut : (flow : Flow) (l : Line) (ls : List Line) (old new : Option (List ℕ)) → goes_on flow ≡ false → Tells flow flows.On (text_of_line l) old new → Tells flow flows.On (text (l ∷ ls)) old new
+pub tells_cut : (flow : Flow) (l : Line) (ls : List Line) (old new : Option (List ℕ)) → goes_on flow ≡ false
+    → Tells flow flows.On (text_of_line l) old new → Tells flow flows.On (text (l ∷ ls)) old new
 tells_cut flow l ls old new g t = writes_cut flow (l ∷ ls) ls l old old new g (writes_start (l ∷ ls) old) t
 
 -- the lines of files, from the k-th on
 abbrev pub listed_from : ℕ → List File → ℕ → List Line
 listed_from d fs k = map filed_line (drop k (files_in d fs))
 
-filed_next : (fs : List File) (k : ℕ) (s : FileShow) → Some s ≡ option_map show_of (slice_get fs k) → map filed_line (drop k fs) ≡ printed.Filed s ∷ map filed_line (drop (k + 1) fs)
+filed_next : (fs : List File) (k : ℕ) (s : FileShow) → Some s ≡ option_map show_of (slice_get fs k)
+    → map filed_line (drop k fs) ≡ printed.Filed s ∷ map filed_line (drop (k + 1) fs)
 filed_next fs k s h = go (slice_get fs k) refl h
   where
-    go : (o : Option File) → slice_get fs k ≡ o → Some s ≡ option_map show_of o → map filed_line (drop k fs) ≡ printed.Filed s ∷ map filed_line (drop (k + 1) fs)
+    go : (o : Option File) → slice_get fs k ≡ o → Some s ≡ option_map show_of o → map filed_line (drop k fs) ≡ printed.Filed s
+        ∷ map filed_line (drop (k + 1) fs)
     go (Some f) e h =
         let same : s ≡ show_of f = cc in
         rw (add-one) (ap (map filed_line) (drop-cons fs k f (slice_get_within fs k f e))
-        ∙ ap (λ g. filed_line g ∷ map filed_line (drop (suc k) fs)) (get_or_from_slice_get fs k f f e) ∙ ap (λ x. printed.Filed x ∷ map filed_line (drop (suc k) fs)) (sym same))
+        ∙ ap (λ g. filed_line g ∷ map filed_line (drop (suc k) fs)) (get_or_from_slice_get fs k f f e)
+        ∙ ap (λ x. printed.Filed x ∷ map filed_line (drop (suc k) fs)) (sym same))
     go None e h = cc
 
 -- here the state stays as it was
@@ -229,15 +244,18 @@ pub listing_some : (old now : World) (d k : ℕ) (s : FileShow) (a b : Option (L
     → WritesSo (map filed_line (files_in d (state_of old).raw.files)) (printed.Filed s ∷ listed_from d (state_of old).raw.files (k + 1)) a b
 listing_some old now d k s a b none still h w =
     let fs = files_in d (state_of old).raw.files in
-    subst (λ ls. WritesSo (map filed_line fs) ls a b) (filed_next fs k s (h ∙ ap (λ gs. option_map show_of (slice_get (files_in d gs) k)) (stood_files old now none still))) w
+    subst (λ ls. WritesSo (map filed_line fs) ls a b) (filed_next fs k s
+    (h ∙ ap (λ gs. option_map show_of (slice_get (files_in d gs) k)) (stood_files old now none still))) w
 
 pub listing_none : (old now : World) (d k n : ℕ) → old.files.mark ≡ None → Stood old now → n ≡ length (files_in d (state_of old).raw.files) → k < n
     → None ≡ option_map show_of (slice_get (files_in d (plain (state_of now)).files) k) → ⊥
 listing_none old now d k n none still e l h =
-    let past = none_shown (files_in d (state_of old).raw.files) k (h ∙ ap (λ gs. option_map show_of (slice_get (files_in d gs) k)) (stood_files old now none still)) in
+    let past = none_shown (files_in d (state_of old).raw.files) k
+    (h ∙ ap (λ gs. option_map show_of (slice_get (files_in d gs) k)) (stood_files old now none still)) in
     omega (arith, past, e, l)
 
-pub listing_end : (d k n : ℕ) (fs : List File) (old now : Option (List ℕ)) → n ≡ length (files_in d fs) → k ≡ n → WritesSo (map filed_line (files_in d fs)) (listed_from d fs k) old now
+pub listing_end : (d k n : ℕ) (fs : List File) (old now : Option (List ℕ)) → n ≡ length (files_in d fs) → k ≡ n
+    → WritesSo (map filed_line (files_in d fs)) (listed_from d fs k) old now
     → Tells flows.On flows.On (text (map filed_line (files_in d fs))) old now
 listing_end d k n fs old now e f w =
     let past : length (files_in d fs) ≤ k = omega (arith, e, f) in
@@ -261,7 +279,8 @@ pub rows_next : (ws : List ℕ) (n row : ℕ) (old new : Option (List ℕ)) → 
     → WritesSo (rows n ws) (printed.Row (take 8 (drop (row * 8) ws)) ∷ rows_from ws n (row + 1)) old new
 rows_next ws n row old new h w = subst (λ ls. WritesSo (rows n ws) ls old new) (rows_more ws n row h) w
 
-pub rows_end : (ws : List ℕ) (n row : ℕ) (old new : Option (List ℕ)) → row ≡ n → WritesSo (rows n ws) (rows_from ws n row) old new → Tells flows.On flows.On (text (rows n ws)) old new
+pub rows_end : (ws : List ℕ) (n row : ℕ) (old new : Option (List ℕ)) → row ≡ n → WritesSo (rows n ws) (rows_from ws n row) old new
+    → Tells flows.On flows.On (text (rows n ws)) old new
 rows_end ws n row old new e w =
     let none : n - row ≡ 0 = omega arith in
     writes_end (rows n ws) (rows_from ws n row) old new (ap (λ k. rows k (drop (row * 8) ws)) none) w
@@ -280,17 +299,20 @@ row_within ws from count n k h e f l = let m : min 8 (count - from) ≤ count - 
 pub row_past : (ws : List ℕ) (i : ℕ) → i < length ws → None ≡ slice_get ws i → ⊥
 row_past ws i l h = let some : None ≡ Some (get_or ws i 0) = h ∙ slice_get-get_or ws i 0 l in cc
 
-pub row_next : (ws us vs : List ℕ) (from k w : ℕ) → from + k < length ws → Some w ≡ slice_get ws (from + k) → us ≡ take k (drop from ws) → vs ≡ us ++ w ∷ [] → vs ≡ take (k + 1) (drop from ws)
+pub row_next : (ws us vs : List ℕ) (from k w : ℕ) → from + k < length ws → Some w ≡ slice_get ws (from + k) → us ≡ take k (drop from ws)
+    → vs ≡ us ++ w ∷ [] → vs ≡ take (k + 1) (drop from ws)
 row_next ws us vs from k w h g e f =
     let l : length (drop from ws) ≡ length ws - from = length-drop from ws in
     let within : k < length (drop from ws) = omega (arith, l, h) in
     let here : get_or (drop from ws) k 0 ≡ w = get_or-drop from ws k 0 ∙ get_or_from_slice_get ws (from + k) w 0 (sym g) in
-    f ∙ ap (λ x. x ++ w ∷ []) e ∙ ap (λ x. take k (drop from ws) ++ x ∷ []) (sym here) ∙ sym (take-suc (drop from ws) k 0 within) ∙ ap (λ n. take n (drop from ws)) (sym (add-one-is k))
+    f ∙ ap (λ x. x ++ w ∷ []) e ∙ ap (λ x. take k (drop from ws) ++ x ∷ []) (sym here) ∙ sym (take-suc (drop from ws) k 0 within)
+    ∙ ap (λ n. take n (drop from ws)) (sym (add-one-is k))
   where
     add-one-is : (n : ℕ) → n + 1 ≡ suc n
     add-one-is n = omega arith
 
-pub row_end : (ws us : List ℕ) (from count n k : ℕ) → count ≡ length ws → n ≡ min 8 (count - from) → k ≡ n → us ≡ take k (drop from ws) → us ≡ take 8 (drop from ws)
+pub row_end : (ws us : List ℕ) (from count n k : ℕ) → count ≡ length ws → n ≡ min 8 (count - from) → k ≡ n → us ≡ take k (drop from ws)
+    → us ≡ take 8 (drop from ws)
 row_end ws us from count n k h e f g =
     let l : length (drop from ws) ≡ length ws - from = length-drop from ws in
     let same : count - from ≡ length (drop from ws) = omega (arith, l, h) in
@@ -305,15 +327,18 @@ length_found : (b : Bool) (ws : List ℕ) → b ≡ true → unwrap_or (length_i
 length_found true ws h = refl
 length_found false ws h = cc
 
-pub word_stood : (old now : World) (id k : ℕ) (o : Option ℕ) → Stood old now → is_file (entry_at old.files id) ≡ true → o ≡ word_if (is_file (entry_at now.files id)) (words_at now.files id) k
+pub word_stood : (old now : World) (id k : ℕ) (o : Option ℕ) → Stood old now → is_file (entry_at old.files id) ≡ true
+    → o ≡ word_if (is_file (entry_at now.files id)) (words_at now.files id) k
     → o ≡ slice_get (words_at old.files id) k
 word_stood old now id k o s h e =
     e ∙ ap (λ t. word_if (is_file (entry_at t id)) (words_at t id) k) s.files ∙ word_found (is_file (entry_at old.files id)) (words_at old.files id) k h
 
-pub length_stood : (old now : World) (id n : ℕ) (o : Option ℕ) → Stood old now → is_file (entry_at old.files id) ≡ true → o ≡ length_if (is_file (entry_at now.files id)) (words_at now.files id) → n ≡ unwrap_or o 0
+pub length_stood : (old now : World) (id n : ℕ) (o : Option ℕ) → Stood old now → is_file (entry_at old.files id) ≡ true
+    → o ≡ length_if (is_file (entry_at now.files id)) (words_at now.files id) → n ≡ unwrap_or o 0
     → n ≡ length (words_at old.files id)
 length_stood old now id n o s h e f =
-    f ∙ ap (λ x. unwrap_or x 0) (e ∙ ap (λ t. length_if (is_file (entry_at t id)) (words_at t id)) s.files) ∙ length_found (is_file (entry_at old.files id)) (words_at old.files id) h
+    f ∙ ap (λ x. unwrap_or x 0) (e ∙ ap (λ t. length_if (is_file (entry_at t id)) (words_at t id)) s.files)
+    ∙ length_found (is_file (entry_at old.files id)) (words_at old.files id) h
 
 -- words that are added one after another: the first call performs the pending parts of a close
 help_lands : (v then : State) (m : Machine) → then ≡ with_raw (help v) m → help then ≡ then
@@ -329,7 +354,8 @@ added_first m l n w ws h = ap (λ r. and_then r (λ k. with_words_added k n ws))
 refused_first : (m : Machine) (n : Names) (w : ℕ) (ws : List ℕ) (r : Reason) → with_word_added m n w ≡ Err r → with_words_added m n (w ∷ ws) ≡ Err r
 refused_first m n w ws r h = ap (λ x. and_then x (λ k. with_words_added k n ws)) h
 
-pub adding_next : (v now then : State) (n : Names) (k x : ℕ) (words : List ℕ) → k < length words → x ≡ slice_index words k → AddSo v now n k words (drop k words)
+pub adding_next : (v now then : State) (n : Names) (k x : ℕ) (words : List ℕ) → k < length words → x ≡ slice_index words k
+    → AddSo v now n k words (drop k words)
     → Lands (help now) then (with_word_added (help now).raw n x) → AddSo v then n (k + 1) words (drop (k + 1) words)
 adding_next v now then n k x words h e so d =
     let still : help then ≡ then = help_lands now then then.raw d.rest in
@@ -337,7 +363,8 @@ adding_next v now then n k x words h e so d =
     record {
       raw = still ∙ d.rest ∙ ap (λ y. with_raw y then.raw) so.raw ∙ ap (λ y. with_raw v y.raw) (sym still);
       reached = λ z. sym still;
-      whole = ap (λ y. with_words_added y.raw n (drop (k + 1) words)) still ∙ sym (added_first (help now).raw then.raw n (slice_index words k) (drop (k + 1) words) added)
+      whole = ap (λ y. with_words_added y.raw n (drop (k + 1) words)) still
+          ∙ sym (added_first (help now).raw then.raw n (slice_index words k) (drop (k + 1) words) added)
           ∙ ap (with_words_added (help now).raw n) (sym (front words k h)) ∙ so.whole;
     }
 
@@ -346,7 +373,8 @@ pub adding_fails : (v now : State) (n : Names) (k : ℕ) (r : Reason) (words : L
 adding_fails v now n k r words h so g =
     sym so.whole ∙ ap (with_words_added (help now).raw n) (front words k h) ∙ refused_first (help now).raw n (slice_index words k) (drop (k + 1) words) r g
 
-pub adding_end : (v now : State) (n : Names) (k : ℕ) (words rest : List ℕ) → 0 < k → rest ≡ [] → AddSo v now n k words rest → Lands v now (with_words_added v.raw n words)
+pub adding_end : (v now : State) (n : Names) (k : ℕ) (words rest : List ℕ) → 0 < k → rest ≡ [] → AddSo v now n k words rest
+    → Lands v now (with_words_added v.raw n words)
 adding_end v now n k words rest h e so =
     let here = so.reached h in
     record {
@@ -359,7 +387,8 @@ found_same : (n : Names) (f : File) (fs : List File) → file_named n fs ≡ Som
 found_same n f [] h = cc
 found_same n f (g ∷ gs) h = go (same_names n g.names) refl h (found_same n f gs)
   where
-    go : (b : Bool) → same_names n g.names ≡ b → cond b (Some g) (file_named n gs) ≡ Some f → (file_named n gs ≡ Some f → same_names n f.names ≡ true) → same_names n f.names ≡ true
+    go : (b : Bool) → same_names n g.names ≡ b → cond b (Some g) (file_named n gs) ≡ Some f
+        → (file_named n gs ≡ Some f → same_names n f.names ≡ true) → same_names n f.names ≡ true
     go true e h rest = let same : g ≡ f = cc in ap (λ (x : File). same_names n x.names) (sym same) ∙ e
     go false e h rest = rest h
 
@@ -392,10 +421,12 @@ module _ (old mid : World) (e : state_of mid ≡ help (state_of old)) (files : m
   adds_same : (n : Names) (id w : ℕ) → file_named n (plain (state_of old)).files ≡ Some (file_at mid.files id)
       → with_word_added (help (state_of mid)).raw (names_at (after_help mid.files) id) w ≡ with_word_added (help (state_of old)).raw n w
   adds_same n id w h =
-      ap (λ v. with_word_added v.raw (names_at (after_help mid.files) id) w) mid_helped ∙ ap (λ s. with_word_added (help (state_of old)).raw (names_at s id) w) mid_same
+      ap (λ v. with_word_added v.raw (names_at (after_help mid.files) id) w) mid_helped
+      ∙ ap (λ s. with_word_added (help (state_of old)).raw (names_at s id) w) mid_same
       ∙ added_by (help (state_of old)).raw n (file_at mid.files id) w (ap (file_named n) (sym (found_files (state_of old))) ∙ h)
 
-  pub adds_done : {T : Type 0} (result : Result T Refusal) (then : World) (n : Names) (id w : ℕ) → file_named n (plain (state_of old)).files ≡ Some (file_at mid.files id)
+  pub adds_done : {T : Type 0} (result : Result T Refusal) (then : World) (n : Names) (id w : ℕ)
+      → file_named n (plain (state_of old)).files ≡ Some (file_at mid.files id)
       → OnOk result (Lands (help (state_of mid)) (state_of then) (with_word_added (help (state_of mid)).raw (names_at (after_help mid.files) id) w))
       → OnOk result (Lands (help (state_of old)) (state_of then) (with_word_added (help (state_of old)).raw n w))
   adds_done (Ok x) then n id w h l =
@@ -410,7 +441,8 @@ module _ (old mid : World) (e : state_of mid ≡ help (state_of old)) (files : m
   adds_refused (Err r) n id w h f = sym (adds_same n id w h) ∙ f.calmed
 
   -- if there is no file with these names, nothing is added
-  pub adds_nothing : (n : Names) (w : ℕ) → file_named n (plain (state_of old)).files ≡ None → Lands (help (state_of old)) (state_of mid) (with_word_added (help (state_of old)).raw n w)
+  pub adds_nothing : (n : Names) (w : ℕ) → file_named n (plain (state_of old)).files ≡ None
+      → Lands (help (state_of old)) (state_of mid) (with_word_added (help (state_of old)).raw n w)
   unfolding with_word_added
   adds_nothing n w h = record {
     is = ap (with_word_added_to (help (state_of old)).raw n w) (ap (file_named n) (sym (found_files (state_of old))) ∙ h) ∙ ap (λ v. Ok v.raw) (sym e);

@@ -9,19 +9,19 @@ use Rattle.its_records.specs.declared.calls.Pace.TheVariants.{Step, Work, Wait, 
 use Rattle.its_records.specs.declared.session.Event.{Event}
 use Rattle.its_print.specs.Printing.{Line}
 use Rattle.its_print.specs.Printing as printed
-use Rattle.its_plain.specs.OperatorLines.{Lined, Done, Peeks, lined}
-use Rattle.its_plain.specs.Course.{Lines, Letter, Course, rests, onward, after_step, paced, letters, turned_by, turned, past, course, run_of}
-use Rattle.its_plain.specs.Ledger.{typed_by, typed_at, byte_of, drained_by, Balanced, Ledger}
-use Rattle.its_plain.specs.Ledger as books
+use Rattle.its_plain.specs.Operator.Lines.{Lined, Done, Peeks, lined}
+use Rattle.its_plain.specs.Transcript.Course.{Lines, Letter, Course, rests, onward, after_step, paced, letters, turned_by, turned, past, course, run_of}
+use Rattle.its_plain.specs.Promise.Ledger.{typed_by, typed_at, byte_of, drained_by, Balanced, Ledger}
+use Rattle.its_plain.specs.Promise.Ledger as books
 use Rattle.its_plain.specs.Machine.{Machine, no_machine}
 use Rattle.its_plain.specs.Operator.{Refuses, Does, Ticks, Quits}
 use Rattle.its_plain.specs.Transcript.{Fate, Walk, at_start, after_letter, walk_after, next_line, Transcript}
-use Rattle.its_plain.specs.Turns.{turn_after, highest, turns_asked, ticks_asked}
+use Rattle.its_plain.specs.Transcript.Turns.{turn_after, highest, turns_asked, ticks_asked}
 use Rattle.its_plain.proofs.RunLaws.{PacedOn, TurnBy, TurnsOn, LinedOn, Run, shows_run}
 use Rattle.its_top.proofs.MoveLaws.{Passes, step_passes}
 use Rattle.its_top.proofs.ShownLaws.{Shows, ShowsBy, Few, line_shows}
-use Rattle.its_plain.specs.Moves.{Inward, Outward}
-use Rattle.its_plain.specs.CallStep.{moves}
+use Rattle.its_plain.specs.Call.Moves.{Inward, Outward}
+use Rattle.its_plain.specs.Call.Step.{moves}
 
 -- the ledger of console c from machine m on, along a run that shows these lines
 record From (c : ℕ) (m : Machine) (u : Course) (lines : List Line) : Type 0 where
@@ -39,7 +39,8 @@ from_rest c k v lines none = record {
 }
 
 -- first a step of slot i, which leads to machine n
-from_step : (c i k : ℕ) (v : Walk) (n : Machine) (u : Course) (lines : List Line) → Passes (v.machine.consoles c) (n.consoles c) (moves v.machine i) c → From c n u lines
+from_step : (c i k : ℕ) (v : Walk) (n : Machine) (u : Course) (lines : List Line)
+    → Passes (v.machine.consoles c) (n.consoles c) (moves v.machine i) c → From c n u lines
     → From c v.machine (onward (at k v) (Letter i Step) u) lines
 from_step c i k v n u lines h f =
     let m = v.machine in
@@ -84,7 +85,8 @@ step_few m n i c h few =
 
 -- what goes on after the letters of a `T` line goes on from here
 from_letters : (c i k : ℕ) (v : Walk) (ps : List Pace) (next : Walk → Type 0) (walk : Walk → Course) (lines : List Line) → Few c v.machine
-    → PacedOn v i ps next → ((w : Walk) → Few c w.machine → next w → From c w.machine (walk (at k w)) lines) → From c v.machine (paced (at k v) i ps walk) lines
+    → PacedOn v i ps next → ((w : Walk) → Few c w.machine → next w → From c w.machine (walk (at k w)) lines)
+    → From c v.machine (paced (at k v) i ps walk) lines
 from_letters c i k v [] next walk lines few t h = h v few t
 from_letters c i k v (Step ∷ ps) next walk lines few t h =
     let n = t.0 in
@@ -110,8 +112,10 @@ from_letters c i k v (Off ∷ ps) next walk lines few t h =
 abbrev GoesOn : ℕ → ℕ → (Walk → ℕ → List Line → Type 0) → (Walk → ℕ → List Line → Course) → Type 0
 GoesOn c k next more = (w : Walk) (l : ℕ) (rest : List Line) → Few c w.machine → next w l rest → From c w.machine (more (at k w) l rest) rest
 
-from_turn : (c k q last : ℕ) (v : Walk) (o : Option ℕ) (next : Walk → ℕ → List Line → Type 0) (done : Type 0) (more : Walk → ℕ → List Line → Course) (end : Course) (lines : List Line)
-    → Few c v.machine → GoesOn c k next more → (done → From c v.machine end lines) → TurnBy q v o next done lines → From c v.machine (turned_by o (at k v) lines more end) lines
+from_turn : (c k q last : ℕ) (v : Walk) (o : Option ℕ) (next : Walk → ℕ → List Line → Type 0) (done : Type 0)
+    (more : Walk → ℕ → List Line → Course) (end : Course) (lines : List Line)
+    → Few c v.machine → GoesOn c k next more → (done → From c v.machine end lines) → TurnBy q v o next done lines
+    → From c v.machine (turned_by o (at k v) lines more end) lines
 from_turn c k q last v None next done more end lines few h d t = d t
 from_turn c k q last v (Some s) next done more end lines few h d t =
     let ps = t.0 in
@@ -121,15 +125,18 @@ from_turn c k q last v (Some s) next done more end lines few h d t =
     let g = from_shown c v.machine (paced (at k v) s ps walk) (printed.Ticks s ps) rest refl f in
     subst (λ ls. From c v.machine (turned_by (Some s) (at k v) ls more end) ls) (sym t.2) (record { input = g.input; output = g.output })
 
-from_turns : (c k n q last : ℕ) (v : Walk) (next : Walk → ℕ → List Line → Type 0) (more : Walk → ℕ → List Line → Course) (lines : List Line) → Few c v.machine → GoesOn c k next more
+from_turns : (c k n q last : ℕ) (v : Walk) (next : Walk → ℕ → List Line → Type 0) (more : Walk → ℕ → List Line → Course) (lines : List Line)
+    → Few c v.machine → GoesOn c k next more
     → TurnsOn n q v last next lines → From c v.machine (turned n (at k v) last lines more) lines
 from_turns c k zero q last v next more lines few h t = h v last lines few t
 from_turns c k (suc n) q last v next more lines few h t =
-    from_turn c k q last v (turn_after v.machine last) (λ w s rest. TurnsOn n q w s next rest) (next v last lines) (λ w s rest. turned n w s rest more) (more (at k v) last lines) lines few
+    from_turn c k q last v (turn_after v.machine last) (λ w s rest. TurnsOn n q w s next rest) (next v last lines)
+    (λ w s rest. turned n w s rest more) (more (at k v) last lines) lines few
     (λ w s rest few' x. from_turns c k n q s w next more rest few' h x) (λ x. h v last lines few x) t
 
 -- a line, if the lines after it go on
-from_lined : (c k : ℕ) (v : Walk) (e : Event) (lines : List Line) (fate : Fate) (l : Lined) (next : Walk → List Line → Type 0) (more : Walk → List Line → Course)
+from_lined : (c k : ℕ) (v : Walk) (e : Event) (lines : List Line) (fate : Fate) (l : Lined) (next : Walk → List Line → Type 0)
+    (more : Walk → List Line → Course)
     → Few c v.machine → ShowsBy c v.machine e l
     → LinedOn v l next lines fate
     → ((w : Walk) (rest : List Line) → Few c w.machine → next w rest → From c w.machine (more (at k w) rest) rest)
@@ -170,7 +177,8 @@ from_run c k v last _ lines fate few t = from_rest c k v lines (ap (flat_map (dr
 balanced : (c : ℕ) (es : List Item) (lines : List Line) (fate : Fate) → Transcript es lines fate → Balanced (run_of es lines) lines c
 unfolding no_machine
 balanced c es lines fate t =
-    let f = from_run c 1 at_start highest es lines fate (omega arith) (shows_run at_start highest es lines fate t) in record { input = f.input; output = f.output }
+    let f = from_run c 1 at_start highest es lines fate (omega arith) (shows_run at_start highest es lines fate t) in record
+    { input = f.input; output = f.output }
 
 -- the lines of a transcript keep the ledger
 pub ledger : (es : List Item) (lines : List Line) (fate : Fate) → Transcript es lines fate → Ledger es lines

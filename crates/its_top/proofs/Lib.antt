@@ -29,3 +29,4 @@ pub mod EndingLaws
 pub mod VouchedLaws
 pub mod PromiseLaws
 pub mod ClauseLaws
+pub mod Groups

@@ -10,14 +10,14 @@ use Rattle.its_frame.specs.declared.change.Change.{Change}
 use Rattle.its_frame.specs.declared.change.Change.TheVariants as changes
 use Rattle.its_frame.specs.declared.decision.Decision.{Decision}
 use Rattle.its_frame.specs.declared.decision.Decision.TheVariants.{Waits, Goes, Ends, Gone}
-use Rattle.its_plain.specs.CallStep.{acted, decision, informs, step, Transition, moves_in, transition, moves}
-use Rattle.its_plain.specs.Change.{rest_of, after_take, after_put, after_removal, effect, effects}
-use Rattle.its_plain.specs.Interrupt.{delivered}
-use Rattle.its_plain.specs.Ledger.{byte_of}
+use Rattle.its_plain.specs.Call.Step.{acted, decision, informs, step, Transition, moves_in, transition, moves}
+use Rattle.its_plain.specs.Machine.Change.{rest_of, after_take, after_put, after_removal, effect, effects}
+use Rattle.its_plain.specs.Unit.Interrupt.{delivered}
+use Rattle.its_plain.specs.Promise.Ledger.{byte_of}
 use Rattle.its_plain.specs.Machine.{Whole, Machine, changed}
-use Rattle.its_plain.specs.CallLink.{words_in}
-use Rattle.its_plain.specs.Moves.{Inward, Outward, AtConsole, AtLink, Move, first_move, moves_of, moves_of_all}
-use Rattle.its_plain.specs.Decide.{reach}
+use Rattle.its_plain.specs.Call.Link.{words_in}
+use Rattle.its_plain.specs.Call.Moves.{Inward, Outward, AtConsole, AtLink, Move, first_move, moves_of, moves_of_all}
+use Rattle.its_plain.specs.Call.Decide.{reach}
 use Rattle.its_plain.proofs.StepLaws.{AllOf, EachCase, transition_has}
 use Rattle.std.proofs.lemmas.Option.{same_Some}
 
@@ -64,7 +64,8 @@ taken_there j d c x bs ne = record {
   output = sym (append-nil x.output) ∙ ap (λ l. x.output ++ l) (sym (first_out j d c bs));
 }
 
-taken_passes : (consoles : ℕ → Console) (j d c : ℕ) → Passes (consoles c) (changed consoles d (after_take (consoles d)) c) (first_move j (AtConsole d) (consoles d).input) c
+taken_passes : (consoles : ℕ → Console) (j d c : ℕ) → Passes (consoles c) (changed consoles d (after_take (consoles d)) c)
+    (first_move j (AtConsole d) (consoles d).input) c
 taken_passes consoles j d c = elim (cases_eq d c) [
   | inl at ↦ rw (at, eq-eqb c c refl) (taken_here j c (consoles c))
   | inr ne ↦ rw (ne_eqb c d (λ e. ne (sym e))) (taken_there j d c (consoles c) (consoles d).input ne)

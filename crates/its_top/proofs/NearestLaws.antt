@@ -5,7 +5,7 @@ use Rattle.std.specs.Prelude.{◌≡◌, ◌≤◌, ◌<◌, ◌&&◌, not, ℕ,
 use Rattle.std.proofs.Common.{sym, ap, subst, arith}
 use Rattle.std.proofs.lemmas.Bool.{ltb-false, ltb-true}
 use Rattle.its_plain.specs.Machine.{Symbol}
-use Rattle.its_plain.specs.OperatorSymbols.{address_of, is_nearer, nearest_after, nearest}
+use Rattle.its_plain.specs.Operator.Symbols.{address_of, is_nearer, nearest_after, nearest}
 
 -- each of some symbols with an address at most the PC has one at most n, or one below n
 abbrev pub Within : ℕ → ℕ → List Symbol → Type 0
@@ -66,11 +66,13 @@ with_first pc x s xs l n = record {
   last = n.last;
 }
 
-behind_taken : (pc : ℕ) (best x : Symbol) (xs : List Symbol) (o : Option Symbol) → address_of x ≤ pc → address_of best ≤ address_of x → Behind pc x xs o → Behind pc best (x ∷ xs) o
+behind_taken : (pc : ℕ) (best x : Symbol) (xs : List Symbol) (o : Option Symbol) → address_of x ≤ pc → address_of best ≤ address_of x
+    → Behind pc x xs o → Behind pc best (x ∷ xs) o
 behind_taken pc best x xs o l le (Keeps e below) = Gives x e le (with_best pc x xs l below)
 behind_taken pc best x xs o l le (Gives s e more n) = Gives s e (omega arith) (with_first pc x s xs (λ h. more) n)
 
-behind_passed : (pc : ℕ) (best x : Symbol) (xs : List Symbol) (o : Option Symbol) → (address_of x ≤ pc → address_of x < address_of best) → Behind pc best xs o → Behind pc best (x ∷ xs) o
+behind_passed : (pc : ℕ) (best x : Symbol) (xs : List Symbol) (o : Option Symbol) → (address_of x ≤ pc → address_of x < address_of best)
+    → Behind pc best xs o → Behind pc best (x ∷ xs) o
 behind_passed pc best x xs o l (Keeps e below) = Keeps e (l, below)
 behind_passed pc best x xs o l (Gives s e more n) = Gives s e more (with_first pc x s xs (λ h. let less = l h in omega arith) n)
 

@@ -21,14 +21,16 @@ pacing_end m now s n k ps e so =
     (sym (ap (λ x. ps ++ paces_of now s x) z ∙ append-nil ps) ∙ so.letters, sym (ap (after_ticks now s) z) ∙ so.state)
 
 -- some ticks, and then others
-ticks_split : (m : State) (s a b c : ℕ) → c ≡ a + b → (paces_of m s c ≡ paces_of m s a ++ paces_of (after_ticks m s a) s b) × (after_ticks m s c ≡ after_ticks (after_ticks m s a) s b)
+ticks_split : (m : State) (s a b c : ℕ) → c ≡ a + b → (paces_of m s c ≡ paces_of m s a ++ paces_of (after_ticks m s a) s b)
+    × (after_ticks m s c ≡ after_ticks (after_ticks m s a) s b)
 ticks_split m s zero b c e = let h : c ≡ b = omega arith in (ap (paces_of m s) h, ap (after_ticks m s) h)
 ticks_split m s (suc a) b c e =
     let h : c ≡ suc (a + b) = omega arith in
     let t = ticks_split (tick m s).state s a b (a + b) refl in
     (ap (paces_of m s) h ∙ ap (λ ps. (tick m s).pace ∷ ps) t.0, ap (after_ticks m s) h ∙ t.1)
 
-pacing_some : (m now next : State) (s n k j : ℕ) (ps qs : List Pace) → k + j ≤ n → PacesSo m now s n k ps → next ≡ after_ticks now s j → qs ≡ ps ++ paces_of now s j
+pacing_some : (m now next : State) (s n k j : ℕ) (ps qs : List Pace) → k + j ≤ n → PacesSo m now s n k ps → next ≡ after_ticks now s j
+    → qs ≡ ps ++ paces_of now s j
     → PacesSo m next s n (k + j) qs
 pacing_some m now next s n k j ps qs h so e g =
     let t = ticks_split now s j (n - (k + j)) (n - k) (omega arith) in
@@ -51,7 +53,8 @@ runs_more (q ∷ rs) r =
 
 -- the letters of one run
 run_letters : (r : Run) → paces_in (r ∷ []) ≡ replicate (1 + r.more) r.pace
-run_letters r = let one : suc r.more ≡ 1 + r.more = omega arith in ap (λ ps. r.pace ∷ ps) (append-nil (replicate r.more r.pace)) ∙ ap (λ k. replicate k r.pace) one
+run_letters r = let one : suc r.more ≡ 1 + r.more = omega arith in ap (λ ps. r.pace ∷ ps) (append-nil (replicate r.more r.pace))
+    ∙ ap (λ k. replicate k r.pace) one
 
 -- a count of letters is put after the runs, if it is not 0
 pub put_none : (rs : List Run) (p : Pace) (n : ℕ) → n ≤ 0 → paces_in rs ≡ paces_in rs ++ replicate n p
@@ -68,7 +71,8 @@ replicate_more : (a b : ℕ) (p : Pace) → replicate (a + b) p ≡ replicate a 
 replicate_more zero b p = let e : zero + b ≡ b = omega arith in ap (λ k. replicate k p) e
 replicate_more (suc a) b p = let e : suc a + b ≡ suc (a + b) = omega arith in ap (λ k. replicate k p) e ∙ ap (λ ps. p ∷ ps) (replicate_more a b p)
 
-pub same_letter : (m now next : State) (s n k c : ℕ) (ps : List Pace) (p : Pace) (r : Run) → k + (1 + r.more) ≤ n → PacesSo m now s n k (ps ++ replicate c p) → next ≡ after_ticks now s (1 + r.more)
+pub same_letter : (m now next : State) (s n k c : ℕ) (ps : List Pace) (p : Pace) (r : Run) → k + (1 + r.more) ≤ n
+    → PacesSo m now s n k (ps ++ replicate c p) → next ≡ after_ticks now s (1 + r.more)
     → paces_in (r ∷ []) ≡ paces_of now s (1 + r.more) → r.pace ≡ p → PacesSo m next s n (k + (1 + r.more)) (ps ++ replicate (c + (1 + r.more)) p)
 same_letter m now next s n k c ps p r h so e f same =
     pacing_some m now next s n k (1 + r.more) (ps ++ replicate c p) (ps ++ replicate (c + (1 + r.more)) p) h so e
@@ -76,7 +80,8 @@ same_letter m now next s n k c ps p r h so e f same =
     ∙ ap (λ x. (ps ++ replicate c p) ++ replicate (1 + r.more) x) (sym same) ∙ ap (λ qs. (ps ++ replicate c p) ++ qs) (sym (run_letters r) ∙ f))
 
 -- they are others
-pub other_letter : (m now next : State) (s n k c : ℕ) (ps qs : List Pace) (p : Pace) (r : Run) → k + (1 + r.more) ≤ n → PacesSo m now s n k (ps ++ replicate c p) → next ≡ after_ticks now s (1 + r.more)
+pub other_letter : (m now next : State) (s n k c : ℕ) (ps qs : List Pace) (p : Pace) (r : Run) → k + (1 + r.more) ≤ n
+    → PacesSo m now s n k (ps ++ replicate c p) → next ≡ after_ticks now s (1 + r.more)
     → paces_in (r ∷ []) ≡ paces_of now s (1 + r.more) → qs ≡ ps ++ replicate c p → PacesSo m next s n (k + (1 + r.more)) (qs ++ replicate (1 + r.more) r.pace)
 other_letter m now next s n k c ps qs p r h so e f g =
     pacing_some m now next s n k (1 + r.more) (ps ++ replicate c p) (qs ++ replicate (1 + r.more) r.pace) h so e
@@ -91,10 +96,12 @@ same_pace Off Off h = refl
 same_pace _ _ h = absurd cc
 
 -- the letters that were made, with their numbers under other names
-pub pacing_as : (m next : State) (s n k j c d : ℕ) (ps qs : List Pace) (p q : Pace) → PacesSo m next s n k (ps ++ replicate c p) → j ≡ k → qs ≡ ps → d ≡ c → q ≡ p
+pub pacing_as : (m next : State) (s n k j c d : ℕ) (ps qs : List Pace) (p q : Pace) → PacesSo m next s n k (ps ++ replicate c p) → j ≡ k
+    → qs ≡ ps → d ≡ c → q ≡ p
     → PacesSo m next s n j (qs ++ replicate d q)
 pacing_as m next s n k j c d ps qs p q so e f g h =
-    let all : qs ++ replicate d q ≡ ps ++ replicate c p = ap (λ x. x ++ replicate d q) f ∙ ap (λ x. ps ++ replicate x q) g ∙ ap (λ x. ps ++ replicate c x) h in
+    let all : qs ++ replicate d q ≡ ps ++ replicate c p = ap (λ x. x ++ replicate d q) f ∙ ap (λ x. ps ++ replicate x q) g
+    ∙ ap (λ x. ps ++ replicate c x) h in
     subst (λ x. PacesSo m next s n x (qs ++ replicate d q)) (sym e) (subst (λ xs. PacesSo m next s n k xs) (sym all) so)
 
 -- as many letters as ticks
@@ -114,7 +121,8 @@ pub one_more : (m next : State) (s : ℕ) (p : Pace) → next ≡ (tick m s).sta
     → (next ≡ after_ticks m s (1 + 0)) × (paces_in (record { pace = p; more = 0 } ∷ []) ≡ paces_of m s (1 + 0))
 one_more m next s p e f = (e, ap (λ x. x ∷ []) f)
 
-pub one_and_more : (m mid next : State) (s k : ℕ) (p : Pace) → mid ≡ (tick m s).state → p ≡ (tick m s).pace → next ≡ after_ticks mid s k → paces_of mid s k ≡ replicate k p
+pub one_and_more : (m mid next : State) (s k : ℕ) (p : Pace) → mid ≡ (tick m s).state → p ≡ (tick m s).pace → next ≡ after_ticks mid s k
+    → paces_of mid s k ≡ replicate k p
     → (next ≡ after_ticks m s (1 + k)) × (paces_in (record { pace = p; more = k } ∷ []) ≡ paces_of m s (1 + k))
 one_and_more m mid next s k p e f h i =
     let one : suc k ≡ 1 + k = omega arith in (
@@ -124,8 +132,6 @@ one_and_more m mid next s k p e f h i =
     )
 
 -- a slot that waits: n letters at once
-pub all_wait : (m : State) (s n : ℕ) (rs qs : List Run) (p : Pace) → rs ≡ [] → paces_in qs ≡ paces_in rs ++ replicate n p → paces_of m s n ≡ replicate n p → paces_in qs ≡ paces_of m s n
+pub all_wait : (m : State) (s n : ℕ) (rs qs : List Run) (p : Pace) → rs ≡ [] → paces_in qs ≡ paces_in rs ++ replicate n p
+    → paces_of m s n ≡ replicate n p → paces_in qs ≡ paces_of m s n
 all_wait m s n rs qs p e f g = f ∙ ap (λ xs. paces_in xs ++ replicate n p) e ∙ sym g
-
-pub no_letters : (rs : List Run) → rs ≡ [] → length (paces_in rs) ≤ 512
-no_letters rs e = omega (arith, ap (λ xs. length (paces_in xs)) e)

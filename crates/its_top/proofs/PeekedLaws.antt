@@ -19,14 +19,14 @@ use Rattle.its_session.specs.Events.{end_of, events_of, item_then, items_from, l
 use Rattle.its_session.specs.Fits.{EventFits}
 use Rattle.its_session.specs.Grammar.{event_of_words, last_slot, line_event}
 use Rattle.its_session.proofs.FitsLaws.{later_fits, words_fit}
-use Rattle.its_plain.specs.Licence.{Dots, dots_after_line}
+use Rattle.its_plain.specs.Transcript.Licence.{Dots, dots_after_line}
 use Rattle.its_plain.specs.Machine.{File, Machine, Whole, no_machine}
-use Rattle.its_plain.specs.Own.{names_of}
+use Rattle.its_plain.specs.Machine.Own.{names_of}
 use Rattle.its_plain.specs.Operator.{Block, no_block, Refuses, Does, Ticks, Quits, disturbs, quietly}
-use Rattle.its_plain.specs.CallFile.{file_named}
-use Rattle.its_plain.specs.OperatorFiles.{file_shown, filed_line, files_in, rows, shown_by}
-use Rattle.its_plain.specs.OperatorLines.{Lined, Done, Peeks, by_clock, by_exam, by_load, by_state, in_a_line, lined, operate, peeked_at, shows}
-use Rattle.its_plain.specs.Turns.{highest, turn_after, turns_asked, ticks_asked}
+use Rattle.its_plain.specs.Call.File.{file_named}
+use Rattle.its_plain.specs.Operator.Files.{file_shown, filed_line, files_in, rows, shown_by}
+use Rattle.its_plain.specs.Operator.Lines.{Lined, Done, Peeks, by_clock, by_exam, by_load, by_state, in_a_line, lined, operate, peeked_at, shows}
+use Rattle.its_plain.specs.Transcript.Turns.{highest, turn_after, turns_asked, ticks_asked}
 use Rattle.its_plain.proofs.FairLaws.{turn_within}
 use Rattle.its_word.specs.Limits.{slots}
 use Rattle.its_stepped.specs.Calling.{Decoding}
@@ -36,10 +36,10 @@ use Rattle.its_stepped.specs.Sound.{Sound}
 use Rattle.its_stepped.specs.State.{State, no_state}
 use Rattle.its_stepped.specs.Tick.{tick}
 use Rattle.its_stepped.specs.Unwind.{left}
-use Rattle.its_stepped.proofs.SessionLaws.{HoldsAfter, Upkeep}
-use Rattle.its_stepped.proofs.UnwindLaws.{few_left}
-use Rattle.its_stepped.proofs.UpkeepLaws.{Good, upkeep}
-use Rattle.its_stepped.proofs.WrittenLaws.{lasting}
+use Rattle.its_stepped.proofs.Running.SessionLaws.{HoldsAfter, Upkeep}
+use Rattle.its_stepped.proofs.Unwinding.UnwindLaws.{few_left}
+use Rattle.its_stepped.proofs.Running.UpkeepLaws.{Good, upkeep}
+use Rattle.its_stepped.proofs.Running.WrittenLaws.{lasting}
 
 -- a line that is short if it is a peek
 abbrev pub Small : Line → Type 0
@@ -83,7 +83,8 @@ line_fits place v line =
     elim (cases_Bool (leb (length line) 255)) [
       | inl short ↦
           elim (cases_Bool (list_all (is_code 32 126) line)) [
-            | inl printable ↦ rw (short, printable) (ok_fits v (event_of_words place v (words_of line)) (words_fit place v (words_of line) (event_of_words place v (words_of line)) refl))
+            | inl printable ↦ rw (short, printable) (ok_fits v (event_of_words place v (words_of line))
+                (words_fit place v (words_of line) (event_of_words place v (words_of line)) refl))
             | inr other ↦ rw (short, other) tt
           ]
       | inr longer ↦ rw longer tt
@@ -152,7 +153,8 @@ clock_shown : (m : Machine) (b : Block) (n : ℕ) (r : Result Machine Reason) �
 clock_shown m b n (Ok k) = tt
 clock_shown m b n (Err r) = tt
 
-exam_shown : (m : Machine) (b : Block) (s : ℕ) (show : List ℕ → List Line) (r : Result (List ℕ) Reason) → ((ws : List ℕ) → AllSmall (show ws)) → Shown (Done (by_exam m b s show r))
+exam_shown : (m : Machine) (b : Block) (s : ℕ) (show : List ℕ → List Line) (r : Result (List ℕ) Reason)
+    → ((ws : List ℕ) → AllSmall (show ws)) → Shown (Done (by_exam m b s show r))
 exam_shown m b s show (Ok ws) h = h ws
 exam_shown m b s show (Err r) h = tt
 
@@ -208,7 +210,8 @@ module _ (decoding : Decoding) where
   abbrev u : Upkeep Fine
   u = upkeep (lasting decoding)
 
-  ticks_small : (w : State) (d : Dots) (i k : ℕ) (lines : State → List Line) → Fine d w → ((f : Dots) → Fine f (after_ticks w i k) → AllSmall (lines (after_ticks w i k))) → AllSmall (lines (after_ticks w i k))
+  ticks_small : (w : State) (d : Dots) (i k : ℕ) (lines : State → List Line) → Fine d w
+      → ((f : Dots) → Fine f (after_ticks w i k) → AllSmall (lines (after_ticks w i k))) → AllSmall (lines (after_ticks w i k))
   ticks_small w d i zero lines g h = h d g
   ticks_small w d i (suc k) lines g h = ticks_small (tick w i).state _ i k lines (u.ticks d w i g) h
 
@@ -216,16 +219,19 @@ module _ (decoding : Decoding) where
   abbrev Next : (State → ℕ → Told) → Type 0
   Next next = (w' : State) (f : Dots) (l : ℕ) → Fine f w' → l < slots → AllSmall (next w' l).lines
 
-  turn_small : (q last : ℕ) (w : State) (d : Dots) (next : State → ℕ → Told) (done : Told) (o : Option ℕ) → last < slots → turn_after w.raw last ≡ o → Fine d w → Next next
+  turn_small : (q last : ℕ) (w : State) (d : Dots) (next : State → ℕ → Told) (done : Told) (o : Option ℕ) → last < slots
+      → turn_after w.raw last ≡ o → Fine d w → Next next
       → AllSmall done.lines → AllSmall (turned_by o q w next done).lines
   turn_small q last w d next done None l is g h k = k
   turn_small q last w d next done (Some s) l is g h k =
       (tt, ticks_small w d s q (λ x. (next x s).lines) g (λ f good. h (after_ticks w s q) f s good (turn_within w.raw last s l is)))
 
-  turns_small : (n q last : ℕ) (w : State) (d : Dots) (next : State → ℕ → Told) → last < slots → Fine d w → Next next → AllSmall (turned n q w last next).lines
+  turns_small : (n q last : ℕ) (w : State) (d : Dots) (next : State → ℕ → Told) → last < slots → Fine d w → Next next
+      → AllSmall (turned n q w last next).lines
   turns_small zero q last w d next l g h = h w d last g l
   turns_small (suc n) q last w d next l g h =
-      turn_small q last w d (λ v s. turned n q v s next) (next w last) (turn_after w.raw last) l refl g (λ w' f s good at. turns_small n q s w' f next at good h) (h w d last g l)
+      turn_small q last w d (λ v s. turned n q v s next) (next w last) (turn_after w.raw last) l refl g
+      (λ w' f s good at. turns_small n q s w' f next at good h) (h w d last g l)
 
   line_small : (n : ℕ) (w v : State) (d : Dots) (b : Block) (l : Lined) (next : State → Block → Told) → Fine d w → HoldsAfter Fine d v l → Shown l
       → ((w' : State) (f : Dots) (c : Block) → Fine f w' → AllSmall (next w' c).lines)
@@ -237,11 +243,13 @@ module _ (decoding : Decoding) where
   line_small n w v d b (Done Quits) next g a s h = tt
   line_small n w v d b (Peeks i) next g a s h = ((s, peek_small w i g.sound), h w d b g)
 
-  told_small : (n : ℕ) (w : State) (d : Dots) (b : Block) (last : ℕ) (es : List Item) → last < slots → Fine d w → AllFit es → AllSmall (told n w b last es).lines
+  told_small : (n : ℕ) (w : State) (d : Dots) (b : Block) (last : ℕ) (es : List Item) → last < slots → Fine d w → AllFit es
+      → AllSmall (told n w b last es).lines
   told_small n w d b last [] l g fit = tt
   told_small n w d b last (Read e ∷ es) l g fit =
       line_small n w (after_calm w b e) d b (lined (after_calm w b e).raw b e) _ g (u.after d w b e g) (lined_shown (after_calm w b e).raw b e fit.0)
-      (λ w' f c good. turns_small (turns_asked e) (ticks_asked e) last w' f (λ x i. told (n + 1) x c i es) l good (λ x g i fine at. told_small (n + 1) x g c i es at fine fit.1))
+      (λ w' f c good. turns_small (turns_asked e) (ticks_asked e) last w' f (λ x i. told (n + 1) x c i es) l good
+      (λ x g i fine at. told_small (n + 1) x g c i es at fine fit.1))
   told_small n w d b last (Unread r ∷ es) l g fit = (tt, tt)
   told_small n w d b last (Beyond ∷ es) l g fit = tt
 

@@ -1,10 +1,10 @@
 -- The promises of the top call, command by command, from what was done for the command.
 use Rattle.std.specs.Prelude.{◌≡◌, ◌≢◌, ◌⊎◌, ℕ, ◌+◌, Option, Some, None, IfSome, List, refl}
 use Rattle.std.proofs.Common.{subst, inl, inr}
-use Rattle.its_top.specs.declared.commands.Command.{Command}
-use Rattle.its_top.specs.declared.commands.Command.TheVariants as commands
-use Rattle.its_top.specs.declared.status.Status.{Status}
-use Rattle.its_top.specs.declared.status.Status.TheVariants as statuses
+use Rattle.its_top.specs.declared.commands.words.Command.{Command}
+use Rattle.its_top.specs.declared.commands.words.Command.TheVariants as commands
+use Rattle.its_top.specs.declared.commands.status.Status.{Status}
+use Rattle.its_top.specs.declared.commands.status.Status.TheVariants as statuses
 use Rattle.its_top.specs.Commands.{IfGenerates}
 use Rattle.its_top.specs.Conclusion.{Session, WasRun}
 use Rattle.its_top.specs.Outcomes.{AsmSays, CheckSays, Faults, OfAsm, OfCheck, OfGen, OfNoCommand, OfRun, OfVerify, RunSays, Unfailed, VerifySays, WroteAll}
@@ -12,7 +12,7 @@ use Rattle.its_top.specs.Top.{Obeyed}
 use Rattle.its_top.proofs.AssemblingLaws.{asm_answered, asm_begins, asm_breaks, asm_done, asm_ran, asm_refused, asm_too_long}
 use Rattle.its_top.proofs.ObeyLaws.{check_begins, check_breaks, check_complete, check_done, check_ran, check_read, check_refused, check_too_long, gen_begins, gen_done, gen_ends, if_all, no_memory, none_obeyed, unread, usage_begins, usage_only, usage_written}
 use Rattle.its_top.proofs.TopLaws.{session_begins, session_breaks, session_complete, session_done, session_refused, session_too_long, session_transcribed, session_writes, session_written}
-use Rattle.its_top.proofs.VerifyingLaws.{verify_answered, verify_begins, verify_breaks, verify_done, verify_ran, verify_refused, verify_too_long, vouched}
+use Rattle.its_top.proofs.VerifyingLaws.{verify_answered, verify_begins, verify_breaks, verify_done, verify_lacks, verify_ran, verify_refused, verify_too_long, vouched}
 
 -- which answers they are
 wrote_all : (st : Status) → WroteAll st → ((st ≡ statuses.Done) ⊎ (st ≡ statuses.Refused)) ⊎ (st ≡ statuses.TooLong)
@@ -77,7 +77,8 @@ nothing_run bytes rest old new = record {
   complete = λ u d. inr refl;
 }
 
-pub of_run : (d : Option Command) (st : Status) (left rest old new : Option (List ℕ)) → Obeyed d st left rest old new → d ≡ Some commands.Run → OfRun st left rest old new
+pub of_run : (d : Option Command) (st : Status) (left rest old new : Option (List ℕ)) → Obeyed d st left rest old new
+    → d ≡ Some commands.Run → OfRun st left rest old new
 of_run d st left rest old new o c = by st (subst (λ x. Obeyed x st left rest old new) c o)
   where
     by : (t : Status) → Obeyed (Some commands.Run) t left rest old new → OfRun t left rest old new
@@ -85,7 +86,8 @@ of_run d st left rest old new o c = by st (subst (λ x. Obeyed x st left rest ol
     by t o = run_of t left rest old new o.obeys
 
 -- check
-pub of_check : (d : Option Command) (st : Status) (left rest old new : Option (List ℕ)) → Obeyed d st left rest old new → d ≡ Some commands.Check → OfCheck st left rest old new
+pub of_check : (d : Option Command) (st : Status) (left rest old new : Option (List ℕ)) → Obeyed d st left rest old new
+    → d ≡ Some commands.Check → OfCheck st left rest old new
 of_check d st left rest old new o c = record {
   says = told left o;
   command = was_command st (check_ran d st left rest old new o c);
@@ -105,7 +107,8 @@ of_check d st left rest old new o c = record {
     }
 
 -- gen
-pub of_gen : (d : Option Command) (st : Status) (left rest old new : Option (List ℕ)) → Obeyed d st left rest old new → IfGenerates d (λ n. OfGen n st left rest old new)
+pub of_gen : (d : Option Command) (st : Status) (left rest old new : Option (List ℕ)) → Obeyed d st left rest old new
+    → IfGenerates d (λ n. OfGen n st left rest old new)
 of_gen (Some (commands.Gen n)) st left rest old new o = record {
   done = gen_done (Some (commands.Gen n)) st left rest old new o;
   begun = gen_begins (Some (commands.Gen n)) st left rest old new o;
@@ -115,7 +118,8 @@ of_gen (Some (commands.Gen n)) st left rest old new o = record {
 of_gen _ st left rest old new o = tt
 
 -- verify
-pub of_verify : (d : Option Command) (st : Status) (left rest old new : Option (List ℕ)) → Obeyed d st left rest old new → d ≡ Some commands.Verify → OfVerify st left rest old new
+pub of_verify : (d : Option Command) (st : Status) (left rest old new : Option (List ℕ)) → Obeyed d st left rest old new
+    → d ≡ Some commands.Verify → OfVerify st left rest old new
 of_verify d st left rest old new o c = record {
   says = told left o;
   command = verify_ran st left rest old new (subst (λ x. Obeyed x st left rest old new) c o);
@@ -131,10 +135,12 @@ of_verify d st left rest old new o c = record {
       broken = λ e. (verify_breaks d st (Some bytes) rest old new o c e).1;
       begun = λ e. verify_begins d st (Some bytes) rest old new o c e;
       answered = λ u. verify_answered d st (Some bytes) rest old new o c (no_read_fault st u) (no_write_fault st u);
+      unmade = λ e. verify_lacks d st (Some bytes) rest old new o c e;
     }
 
 -- asm
-pub of_asm : (d : Option Command) (st : Status) (left rest old new : Option (List ℕ)) → Obeyed d st left rest old new → d ≡ Some commands.Asm → OfAsm st left rest old new
+pub of_asm : (d : Option Command) (st : Status) (left rest old new : Option (List ℕ)) → Obeyed d st left rest old new
+    → d ≡ Some commands.Asm → OfAsm st left rest old new
 of_asm d st left rest old new o c = record { says = told left o; command = asm_ran st left rest old new (subst (λ x. Obeyed x st left rest old new) c o) }
   where
     told : (l : Option (List ℕ)) → Obeyed d st l rest old new → IfSome l (λ bytes. AsmSays st bytes rest old new)
@@ -149,7 +155,8 @@ of_asm d st left rest old new o c = record { says = told left o; command = asm_r
     }
 
 -- words that are no command
-pub of_none : (d : Option Command) (st : Status) (left rest old new : Option (List ℕ)) → Obeyed d st left rest old new → d ≡ None → OfNoCommand st left rest old new
+pub of_none : (d : Option Command) (st : Status) (left rest old new : Option (List ℕ)) → Obeyed d st left rest old new → d ≡ None
+    → OfNoCommand st left rest old new
 of_none d st left rest old new o c = record {
   done = λ e. usage_written d st left rest old new o e;
   begun = λ e. usage_begins d st left rest old new o c e;

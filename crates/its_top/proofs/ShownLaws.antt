@@ -16,18 +16,18 @@ use Rattle.its_records.specs.declared.session.Reason.{Reason}
 use Rattle.its_records.specs.declared.show.JobShow.{JobShow}
 use Rattle.its_print.specs.Printing.{Line}
 use Rattle.its_print.specs.Printing as printed
-use Rattle.its_plain.specs.OperatorClock.{clock_end, after_clock_if, after_clock}
-use Rattle.its_plain.specs.OperatorConsoles.{with_typed, dropped, after_drain}
-use Rattle.its_plain.specs.OperatorLines.{shows, operate, Lined, Done, Peeks, peeked_at, lined, by_load, by_exam, in_a_line, by_state, by_clock}
-use Rattle.its_plain.specs.CallFile.{file_named}
-use Rattle.its_plain.specs.OperatorFiles.{with_file_made, with_words_added, files_in, filed_line, listing, rows, shown_lines, shown_by, file_shown}
-use Rattle.its_plain.specs.Ledger.{typed_by, drained_by}
+use Rattle.its_plain.specs.Operator.Clock.{clock_end, after_clock_if, after_clock}
+use Rattle.its_plain.specs.Operator.Consoles.{with_typed, dropped, after_drain}
+use Rattle.its_plain.specs.Operator.Lines.{shows, operate, Lined, Done, Peeks, peeked_at, lined, by_load, by_exam, in_a_line, by_state, by_clock}
+use Rattle.its_plain.specs.Call.File.{file_named}
+use Rattle.its_plain.specs.Operator.Files.{with_file_made, with_words_added, files_in, filed_line, listing, rows, shown_lines, shown_by, file_shown}
+use Rattle.its_plain.specs.Promise.Ledger.{typed_by, drained_by}
 use Rattle.its_plain.specs.Machine.{File, Whole, Machine, mapped, limit}
 use Rattle.its_plain.specs.Operator.{Block, Refuses, Does, Ticks, Quits, and_then, disturbs, quietly}
-use Rattle.its_plain.specs.OperatorSymbols.{with_symbol_kept_if, with_symbol_kept_of, with_symbol_kept}
-use Rattle.its_plain.specs.OperatorVersion.{with_version}
-use Rattle.its_plain.specs.OperatorJobs.{with_stored, with_core, with_word_loaded_of, with_word_loaded, with_words_stored, words_barred, with_words_loaded_if, with_words_loaded, with_page_protected_in, with_page_protected, on_job, with_registers, on_registers, after_go, after_int, after_stop, after_cont, after_deposit_in, after_deposit, after_load_in, after_load, examined, state_shown}
-use Rattle.its_plain.specs.Own.{names_of}
+use Rattle.its_plain.specs.Operator.Symbols.{with_symbol_kept_if, with_symbol_kept_of, with_symbol_kept}
+use Rattle.its_plain.specs.Operator.Version.{with_version}
+use Rattle.its_plain.specs.Operator.Jobs.{with_stored, with_core, with_word_loaded_of, with_word_loaded, with_words_stored, words_barred, with_words_loaded_if, with_words_loaded, with_page_protected_in, with_page_protected, on_job, with_registers, on_registers, after_go, after_int, after_stop, after_cont, after_deposit_in, after_deposit, after_load_in, after_load, examined, state_shown}
+use Rattle.its_plain.specs.Machine.Own.{names_of}
 use Rattle.its_plain.proofs.CallLineLaws.{FilesAlone, made_files, added_files}
 
 -- at console c, this line led from machine m to n: what it typed and what it showed
@@ -97,7 +97,8 @@ stored_same : (m : Machine) (s a : ℕ) (ws : List ℕ) → SameBy m (with_words
 stored_same m s a [] = refl
 stored_same m s a (w ∷ ws) = go (with_word_loaded m s a w) (word_same m s a w) (λ n. stored_same n s (a + 1) ws)
   where
-    go : (r : Result Machine Reason) → SameBy m r → ((n : Machine) → SameBy n (with_words_stored n s (a + 1) ws)) → SameBy m (and_then r (λ n. with_words_stored n s (a + 1) ws))
+    go : (r : Result Machine Reason) → SameBy m r → ((n : Machine) → SameBy n (with_words_stored n s (a + 1) ws))
+        → SameBy m (and_then r (λ n. with_words_stored n s (a + 1) ws))
     go (Ok n) first h = same_further m n (with_words_stored n s (a + 1) ws) first (h n)
     go (Err r) first h = tt
 
@@ -164,17 +165,20 @@ peek_shows : (c : ℕ) (m : Machine) (s : ℕ) (o : Option Whole) → ShowsBy c 
 peek_shows c m s (Some q) = tt
 peek_shows c m s None = tt
 
-load_shows : (c : ℕ) (m : Machine) (b : Block) (u j : ℕ) (console o : Option ℕ) → Few c m → ShowsBy c m (events.Load u j console) (Done (by_load b (after_load_in m u j console o)))
+load_shows : (c : ℕ) (m : Machine) (b : Block) (u j : ℕ) (console o : Option ℕ) → Few c m
+    → ShowsBy c m (events.Load u j console) (Done (by_load b (after_load_in m u j console o)))
 load_shows c m b u j (Some d) (Some s) few = shows_still c m _ (events.Load u j (Some d)) (printed.Loaded s ∷ []) few refl refl refl
 load_shows c m b u j None (Some s) few = shows_still c m _ (events.Load u j None) (printed.Loaded s ∷ []) few refl refl refl
 load_shows c m b u j console None few = tt
 
 -- a line that disturbs nobody
-quiet_shows : (c : ℕ) (m : Machine) (e : Event) (b : Block) (r : Result Machine Reason) → Few c m → typed_by c m e ≡ [] → SameBy m r → ShowsBy c m e (Done (quietly b r))
+quiet_shows : (c : ℕ) (m : Machine) (e : Event) (b : Block) (r : Result Machine Reason) → Few c m → typed_by c m e ≡ [] → SameBy m r
+    → ShowsBy c m e (Done (quietly b r))
 quiet_shows c m e b (Ok n) few none h = shows_still c m n e [] few h none refl
 quiet_shows c m e b (Err r) few none h = tt
 
-clock_shows : (c : ℕ) (m : Machine) (b : Block) (n : ℕ) (fits : Bool) → Few c m → ShowsBy c m (events.Clock n) (Done (by_clock m b n (after_clock_if m n fits)))
+clock_shows : (c : ℕ) (m : Machine) (b : Block) (n : ℕ) (fits : Bool) → Few c m
+    → ShowsBy c m (events.Clock n) (Done (by_clock m b n (after_clock_if m n fits)))
 clock_shows c m b n true few = shows_still c m _ (events.Clock n) [] few refl refl refl
 clock_shows c m b n false few = tt
 
@@ -253,13 +257,16 @@ line_shows c m b (events.Words a words) few =
 line_shows c m b (events.Version v) few = shows_still c m (with_version m v) (events.Version v) [] few (version_same m v) refl refl
 line_shows c m b (events.ReadOnly p) few = disturbs_shows c m (events.ReadOnly p) b.slot b (with_page_protected m b.slot p) few refl (page_same m b.slot p)
 line_shows c m b (events.Symbol x a) few = quiet_shows c m (events.Symbol x a) b (with_symbol_kept m b.slot x a) few refl (symbol_same m b.slot x a)
-line_shows c m b (events.Go a) few = disturbs_shows c m (events.Go a) b.slot b (on_registers m b.slot (after_go a)) few refl (registers_same m b.slot (after_go a))
-line_shows c m b (events.Int s x y) few = disturbs_shows c m (events.Int s x y) s b (on_registers m s (after_int x y)) few refl (registers_same m s (after_int x y))
+line_shows c m b (events.Go a) few = disturbs_shows c m (events.Go a) b.slot b (on_registers m b.slot (after_go a)) few refl
+    (registers_same m b.slot (after_go a))
+line_shows c m b (events.Int s x y) few = disturbs_shows c m (events.Int s x y) s b (on_registers m s (after_int x y)) few refl
+    (registers_same m s (after_int x y))
 line_shows c m b (events.Stop s) few = disturbs_shows c m (events.Stop s) s b (on_registers m s after_stop) few refl (registers_same m s after_stop)
 line_shows c m b (events.Cont s) few = disturbs_shows c m (events.Cont s) s b (on_registers m s after_cont) few refl (registers_same m s after_cont)
 line_shows c m b (events.Deposit s a x) few = disturbs_shows c m (events.Deposit s a x) s b (after_deposit m s a x) few refl (deposited_same m s a x)
 line_shows c m b (events.Exam s a n) few = exam_shows c m b (events.Exam s a n) s (in_a_line s a) (examined m s a n) few refl (λ ws. refl)
-line_shows c m b (events.List s a n) few = exam_shows c m b (events.List s a n) s (printed.listed s a) (examined m s a n) few refl (λ ws. listed_quiet c s a ws)
+line_shows c m b (events.List s a n) few = exam_shows c m b (events.List s a n) s (printed.listed s a) (examined m s a n) few refl
+    (λ ws. listed_quiet c s a ws)
 line_shows c m b (events.State s) few = state_shows c m b s (state_shown m s) few
 line_shows c m b (events.Clock n) few = clock_shows c m b n (nat_lt (m.clock + n) clock_end) few
 line_shows c m b (events.Peek s) few = peek_shows c m s (m.jobs s)
@@ -271,7 +278,8 @@ line_shows c m b (events.File d x y) few =
     let n = names_of d x y in
     quiet_shows c m (events.File d x y) (record b { file = n }) (with_file_made m n) few refl (files_same m (with_file_made m n) (made_files m n))
 line_shows c m b (events.Append words) few =
-    quiet_shows c m (events.Append words) b (with_words_added m b.file words.items) few refl (files_same m (with_words_added m b.file words.items) (added_files m b.file words.items))
+    quiet_shows c m (events.Append words) b (with_words_added m b.file words.items) few refl
+    (files_same m (with_words_added m b.file words.items) (added_files m b.file words.items))
 line_shows c m b events.EndFile few = shows_still c m m events.EndFile [] few refl refl refl
 line_shows c m b (events.TypeIn d bytes) few = typed_shows c d m bytes.items few
 line_shows c m b (events.Drain d n) few = drained_shows c d m n few

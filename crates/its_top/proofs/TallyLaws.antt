@@ -1,5 +1,5 @@
 -- What the events of a generated session count for.
-use Rattle.std.specs.Prelude.{◌≡◌, ◌<◌, ◌≤◌, ℕ, zero, suc, ◌+◌, ◌*◌, ◌/◌, ◌^◌, Bool, true, false, Option, Some, None, Result, Ok, Err, OnOk, OnErr, is_err, List, [], ◌∷◌, ◌++◌, map, length, take, drop, get_or, replicate, slice_get, refl}
+use Rattle.std.specs.Prelude.{◌≡◌, ◌<◌, ◌≤◌, ℕ, zero, suc, ◌+◌, ◌*◌, ◌/◌, ◌^◌, Bool, true, false, Option, Some, None, Result, Ok, Err, IfOk, OnOk, OnErr, is_err, List, [], ◌∷◌, ◌++◌, map, length, take, drop, get_or, replicate, slice_get, refl}
 use Rattle.std.proofs.Common.{sym, ◌∙◌, ap, ap₂, subst, arith, append_assoc, append-nil, take_all}
 use Rattle.std.proofs.lemmas.List.{length-append, take_more, take-append-drop}
 use Rattle.std.specs.Io.KnownBytes.{Appends}
@@ -12,6 +12,7 @@ use Rattle.its_records.specs.declared.session.Event.TheVariants as events
 use Rattle.its_files.specs.Files.{words_at}
 use Rattle.its_print.specs.Printing.{Line, Refused}
 use Rattle.its_print.specs.Printing as printed
+use Rattle.its_print.specs.Replies.{line_of}
 use Rattle.its_print.specs.Runs.{paces_in}
 use Rattle.its_print.specs.declared.runs.Run.{Run}
 use Rattle.its_session.specs.Fits.{EventFits}
@@ -19,24 +20,24 @@ use Rattle.its_session.specs.Generated.{IsGenerated, generated_session}
 use Rattle.its_session.specs.Grammar.{last_slot}
 use Rattle.its_session.proofs.GeneratedLaws.{session_length}
 use Rattle.its_plain.specs.Machine.{File, no_machine}
-use Rattle.its_plain.specs.Own.{names_of}
+use Rattle.its_plain.specs.Machine.Own.{names_of}
 use Rattle.its_plain.specs.Operator.{Block, no_block}
-use Rattle.its_plain.specs.OperatorFiles.{files_in, filed_line, rows}
-use Rattle.its_plain.specs.Turns.{highest, turns_asked, ticks_asked}
+use Rattle.its_plain.specs.Operator.Files.{files_in, filed_line, rows}
+use Rattle.its_plain.specs.Transcript.Turns.{highest, turns_asked, ticks_asked}
 use Rattle.its_stepped.specs.State.{State, no_state}
 use Rattle.its_stepped.specs.Lines.{Told, telling, turned, told}
 use Rattle.its_world.specs.World.{state_of}
 use Rattle.its_world.specs.declared.world.World.{World}
 use Rattle.its_records.specs.Refusals.{reason_of}
-use Rattle.its_top.specs.declared.generating.Tally.{Tally}
-use Rattle.its_top.specs.declared.generating.Play.{Play}
-use Rattle.its_top.specs.declared.shown.Over.{Over}
-use Rattle.its_top.specs.declared.shown.Over.TheVariants as overs
-use Rattle.its_top.specs.declared.shown.Shown.{Shown}
-use Rattle.its_top.specs.declared.shown.Shown.TheVariants as shown
+use Rattle.its_top.specs.declared.commands.generating.Tally.{Tally}
+use Rattle.its_top.specs.declared.commands.generating.Play.{Play}
+use Rattle.its_top.specs.declared.sessions.shown.Over.{Over}
+use Rattle.its_top.specs.declared.sessions.shown.Over.TheVariants as overs
+use Rattle.its_top.specs.declared.sessions.shown.Shown.{Shown}
+use Rattle.its_top.specs.declared.sessions.shown.Shown.TheVariants as shows
 use Rattle.its_top.specs.Answer.{FindsStart, block_of}
-use Rattle.its_top.specs.Performing.{lines_shown, told_behind, Performed}
-use Rattle.its_top.specs.Generating.{nothing, plus, mark_of, marks, tally_of, tally, items_of, counts_text, generated_tally, generated_text, counted, LeftOf, PlaySo, PlayedOn}
+use Rattle.its_top.specs.Performing.{CanShow, lines_shown, told_behind, Performed}
+use Rattle.its_top.specs.Generating.{nothing, plus, mark_of, marks, tally_of, tally, items_of, counts_text, generated_tally, generated_text, counted, FewShown, LeftOf, PlaySo, PlayedOn}
 use Rattle.its_top.proofs.PaceLaws.{runs_more}
 
 -- sums of counts
@@ -89,22 +90,25 @@ tally_listed s a [] = tally_none
 tally_listed s a (w ∷ ws) = tally_zero (printed.Listed s a w) (printed.listed s (a + 1) ws) refl (tally_listed s (a + 1) ws)
 
 -- the result of an event counts for its lines
-counts_for : (n : ℕ) (r : Result Shown Over) (ps : List Pace) (w : World) → tally (lines_shown n r ps w) ≡ counted r ps
-counts_for n (Ok shown.Nothing) ps w = tally_none
-counts_for n (Ok (shown.Loaded s)) ps w = tally_one (printed.Loaded s)
-counts_for n (Ok (shown.Ticks s)) ps w = tally_one (printed.Ticks s ps)
-counts_for n (Ok (shown.Typed c k)) ps w = tally_one (printed.Typed c k)
-counts_for n (Ok (shown.Drained c bytes)) ps w = tally_one (printed.Drained c bytes.items)
-counts_for n (Ok (shown.Words s a ws)) ps w = tally_one (printed.Words s a ws.items)
-counts_for n (Ok (shown.Listed s a ws)) ps w = tally_listed s a ws.items
-counts_for n (Ok (shown.State v s show)) ps w = tally_one (printed.State v s show)
-counts_for n (Ok (shown.Peeked s peek)) ps w = tally_one (printed.Peeked s peek)
-counts_for n (Ok (shown.Files d k)) ps w =
+counts_for : (n : ℕ) (r : Result Shown Over) (w : World) → tally (lines_shown n r w) ≡ counted r
+counts_for n (Ok shows.Nothing) w = tally_none
+counts_for n (Ok (shows.Line reply)) w = tally_one (line_of reply)
+counts_for n (Ok (shows.Listed s a ws)) w = tally_listed s a ws.now
+counts_for n (Ok (shows.Files d k)) w =
     let fs = files_in d (state_of w).raw.files in tally_zero (printed.Dir d (length fs)) (map filed_line fs) refl (tally_filed fs)
-counts_for n (Ok (shown.File id d x y)) ps w =
+counts_for n (Ok (shows.File id d x y)) w =
     let ws = words_at w.files id in tally_zero (printed.Shown d x y (length ws)) (rows ((length ws + 7) / 8) ws) refl (tally_rows ((length ws + 7) / 8) ws)
-counts_for n (Err overs.Ended) ps w = tally_none
-counts_for n (Err (overs.Refused e)) ps w = tally_one (Refused n (reason_of e))
+counts_for n (Err overs.Ended) w = tally_none
+counts_for n (Err (overs.Refused e)) w = tally_one (Refused n (reason_of e))
+
+-- what can be shown has few parts
+few_shown : (s : Shown) (w : World) → CanShow s w → FewShown s
+few_shown (shows.Line reply) w can = can
+few_shown _ w can = tt
+
+pub few_performed : (r : Result Shown Over) (v : State) (b : Block) (e : Event) (w : World) (b' : Block) → Performed r v b e w b' → IfOk r FewShown
+few_performed (Ok s) v b e w b' p = few_shown s w p.ready
+few_performed (Err over) v b e w b' p = tt
 
 -- a session goes on
 pub played_over : (play : Play) (v : State) (e : Event) → play.over ≡ true → PlayedOn play play v v e
@@ -120,7 +124,8 @@ going : (play : Play) (n : ℕ) (v : State) (es : List Event) (all : Tally) → 
     → plus play.tally (tally (told n v (block_of play.progress.slot play.progress.file) highest (items_of es)).lines) ≡ all
 going play n v es all h so = subst (λ o. LeftOf o play.tally n v (block_of play.progress.slot play.progress.file) es all) h so.whole
 
-left_behind : (r : Result Shown Over) (t : Tally) (n : ℕ) (v : State) (b : Block) (es : List Event) (all : Tally) → plus t (tally (told_behind r (told n v b highest (items_of es))).lines) ≡ all → LeftOf (is_err r) t n v b es all
+left_behind : (r : Result Shown Over) (t : Tally) (n : ℕ) (v : State) (b : Block) (es : List Event) (all : Tally)
+    → plus t (tally (told_behind r (told n v b highest (items_of es))).lines) ≡ all → LeftOf (is_err r) t n v b es all
 left_behind (Ok s) t n v b es all h = h
 left_behind (Err overs.Ended) t n v b es all h = sym (ap (plus t) tally_none ∙ plus_nothing t) ∙ h
 left_behind (Err (overs.Refused e)) t n v b es all h = sym (ap (plus t) tally_none ∙ plus_nothing t) ∙ h
@@ -130,19 +135,20 @@ generated_asks : (e : Event) → IsGenerated e → turns_asked e ≡ 0
 generated_asks (events.Run n q) k = absurd k
 generated_asks _ k = refl
 
-pub played : (r : Result Shown Over) (old new : Play) (v : State) (w : World) (e : Event) (ps : List Pace) (t : Tally) → old.over ≡ false → new.over ≡ is_err r → new.tally ≡ plus old.tally t → t ≡ counted r ps → IsGenerated e
-    → Performed r v (block_of old.progress.slot old.progress.file) e ps w (block_of new.progress.slot new.progress.file) → PlayedOn old new v (state_of w) e
-played r old new v w e ps t h k s c is p = record {
+pub played : (r : Result Shown Over) (old new : Play) (v : State) (w : World) (e : Event) (t : Tally) → old.over ≡ false
+    → new.over ≡ is_err r → new.tally ≡ plus old.tally t → t ≡ counted r → IsGenerated e
+    → Performed r v (block_of old.progress.slot old.progress.file) e w (block_of new.progress.slot new.progress.file) → PlayedOn old new v (state_of w) e
+played r old new v w e t h k s c is p = record {
   on = λ n es all so. record {
     whole =
         let b' = block_of new.progress.slot new.progress.file in
         let next : ℕ → State → Block → Told = λ i x b. turned i (ticks_asked e) x highest (λ y l. told (n + 1) y b l (items_of es)) in
         let behind = told_behind r (told (n + 1) (state_of w) b' highest (items_of es)) in
         let sum : plus new.tally (tally behind.lines) ≡ all =
-        ap (λ x. plus x (tally behind.lines)) (s ∙ ap (plus old.tally) c) ∙ sym (plus_assoc old.tally (counted r ps) (tally behind.lines))
-        ∙ ap (λ x. plus old.tally (plus x (tally behind.lines))) (sym (counts_for n r ps w))
-        ∙ ap (plus old.tally) (sym (tally_append (lines_shown n r ps w) behind.lines))
-        ∙ ap (λ (i : ℕ). plus old.tally (tally (telling (lines_shown n r ps w) (told_behind r (next i (state_of w) b'))).lines)) (sym (generated_asks e is))
+        ap (λ x. plus x (tally behind.lines)) (s ∙ ap (plus old.tally) c) ∙ sym (plus_assoc old.tally (counted r) (tally behind.lines))
+        ∙ ap (λ x. plus old.tally (plus x (tally behind.lines))) (sym (counts_for n r w))
+        ∙ ap (plus old.tally) (sym (tally_append (lines_shown n r w) behind.lines))
+        ∙ ap (λ (i : ℕ). plus old.tally (tally (telling (lines_shown n r w) (told_behind r (next i (state_of w) b'))).lines)) (sym (generated_asks e is))
         ∙ ap (λ (x : Told). plus old.tally (tally x.lines)) (sym (p.tells n (next (turns_asked e))))
         ∙ going old n v (e ∷ es) all h so in
         subst (λ o. LeftOf o new.tally (n + 1) (state_of w) b' es all) (sym k) (left_behind r new.tally (n + 1) (state_of w) b' es all sum);
@@ -169,7 +175,8 @@ generated_starts _ v k = tt
 -- marks one after another
 marked_append : (a b : List Pace) → marks (a ++ b) ≡ marks a + marks b
 marked_append [] b = let e : 0 + marks b ≡ marks b = omega arith in sym e
-marked_append (p ∷ ps) b = ap (λ x. mark_of p + x) (marked_append ps b) ∙ (let e : mark_of p + (marks ps + marks b) ≡ (mark_of p + marks ps) + marks b = omega arith in e)
+marked_append (p ∷ ps) b = ap (λ x. mark_of p + x) (marked_append ps b)
+    ∙ (let e : mark_of p + (marks ps + marks b) ≡ (mark_of p + marks ps) + marks b = omega arith in e)
 
 marked_most : (ps : List Pace) → marks ps ≤ length ps
 marked_most [] = omega arith
@@ -201,7 +208,8 @@ run_unmarked r p e z =
     let o : r.more * 0 ≡ 0 = omega arith in
     sym (run_marks r ∙ (λ t. none t + (marked_alike r.more r.pace 0 none ∙ o) t))
 
-pub marked_next : (rs : List Run) (i k m : ℕ) (d : Run) → i < length rs → m ≡ marks (paces_in (get_or rs i d ∷ [])) → k ≡ marks (paces_in (take i rs)) → k + m ≡ marks (paces_in (take (i + 1) rs))
+pub marked_next : (rs : List Run) (i k m : ℕ) (d : Run) → i < length rs → m ≡ marks (paces_in (get_or rs i d ∷ []))
+    → k ≡ marks (paces_in (take i rs)) → k + m ≡ marks (paces_in (take (i + 1) rs))
 marked_next rs i k m d h g f =
     ap₂ (λ x y. x + y) f g
     ∙ sym (marked_append (paces_in (take i rs)) (paces_in (get_or rs i d ∷ [])))
@@ -243,14 +251,17 @@ drop_past [] (suc k) h = refl
 drop_past (y ∷ ys) zero h = absurd (omega arith)
 drop_past (y ∷ ys) (suc k) h = drop_past ys k (omega arith)
 
-pub play_start : (n k : ℕ) (v : State) → v ≡ no_state no_machine → PlaySo (record { progress = record { number = k; slot = 0; file = names_of 0 0 0 }; tally = nothing; over = false }) 1 v (generated_session n) (generated_tally n)
+pub play_start : (n k : ℕ) (v : State) → v ≡ no_state no_machine
+    → PlaySo (record { progress = record { number = k; slot = 0; file = names_of 0 0 0 }; tally = nothing; over = false }) 1 v
+    (generated_session n) (generated_tally n)
 unfolding generated_tally
 play_start n k v h = record {
   whole = nothing_plus (tally (told 1 v no_block highest (items_of (generated_session n))).lines)
       ∙ ap (λ x. tally (told 1 x no_block highest (items_of (generated_session n))).lines) h;
 }
 
-pub play_next : (old new : Play) (v v' : State) (e : Event) (es : List Event) (k : ℕ) (all : Tally) → Some e ≡ slice_get es k → PlaySo old (k + 1) v (drop k es) all
+pub play_next : (old new : Play) (v v' : State) (e : Event) (es : List Event) (k : ℕ) (all : Tally) → Some e ≡ slice_get es k
+    → PlaySo old (k + 1) v (drop k es) all
     → PlayedOn old new v v' e → PlaySo new (k + 1 + 1) v' (drop (k + 1) es) all
 play_next old new v v' e es k all h so p =
     p.on (k + 1) (drop (k + 1) es) all (subst (λ x. PlaySo old (k + 1) v x all) (drop_some es k e (sym h)) so)
@@ -259,7 +270,8 @@ ended : (over : Bool) (t : Tally) (n : ℕ) (v : State) (b : Block) (all : Tally
 ended true t n v b all h = h
 ended false t n v b all h = sym (plus_nothing t) ∙ ap (plus t) (sym tally_none) ∙ h
 
-pub play_end : (play : Play) (v : State) (es : List Event) (k : ℕ) (all : Tally) → None ≡ slice_get es k → PlaySo play (k + 1) v (drop k es) all → play.tally ≡ all
+pub play_end : (play : Play) (v : State) (es : List Event) (k : ℕ) (all : Tally) → None ≡ slice_get es k
+    → PlaySo play (k + 1) v (drop k es) all → play.tally ≡ all
 play_end play v es k all h so =
     let b = block_of play.progress.slot play.progress.file in
     ended play.over play.tally (k + 1) v b all (subst (λ x. LeftOf play.over play.tally (k + 1) v b x all) (drop_past es k (none_past es k h)) so.whole)
@@ -269,7 +281,8 @@ pub text_of_counts : (n lines : ℕ) (t : Tally) → lines ≡ length (generated
 unfolding generated_text
 text_of_counts n lines t h e = ap₂ counts_text h e
 
-pub wrote_then : {T E : Type 0} (r : Result T E) (a b : List ℕ) (old x new : Option (List ℕ)) → Appends old x a → OnOk r (Appends x new b) → OnOk r (Appends old new (a ++ b))
+pub wrote_then : {T E : Type 0} (r : Result T E) (a b : List ℕ) (old x new : Option (List ℕ)) → Appends old x a → OnOk r (Appends x new b)
+    → OnOk r (Appends old new (a ++ b))
 wrote_then (Ok y) a b old x new f g = Appends-trans old x new a b f g
 wrote_then (Err e) a b old x new f g = tt
 
@@ -277,11 +290,17 @@ pub begun_first : (a b : List ℕ) (old new : Option (List ℕ)) → (wrote : Li
 begun_first a b old new w =
     (w.0, record { appended = w.1.appended; rest = (w.1.rest.0 ++ b, ap (λ x. x ++ b) w.1.rest.1 ∙ append_assoc w.0 w.1.rest.0 b) })
 
-pub begun_then : {T E : Type 0} (r : Result T E) (a b : List ℕ) (old x new : Option (List ℕ)) → Appends old x a → OnErr r ((wrote : List ℕ) × Wrote x new wrote b)
+pub begun_then : {T E : Type 0} (r : Result T E) (a b : List ℕ) (old x new : Option (List ℕ)) → Appends old x a
+    → OnErr r ((wrote : List ℕ) × Wrote x new wrote b)
     → OnErr r ((wrote : List ℕ) × Wrote old new wrote (a ++ b))
 begun_then (Ok y) a b old x new f w = tt
-begun_then (Err e) a b old x new f w =
-    (a ++ w.0, record { appended = Appends-trans old x new a w.0 f w.1.appended; rest = (w.1.rest.0, ap (λ y. a ++ y) w.1.rest.1 ∙ sym (append_assoc a w.0 w.1.rest.0)) })
+begun_then (Err e) a b old x new f w = (
+  a ++ w.0,
+  record {
+    appended = Appends-trans old x new a w.0 f w.1.appended;
+    rest = (w.1.rest.0, ap (λ y. a ++ y) w.1.rest.1 ∙ sym (append_assoc a w.0 w.1.rest.0));
+  },
+)
 
 pub few_lines : (n : ℕ) → n ≤ 4096 → length (generated_session n) ≤ 2 ^ 20
 few_lines n h = omega (arith, session_length n)

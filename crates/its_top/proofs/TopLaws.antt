@@ -7,43 +7,47 @@ use Rattle.its_session.specs.Events.{events_of}
 use Rattle.its_plain.specs.Transcript.{Fate, Ended, Open, Refused, TooLong}
 use Rattle.its_plain.proofs.FairLaws.{fair_all}
 use Rattle.its_stepped.specs.Lines.{stepped}
-use Rattle.its_stepped.proofs.DecodingLaws.{decoding}
-use Rattle.its_stepped.proofs.StretchLaws.{stretches}
+use Rattle.its_stepped.proofs.Frame.DecodingLaws.{decoding}
+use Rattle.its_stepped.proofs.Running.StretchLaws.{stretches}
 use Rattle.its_security.proofs.RunIntegrityLaws.{integrity}
 use Rattle.its_security.proofs.ConfidentialLaws.{confidential}
-use Rattle.its_stepped.proofs.WrittenLaws.{written_transcript}
+use Rattle.its_stepped.proofs.Running.WrittenLaws.{written_transcript}
 use Rattle.its_top.proofs.FewDotsLaws.{few_dots}
-use Rattle.its_top.specs.declared.status.Status.{Status}
-use Rattle.its_top.specs.declared.status.Status.TheVariants as statuses
+use Rattle.its_top.specs.declared.commands.status.Status.{Status}
+use Rattle.its_top.specs.declared.commands.status.Status.TheVariants as statuses
 use Rattle.its_top.specs.Telling.{Says}
 use Rattle.its_top.specs.Conclusion.{IsDone, Session}
 use Rattle.its_top.specs.Promise.{answer_of, Transcribed}
 use Rattle.its_top.specs.Outcomes.{Begins, Breaks, Completes, Refuses, RunsOn, Writes}
-use Rattle.its_stepped.proofs.LinkMovesLaws.{link_ledger}
+use Rattle.its_stepped.proofs.Running.LinkMovesLaws.{link_ledger}
 use Rattle.its_top.proofs.LedgerLaws.{ledger}
 
-pub session_done : (st : Status) (left rest old new : Option (List ℕ)) → st ≡ statuses.Done → Session st left rest old new → IfSome left (λ bytes. Completes bytes old new)
+pub session_done : (st : Status) (left rest old new : Option (List ℕ)) → st ≡ statuses.Done → Session st left rest old new
+    → IfSome left (λ bytes. Completes bytes old new)
 session_done st None rest old new e s = tt
 session_done st (Some bytes) rest old new e s =
     let t = subst (λ x. Session x (Some bytes) rest old new) e s in
     let f = t.concluded in
     record { done = f.1; wrote = subst (Appends old new) (sym f.0) t.appended }
 
-pub session_refused : (st : Status) (left rest old new : Option (List ℕ)) → st ≡ statuses.Refused → Session st left rest old new → IfSome left (λ bytes. Refuses bytes old new)
+pub session_refused : (st : Status) (left rest old new : Option (List ℕ)) → st ≡ statuses.Refused → Session st left rest old new
+    → IfSome left (λ bytes. Refuses bytes old new)
 session_refused st None rest old new e s = tt
 session_refused st (Some bytes) rest old new e s =
     let t = subst (λ x. Session x (Some bytes) rest old new) e s in
     let f = t.concluded in
     record { refused = f.1; wrote = subst (Appends old new) (sym f.0) t.appended }
 
-pub session_too_long : (st : Status) (left rest old new : Option (List ℕ)) → st ≡ statuses.TooLong → Session st left rest old new → IfSome left (λ bytes. RunsOn bytes old new)
+pub session_too_long : (st : Status) (left rest old new : Option (List ℕ)) → st ≡ statuses.TooLong → Session st left rest old new
+    → IfSome left (λ bytes. RunsOn bytes old new)
 session_too_long st None rest old new e s = tt
 session_too_long st (Some bytes) rest old new e s =
     let t = subst (λ x. Session x (Some bytes) rest old new) e s in
     let f = t.concluded in
     record { too_long = f.1; wrote = subst (Appends old new) (sym f.0) t.appended }
 
-pub session_breaks : (st : Status) (left rest old new : Option (List ℕ)) → st ≡ statuses.ReadFault → Session st left rest old new → IfSome left (λ bytes. Breaks bytes rest old new)
+pub session_breaks : (st : Status) (left rest old new : Option (List ℕ)) → st ≡ statuses.ReadFault → Session st left rest old new
+    → IfSome left (λ bytes. Breaks bytes rest old new)
 session_breaks st None rest old new e s = tt
 session_breaks st (Some bytes) rest old new e s =
     let t = subst (λ x. Session x (Some bytes) rest old new) e s in
@@ -65,7 +69,8 @@ session_begins st (Some bytes) rest old new e s =
     record { first = t.wrote; more = f.more; whole = f.whole; wrote = t.appended }
 
 -- a session that is done or refused, or runs on, wrote its lines, which are a transcript
-pub session_written : (st : Status) (left rest old new : Option (List ℕ)) → ((st ≡ statuses.Done) ⊎ (st ≡ statuses.Refused)) ⊎ (st ≡ statuses.TooLong) → Session st left rest old new
+pub session_written : (st : Status) (left rest old new : Option (List ℕ)) → ((st ≡ statuses.Done) ⊎ (st ≡ statuses.Refused))
+    ⊎ (st ≡ statuses.TooLong) → Session st left rest old new
     → IfSome left (λ bytes. Appends old new (text (stepped (events_of bytes)).lines))
 session_written st None rest old new e s = tt
 session_written st (Some bytes) rest old new (inl (inl e)) s = (session_done st (Some bytes) rest old new e s).wrote
@@ -78,7 +83,8 @@ done_answer Open d = refl
 done_answer Refused d = absurd d
 done_answer TooLong d = absurd d
 
-answered : (st : Status) (bytes : List ℕ) (rest old new : Option (List ℕ)) → ((st ≡ statuses.Done) ⊎ (st ≡ statuses.Refused)) ⊎ (st ≡ statuses.TooLong) → Session st (Some bytes) rest old new
+answered : (st : Status) (bytes : List ℕ) (rest old new : Option (List ℕ)) → ((st ≡ statuses.Done) ⊎ (st ≡ statuses.Refused))
+    ⊎ (st ≡ statuses.TooLong) → Session st (Some bytes) rest old new
     → st ≡ answer_of (stepped (events_of bytes)).fate
 answered st bytes rest old new (inl (inl e)) s = e ∙ done_answer _ (session_done st (Some bytes) rest old new e s).done
 answered st bytes rest old new (inl (inr e)) s = e ∙ ap answer_of (sym (session_refused st (Some bytes) rest old new e s).refused)
@@ -88,7 +94,8 @@ answered st bytes rest old new (inr e) s = e ∙ ap answer_of (sym (session_too_
 abbrev shown : List ℕ → List Line
 shown bytes = (stepped (events_of bytes)).lines
 
-abbrev transcribed : (st : Status) (bytes : List ℕ) (old new : Option (List ℕ)) → st ≡ answer_of (stepped (events_of bytes)).fate → Appends old new (text (shown bytes)) → Transcribed st bytes old new
+abbrev transcribed : (st : Status) (bytes : List ℕ) (old new : Option (List ℕ)) → st ≡ answer_of (stepped (events_of bytes)).fate
+    → Appends old new (text (shown bytes)) → Transcribed st bytes old new
 transcribed st bytes old new e a = record {
   lines = shown bytes;
   wrote = a;
@@ -106,13 +113,15 @@ transcribed st bytes old new e a = record {
   confidential = confidential (events_of bytes) (shown bytes);
 }
 
-pub session_transcribed : (st : Status) (left rest old new : Option (List ℕ)) → ((st ≡ statuses.Done) ⊎ (st ≡ statuses.Refused)) ⊎ (st ≡ statuses.TooLong) → Session st left rest old new
+pub session_transcribed : (st : Status) (left rest old new : Option (List ℕ)) → ((st ≡ statuses.Done) ⊎ (st ≡ statuses.Refused))
+    ⊎ (st ≡ statuses.TooLong) → Session st left rest old new
     → IfSome left (λ bytes. Transcribed st bytes old new)
 session_transcribed st None rest old new e s = tt
 session_transcribed st (Some bytes) rest old new e s =
     transcribed st bytes old new (answered st bytes rest old new e s) (session_written st (Some bytes) rest old new e s)
 
-pub session_writes : (st : Status) (bytes : List ℕ) (rest old new : Option (List ℕ)) → ((st ≡ statuses.Done) ⊎ (st ≡ statuses.Refused)) ⊎ (st ≡ statuses.TooLong) → Session st (Some bytes) rest old new
+pub session_writes : (st : Status) (bytes : List ℕ) (rest old new : Option (List ℕ)) → ((st ≡ statuses.Done) ⊎ (st ≡ statuses.Refused))
+    ⊎ (st ≡ statuses.TooLong) → Session st (Some bytes) rest old new
     → Writes st bytes old new
 session_writes st bytes rest old new e s = record {
   transcribed = transcribed st bytes old new (answered st bytes rest old new e s) (session_written st (Some bytes) rest old new e s);

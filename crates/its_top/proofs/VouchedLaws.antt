@@ -8,8 +8,8 @@ use Rattle.std.proofs.lemmas.Slice.Eq.{bytes_eq-Decides}
 use Rattle.its_session.specs.Events.{events_of, most_lines}
 use Rattle.its_reader.specs.TextLines.{lines_in}
 use Rattle.its_stepped.specs.Lines.{stepped}
-use Rattle.its_stepped.proofs.DecodingLaws.{decoding}
-use Rattle.its_stepped.proofs.WrittenLaws.{written_transcript}
+use Rattle.its_stepped.proofs.Frame.DecodingLaws.{decoding}
+use Rattle.its_stepped.proofs.Running.WrittenLaws.{written_transcript}
 use Rattle.its_verify.specs.Accepted.{Accepted}
 use Rattle.its_verify.specs.Lines.{Said, says}
 use Rattle.its_verify.specs.Rulings.{Yes}

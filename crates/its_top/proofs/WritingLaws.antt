@@ -5,8 +5,8 @@ use Rattle.std.specs.Io.KnownBytes.{Appends}
 use Rattle.std.proofs.KnownBytes.{Appends-nil}
 use Rattle.its_io.specs.Bytes.{Wrote}
 use Rattle.its_print.specs.Printing.{Line, text_of_line, text}
-use Rattle.its_top.specs.declared.flow.Flow.{Flow}
-use Rattle.its_top.specs.declared.flow.Flow.TheVariants as flows
+use Rattle.its_top.specs.declared.sessions.flow.Flow.{Flow}
+use Rattle.its_top.specs.declared.sessions.flow.Flow.TheVariants as flows
 use Rattle.its_top.specs.Answer.{WroteFor, Tells}
 use Rattle.its_top.proofs.EventLaws.{text_one}
 
@@ -20,7 +20,8 @@ told_all good bytes old new a = record { wrote = bytes; appended = a; complete =
 pub told_begun : (good : Flow) (bytes wrote : List ℕ) (old new : Option (List ℕ)) → Wrote old new wrote bytes → Tells flows.Fault good bytes old new
 told_begun good bytes wrote old new w = record { wrote = wrote; appended = w.appended; complete = w.rest }
 
-pub told_as : (flow good : Flow) (bytes line : List ℕ) (old new : Option (List ℕ)) → bytes ≡ line → Tells flow good bytes old new → Tells flow good line old new
+pub told_as : (flow good : Flow) (bytes line : List ℕ) (old new : Option (List ℕ)) → bytes ≡ line → Tells flow good bytes old new
+    → Tells flow good line old new
 told_as flow good bytes line old new e t = subst (λ b. Tells flow good b old new) e t
 
 -- no line, and one

@@ -8,19 +8,19 @@ use Rattle.its_reader.specs.declared.items.Found.{Found}
 use Rattle.its_reader.specs.declared.items.Found.TheVariants as founds
 use Rattle.its_records.specs.declared.calls.Pace.{Pace}
 use Rattle.its_plain.specs.Machine.{Names, Machine}
-use Rattle.its_plain.specs.OperatorConsoles.{with_typed, dropped, after_drain}
-use Rattle.its_plain.specs.OperatorFiles.{with_words_added}
+use Rattle.its_plain.specs.Operator.Consoles.{with_typed, dropped, after_drain}
+use Rattle.its_plain.specs.Operator.Files.{with_words_added}
 use Rattle.its_stepped.specs.State.{State}
 use Rattle.its_stepped.specs.Unwind.{unwound, help}
 use Rattle.its_stepped.specs.Lines.{Told, turned, with_raw, paces_of, after_ticks}
 use Rattle.its_records.specs.declared.session.Reason.{Reason}
 use Rattle.its_plain.specs.Operator.{Block}
-use Rattle.its_plain.specs.OperatorJobs.{with_words_stored, examined}
+use Rattle.its_plain.specs.Operator.Jobs.{with_words_stored, examined}
 use Rattle.its_print.specs.Printing.{Line, text}
 use Rattle.its_world.specs.World.{state_of}
 use Rattle.its_world.specs.declared.world.World.{World}
-use Rattle.its_top.specs.declared.flow.Flow.{Flow}
-use Rattle.its_top.specs.declared.flow.Flow.TheVariants as flows
+use Rattle.its_top.specs.declared.sessions.flow.Flow.{Flow}
+use Rattle.its_top.specs.declared.sessions.flow.Flow.TheVariants as flows
 use Rattle.its_top.specs.Telling.{Answers, FollowsBy, CircledBy, after, said}
 
 -- the block of the slot that the last LOAD line made, and of the file that the last FILE line made

@@ -8,11 +8,11 @@ use Rattle.its_asm.specs.declared.reason.AsmFault.{AsmFault}
 use Rattle.its_asm.specs.declared.reason.AsmFault.TheVariants.{Line}
 use Rattle.its_asm.specs.declared.reason.AsmFault.TheVariants as faults
 use Rattle.its_reader.specs.Limits.{WithinLimits}
-use Rattle.its_assembly.specs.Past.{runs_past}
-use Rattle.its_assembly.specs.Written.{assembly_text}
-use Rattle.its_assembly.specs.Made.{IsRefusal, IsSession}
-use Rattle.its_top.specs.declared.status.Status.{Status}
-use Rattle.its_top.specs.declared.status.Status.TheVariants as statuses
+use Rattle.its_asm_command.specs.Past.{runs_past}
+use Rattle.its_asm_command.specs.Written.{assembly_text}
+use Rattle.its_asm_command.specs.Made.{IsRefusal, IsSession}
+use Rattle.its_top.specs.declared.commands.status.Status.{Status}
+use Rattle.its_top.specs.declared.commands.status.Status.TheVariants as statuses
 
 -- an assembly of the text of these bytes, of which some were read, has this status, and wrote w. If
 -- the source failed, the bytes that were read decide nothing. Want of memory does not hide that the

@@ -13,10 +13,10 @@ use Rattle.its_reader.specs.declared.items.Found.{Found}
 use Rattle.its_reader.specs.declared.items.Items.{Items}
 use Rattle.its_reader.specs.Limits.{WithinLimits}
 use Rattle.its_reader.specs.Items.{is_last, last_items, FoundSoFar, ReadOut}
-use Rattle.its_top.specs.declared.checking.Checked.{Checked}
-use Rattle.its_top.specs.declared.checking.Checked.TheVariants.{Ended, Open, Refused, TooLong}
-use Rattle.its_top.specs.declared.status.Status.{Status}
-use Rattle.its_top.specs.declared.status.Status.TheVariants as statuses
+use Rattle.its_top.specs.declared.commands.checking.Checked.{Checked}
+use Rattle.its_top.specs.declared.commands.checking.Checked.TheVariants.{Ended, Open, Refused, TooLong}
+use Rattle.its_top.specs.declared.commands.status.Status.{Status}
+use Rattle.its_top.specs.declared.commands.status.Status.TheVariants as statuses
 use Rattle.its_top.specs.Counts.{count_line}
 use Rattle.its_top.specs.Telling.{goes_on_after}
 use Rattle.its_top.specs.Conclusion.{WasRun}

@@ -2,8 +2,8 @@
 -- No promise rests on this.
 use Rattle.std.specs.Prelude.{if◌then◌else◌, ◌^◌, ◌==◌, ◌&&◌, ℕ, Bool, true, false, Option, Some, None, List, [], ◌∷◌, map, nat_le, bytes_eq, codes, String, string_bytes}
 use Rattle.its_word.specs.Text.{is_octal, octal_value}
-use Rattle.its_top.specs.declared.commands.Command.{Command}
-use Rattle.its_top.specs.declared.commands.Command.TheVariants.{Run, Check, Gen, Verify, Asm}
+use Rattle.its_top.specs.declared.commands.words.Command.{Command}
+use Rattle.its_top.specs.declared.commands.words.Command.TheVariants.{Run, Check, Gen, Verify, Asm}
 
 -- `run`, `check`, `verify` and `asm` are the only word
 abbrev pub bare_command : List ℕ → Option Command

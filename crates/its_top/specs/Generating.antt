@@ -8,16 +8,17 @@ use Rattle.its_records.specs.declared.calls.Pace.TheVariants as paces
 use Rattle.its_records.specs.declared.session.Event.{Event}
 use Rattle.its_print.specs.Printing.{Line}
 use Rattle.its_print.specs.Printing as printed
+use Rattle.its_print.specs.Replies.{FewParts, line_of}
 use Rattle.its_session.specs.Generated.{generated_session}
 use Rattle.its_plain.specs.Operator.{Block}
-use Rattle.its_plain.specs.Turns.{highest}
+use Rattle.its_plain.specs.Transcript.Turns.{highest}
 use Rattle.its_stepped.specs.State.{State}
 use Rattle.its_stepped.specs.Lines.{told, stepped}
-use Rattle.its_top.specs.declared.generating.Tally.{Tally}
-use Rattle.its_top.specs.declared.generating.Play.{Play}
-use Rattle.its_top.specs.declared.shown.Over.{Over}
-use Rattle.its_top.specs.declared.shown.Shown.{Shown}
-use Rattle.its_top.specs.declared.shown.Shown.TheVariants as shows
+use Rattle.its_top.specs.declared.commands.generating.Tally.{Tally}
+use Rattle.its_top.specs.declared.commands.generating.Play.{Play}
+use Rattle.its_top.specs.declared.sessions.shown.Over.{Over}
+use Rattle.its_top.specs.declared.sessions.shown.Shown.{Shown}
+use Rattle.its_top.specs.declared.sessions.shown.Shown.TheVariants as shows
 use Rattle.its_top.specs.Answer.{block_of}
 use Rattle.its_top.specs.Counts.{count_line}
 
@@ -66,11 +67,15 @@ counts_text lines t = count_line (codes "LINES") lines ++ tally_text t
 unfoldable pub generated_text : ℕ → List ℕ
 generated_text n = counts_text (length (generated_session n)) (generated_tally n)
 
--- what an event counts for, by its result and the letters of its ticks
-abbrev pub counted : Result Shown Over → List Pace → Tally
-counted (Ok (shows.Ticks s)) ps = tally_of (printed.Ticks s ps)
-counted (Ok (shows.Drained c bytes)) ps = tally_of (printed.Drained c bytes.items)
-counted _ ps = nothing
+-- what an event counts for, by its result
+abbrev pub counted : Result Shown Over → Tally
+counted (Ok (shows.Line reply)) = tally_of (line_of reply)
+counted _ = nothing
+
+-- a line that is shown has few parts
+abbrev pub FewShown : Shown → Type 0
+FewShown (shows.Line reply) = FewParts reply
+FewShown _ = Unit {0}
 
 -- what is counted so far, with what the events from line number n on count for, is all
 abbrev pub LeftOf : Bool → Tally → ℕ → State → Block → List Event → Tally → Type 0

@@ -10,6 +10,7 @@ use Rattle.its_reader.specs.Items.{ReadOut}
 use Rattle.its_reader.specs.Limits.{WithinLimits}
 use Rattle.its_plain.specs.Transcript.{Open, Refused, TooLong}
 use Rattle.its_stepped.specs.Lines.{stepped}
+use Rattle.its_verify.specs.Finds.{Unmade}
 use Rattle.its_verify.specs.Rulings.{Yes}
 use Rattle.its_verify.specs.Undecided.{Undecided}
 use Rattle.its_verify.specs.Verified.{Answer, Judged, answer_text}
@@ -17,11 +18,11 @@ use Rattle.its_verify.specs.Verified as verified
 use Rattle.its_asm.specs.Assembly.{assembly}
 use Rattle.its_asm.specs.declared.reason.AsmFault.TheVariants.{Line as LineFault}
 use Rattle.its_asm.specs.declared.reason.AsmReason.{AsmReason}
-use Rattle.its_assembly.specs.Past.{runs_past}
-use Rattle.its_assembly.specs.Written.{assembly_text, fault_line}
-use Rattle.its_top.specs.declared.status.Status.{Status}
-use Rattle.its_top.specs.declared.status.Status.TheVariants as statuses
-use Rattle.its_top.specs.declared.checking.Checked.TheVariants as checks
+use Rattle.its_asm_command.specs.Past.{runs_past}
+use Rattle.its_asm_command.specs.Written.{assembly_text, fault_line}
+use Rattle.its_top.specs.declared.commands.status.Status.{Status}
+use Rattle.its_top.specs.declared.commands.status.Status.TheVariants as statuses
+use Rattle.its_top.specs.declared.commands.checking.Checked.TheVariants as checks
 use Rattle.its_top.specs.Conclusion.{IsDone}
 use Rattle.its_top.specs.Checking.{checked, checked_text, Passes, Fails, GoesOn}
 use Rattle.its_top.specs.Generating.{generated_text}
@@ -204,6 +205,7 @@ pub record VerifySays (status : Status) (bytes : List ℕ) (rest old new : Optio
   pub broken : status ≡ statuses.ReadFault → VerifyBreaks bytes rest old new
   pub begun : status ≡ statuses.WriteFault → Begins (answer_text (verified.verified bytes)) old new
   pub answered : Unfailed status → VerifyAnswers status bytes
+  pub unmade : status ≡ statuses.NoMemory → Unmade bytes rest
 
 -- of `verify`
 pub record OfVerify (status : Status) (left rest old new : Option (List ℕ)) : Type 0 where

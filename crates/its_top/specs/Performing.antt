@@ -1,49 +1,44 @@
 -- The result of an event that was performed: what it shows, and the state of the session after it.
 -- No promise rests on this.
-use Rattle.std.specs.Prelude.{◌≡◌, ◌<◌, ◌^◌, ℕ, true, false, Result, Ok, Err, IfOk, None, List, [], ◌∷◌, length}
+use Rattle.std.specs.Prelude.{◌≡◌, ◌<◌, ◌≤◌, ◌^◌, ℕ, true, false, Result, Ok, Err, IfOk, None, List, [], ◌∷◌, length}
 use Rattle.its_files.specs.Files.{entry_at, is_file, words_at}
-use Rattle.its_records.specs.declared.calls.Pace.{Pace}
 use Rattle.its_records.specs.declared.session.Event.{Event}
 use Rattle.its_records.specs.declared.session.Refusal.{Refusal}
 use Rattle.its_print.specs.Printing.{Line}
 use Rattle.its_print.specs.Printing as printed
+use Rattle.its_print.specs.Replies.{FewParts, line_of}
 use Rattle.its_plain.specs.Operator.{Block}
-use Rattle.its_plain.specs.OperatorFiles.{files_in, listing, shown_lines}
+use Rattle.its_plain.specs.Operator.Files.{files_in, listing, shown_lines}
 use Rattle.its_plain.specs.Transcript.{Ended, Refused}
 use Rattle.its_stepped.specs.State.{State}
 use Rattle.its_stepped.specs.Lines.{Told, telling, line_told}
 use Rattle.its_world.specs.World.{state_of}
 use Rattle.its_world.specs.declared.world.World.{World}
 use Rattle.its_records.specs.Refusals.{reason_of}
-use Rattle.its_top.specs.declared.shown.Over.{Over}
-use Rattle.its_top.specs.declared.shown.Over.TheVariants as overs
-use Rattle.its_top.specs.declared.shown.Shown.{Shown}
-use Rattle.its_top.specs.declared.shown.Shown.TheVariants as shows
-use Rattle.its_top.specs.declared.flow.Flow.{Flow}
-use Rattle.its_top.specs.declared.flow.Flow.TheVariants as flows
+use Rattle.its_top.specs.declared.sessions.shown.Over.{Over}
+use Rattle.its_top.specs.declared.sessions.shown.Over.TheVariants as overs
+use Rattle.its_top.specs.declared.sessions.shown.Shown.{Shown}
+use Rattle.its_top.specs.declared.sessions.shown.Shown.TheVariants as shows
+use Rattle.its_top.specs.declared.sessions.flow.Flow.{Flow}
+use Rattle.its_top.specs.declared.sessions.flow.Flow.TheVariants as flows
 use Rattle.its_top.specs.Telling.{goes_on_after}
 
--- the lines that are shown of a world, if these are the letters of the ticks
-abbrev pub lines_of : Shown → List Pace → World → List Line
-lines_of shows.Nothing ps w = []
-lines_of (shows.Loaded s) ps w = printed.Loaded s ∷ []
-lines_of (shows.Ticks s) ps w = printed.Ticks s ps ∷ []
-lines_of (shows.Typed c n) ps w = printed.Typed c n ∷ []
-lines_of (shows.Drained c bytes) ps w = printed.Drained c bytes.items ∷ []
-lines_of (shows.Words s a words) ps w = printed.Words s a words.items ∷ []
-lines_of (shows.Listed s a words) ps w = printed.listed s a words.items
-lines_of (shows.State v s show) ps w = printed.State v s show ∷ []
-lines_of (shows.Peeked s peek) ps w = printed.Peeked s peek ∷ []
-lines_of (shows.Files d n) ps w = listing d (files_in d (state_of w).raw.files)
-lines_of (shows.File id d x y) ps w = shown_lines d x y (words_at w.files id)
+-- the lines that are shown of a world
+abbrev pub lines_of : Shown → World → List Line
+lines_of shows.Nothing w = []
+lines_of (shows.Line reply) w = line_of reply ∷ []
+lines_of (shows.Listed s a words) w = printed.listed s a words.now
+lines_of (shows.Files d n) w = listing d (files_in d (state_of w).raw.files)
+lines_of (shows.File id d x y) w = shown_lines d x y (words_at w.files id)
 
--- words that are typed out begin at an address; the files that are shown exist, and no part of a
--- close is pending
+-- a line has few parts; words that are typed out are few, and begin at an address; the files that
+-- are shown exist, and no part of a close is pending
 abbrev pub CanShow : Shown → World → Type 0
-CanShow (shows.Listed s a words) w = a < 2 ^ 18
+CanShow (shows.Line reply) w = FewParts reply
+CanShow (shows.Listed s a words) w = (a < 2 ^ 18) × (length words.now ≤ 8)
 CanShow (shows.Files d n) w = (w.files.mark ≡ None) × (n ≡ length (files_in d (state_of w).raw.files))
 CanShow (shows.File id d x y) w = (w.files.mark ≡ None) × (is_file (entry_at w.files id) ≡ true)
-CanShow s w = Unit {0}
+CanShow shows.Nothing w = Unit {0}
 
 -- the lines of line n of a session that ends with it, and its flow
 abbrev pub lines_over : ℕ → Over → List Line
@@ -55,9 +50,9 @@ flow_over overs.Ended = flows.Ended
 flow_over (overs.Refused e) = flows.Refused
 
 -- the lines of line n of a session, its flow, and what the session shows from it on
-abbrev pub lines_shown : ℕ → Result Shown Over → List Pace → World → List Line
-lines_shown n (Ok s) ps w = lines_of s ps w
-lines_shown n (Err over) ps w = lines_over n over
+abbrev pub lines_shown : ℕ → Result Shown Over → World → List Line
+lines_shown n (Ok s) w = lines_of s w
+lines_shown n (Err over) w = lines_over n over
 
 abbrev pub flow_of : Result Shown Over → Flow
 flow_of (Ok s) = flows.On
@@ -74,10 +69,9 @@ GoesBy (Ok s) e = goes_on_after e ≡ true
 GoesBy (Err overs.Ended) e = goes_on_after e ≡ false
 GoesBy (Err (overs.Refused r)) e = Unit {0}
 
--- in state v an event had this result; world w and block b' are left, and these are the letters of
--- the ticks
-pub record Performed (r : Result Shown Over) (v : State) (b : Block) (e : Event) (ps : List Pace) (w : World) (b' : Block) : Type 0 where
-  pub tells : (n : ℕ) (next : State → Block → Told) → line_told n v b e next ≡ telling (lines_shown n r ps w) (told_behind r (next (state_of w) b'))
+-- in state v an event had this result; world w and block b' are left
+pub record Performed (r : Result Shown Over) (v : State) (b : Block) (e : Event) (w : World) (b' : Block) : Type 0 where
+  pub tells : (n : ℕ) (next : State → Block → Told) → line_told n v b e next ≡ telling (lines_shown n r w) (told_behind r (next (state_of w) b'))
   pub goes : GoesBy r e
   pub ready : IfOk r (λ s. CanShow s w)
 

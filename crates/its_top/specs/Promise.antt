@@ -11,11 +11,11 @@ use Rattle.its_print.specs.Printing.{Line, text}
 use Rattle.its_session.specs.Events.{events_of, most_lines}
 use Rattle.its_reader.specs.TextLines.{lines_in}
 use Rattle.its_plain.specs.Transcript.{Fate, Open, Refused, TooLong, Transcript, Ended}
-use Rattle.its_plain.specs.Ledger.{Ledger}
-use Rattle.its_plain.specs.LinkLedger.{LinkLedger}
-use Rattle.its_plain.specs.Stretch.{Stretches}
-use Rattle.its_plain.specs.Fair.{FairTurns}
-use Rattle.its_plain.specs.FewDots.{FewDots}
+use Rattle.its_plain.specs.Promise.Ledger.{Ledger}
+use Rattle.its_plain.specs.Promise.LinkLedger.{LinkLedger}
+use Rattle.its_plain.specs.Promise.Stretch.{Stretches}
+use Rattle.its_plain.specs.Promise.Fair.{FairTurns}
+use Rattle.its_plain.specs.Promise.FewDots.{FewDots}
 use Rattle.its_security.specs.RunIntegrity.{Integrity}
 use Rattle.its_security.specs.Confidential.{Confidential}
 use Rattle.its_verify.specs.Accepted.{Accepted}
@@ -23,11 +23,11 @@ use Rattle.its_verify.specs.Rulings.{Yes}
 use Rattle.its_verify.specs.Verified.{Judged, Both, parts_from, verified}
 use Rattle.its_asm.specs.Assembly.{assembly}
 use Rattle.its_asm.specs.declared.assembly.Image.{Image}
-use Rattle.its_assembly.specs.Past.{runs_past}
-use Rattle.its_assembly.specs.Written.{image_events, lines_text}
-use Rattle.its_assembly.specs.Loading.{IsWhole}
-use Rattle.its_top.specs.declared.status.Status.{Status}
-use Rattle.its_top.specs.declared.status.Status.TheVariants as statuses
+use Rattle.its_asm_command.specs.Past.{runs_past}
+use Rattle.its_asm_command.specs.Written.{image_events, lines_text}
+use Rattle.its_asm_command.specs.Loading.{IsWhole}
+use Rattle.its_top.specs.declared.commands.status.Status.{Status}
+use Rattle.its_top.specs.declared.commands.status.Status.TheVariants as statuses
 
 -- the answer of the program to a session with this end
 abbrev pub answer_of : Fate → Status

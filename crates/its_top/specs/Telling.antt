@@ -9,8 +9,8 @@ use Rattle.its_plain.specs.Operator.{Block}
 use Rattle.its_plain.specs.Transcript.{Fate, Ended, Refused}
 use Rattle.its_stepped.specs.State.{State}
 use Rattle.its_stepped.specs.Lines.{Told, line_told, turned, told}
-use Rattle.its_top.specs.declared.flow.Flow.{Flow}
-use Rattle.its_top.specs.declared.flow.Flow.TheVariants as flows
+use Rattle.its_top.specs.declared.sessions.flow.Flow.{Flow}
+use Rattle.its_top.specs.declared.sessions.flow.Flow.TheVariants as flows
 
 -- the text that a session writes, and how it ends
 pub record Says : Type 0 where

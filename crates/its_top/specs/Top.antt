@@ -1,11 +1,12 @@
 -- What the program did for the command that its words are. Promise and Outcomes follow from it.
 -- No promise rests on this.
 use Rattle.std.specs.Prelude.{◌≡◌, ℕ, false, Option, Some, None, IfSome, List}
-use Rattle.its_assembly.specs.Past.{runs_past}
-use Rattle.its_top.specs.declared.status.Status.{Status}
-use Rattle.its_top.specs.declared.status.Status.TheVariants as statuses
-use Rattle.its_top.specs.declared.commands.Command.{Command}
-use Rattle.its_top.specs.declared.commands.Command.TheVariants.{Run, Check as CheckCommand, Gen, Verify as VerifyCommand, Asm as AsmCommand}
+use Rattle.its_asm_command.specs.Past.{runs_past}
+use Rattle.its_verify.specs.Finds.{Unmade}
+use Rattle.its_top.specs.declared.commands.status.Status.{Status}
+use Rattle.its_top.specs.declared.commands.status.Status.TheVariants as statuses
+use Rattle.its_top.specs.declared.commands.words.Command.{Command}
+use Rattle.its_top.specs.declared.commands.words.Command.TheVariants.{Run, Check as CheckCommand, Gen, Verify as VerifyCommand, Asm as AsmCommand}
 use Rattle.its_top.specs.Conclusion.{Session}
 use Rattle.its_top.specs.Checking.{WroteText, Check}
 use Rattle.its_top.specs.Generating.{generated_text}
@@ -23,10 +24,10 @@ DoneFor (Some AsmCommand) st left rest old new = Asm st left rest old new
 DoneFor None st left rest old new = WroteText st statuses.Usage usage old new × (rest ≡ left)
 
 -- if memory was refused, nothing was written, and only a command that keeps what it reads has read
--- anything. Words that are no command need no memory, and a check needs none; that a text is too
--- long is found without memory
+-- anything: of a session and its transcript no more than the session. Words that are no command
+-- need no memory, and a check needs none; that a text is too long is found without memory
 abbrev pub Refrains : Option Command → Option (List ℕ) → Option (List ℕ) → Option (List ℕ) → Option (List ℕ) → Type 0
-Refrains (Some VerifyCommand) left rest old new = new ≡ old
+Refrains (Some VerifyCommand) left rest old new = (new ≡ old) × IfSome left (λ bytes. Unmade bytes rest)
 Refrains (Some AsmCommand) left rest old new = (new ≡ old) × IfSome left (λ bytes. runs_past bytes ≡ false)
 Refrains (Some CheckCommand) left rest old new = ⊥
 Refrains None left rest old new = ⊥

@@ -5,12 +5,12 @@ use Rattle.std.specs.Io.KnownBytes.{Appends}
 use Rattle.its_session.specs.Events.{events_of, most_lines}
 use Rattle.its_reader.specs.TextLines.{lines_in}
 use Rattle.its_verify.specs.Accepted.{IsFirst}
-use Rattle.its_verify.specs.Finds.{Breaks}
+use Rattle.its_verify.specs.Finds.{Breaks, Unmade}
 use Rattle.its_verify.specs.Rulings.{Yes, No}
 use Rattle.its_verify.specs.Verified.{Answer, Judged, Long, Cut, TooLong, LongLine, NoEnd, TooMany, parts_from, verified, answer_text}
 use Rattle.its_top.specs.Promise.{IsCut, Licensed}
-use Rattle.its_top.specs.declared.status.Status.{Status}
-use Rattle.its_top.specs.declared.status.Status.TheVariants as statuses
+use Rattle.its_top.specs.declared.commands.status.Status.{Status}
+use Rattle.its_top.specs.declared.commands.status.Status.TheVariants as statuses
 
 -- line n of the transcript is the first that is not licensed, or that is missing, and there is room
 -- for all lines or for this one
@@ -61,10 +61,11 @@ pub record TellsAnswer (status : Status) (a : Answer) (old new : Option (List �
   pub told : ToldAs status a wrote
 
 -- a verification of these bytes has this status, and wrote w. If the source failed, what was read
--- decides nothing, and nothing was written; if memory was refused, nothing was written
+-- decides nothing, and nothing was written; if memory was refused, no line of the transcript was
+-- judged, and nothing was written
 abbrev pub VerifyOf : Status → List ℕ → Option (List ℕ) → List ℕ → Type 0
 VerifyOf statuses.ReadFault bytes rest w = Breaks bytes rest × (w ≡ [])
-VerifyOf statuses.NoMemory bytes rest w = w ≡ []
+VerifyOf statuses.NoMemory bytes rest w = Unmade bytes rest × (w ≡ [])
 VerifyOf status bytes rest w = ToldAs status (verified bytes) w
 
 -- how a verification ended, from what its source had left and had left then, and from what its sink

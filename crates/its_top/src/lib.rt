@@ -18,15 +18,13 @@
 //!
 //! Everything that allocates does so at its opening; no call of the loop takes memory.
 //!
-//! The letters of a tick and the bytes of a line are put into arrays that a session makes once
-//! (`src/room.rt`) and hands down: to make an array of 2048 bytes costs more than all else that an
-//! EXAM line does. The line of a refusal, which ends its session, has an array of its own. `verify`
-//! has such arrays too, for the letters that a line of a transcript says and for the line that is
-//! to be there (`its_verify/src/room.rt`).
-//!
-//! `turn_after` of `its_top` asks slot after slot whether its job runs, from the one after the last
-//! turn's on, and so does that of the judge of transcripts. They do not fill the list of 96 answers
-//! that `its_robin::next` takes; the laws of `its_robin` say that they find the same slot.
+//! What an event shows is the line itself as a value, `its_print::Reply`; only LIST, DIR and SHOW
+//! show several (`Shown`). The parts that a line lends, as its letters or words, and the bytes of
+//! its text are put into arrays that a session makes once (`sessions/room.rt`) and hands down: to
+//! make an array of 2048 bytes costs more than all else that an EXAM line does. The line of a
+//! refusal, which ends its session, has an array of its own. `verify` has such arrays too, for the
+//! letters that a line of a transcript says and for the line that is to be there
+//! (`its_verify/src/room.rt`).
 //!
 //! `clap` reads the words once none of them begins with `-`, in the form of one required positional
 //! and one optional one; the program's own definition then decides what two words mean. So no flag
@@ -51,41 +49,25 @@
 #![tactic(auto)]
 
 // The files:
-// - `top.rt`, `commands.rt`, `status.rt`: the top call, the words of a command, and the exit status
-// - `run.rt`: `run`: the loop over a session
-// - `checking.rt`: `check`
-// - `generating.rt`: `gen`
-// - `verifying.rt`: `verify`
-// - `assembling.rt`: `asm`
-// - `performing.rt`: the arm of each line of a session
-// - `loading.rt`, `consoles.rt`, `filing.rt`, `listing.rt`, `ticking.rt`, `circle.rt`: lines of one
-//   kind: LOAD; TYPE and DRAIN; files; EXAM and LIST; TICK; RUN
-// - `shown.rt`, `printing.rt`, `writing.rt`, `answer.rt`: what a line shows, as a value and as text
-// - `flow.rt`, `progress.rt`, `counts.rt`, `room.rt`: how far a session is, and its counts
-mod answer;
-mod assembling;
-mod checking;
-mod circle;
+// - `top.rt`, `commands/words.rt`, `commands/status.rt`: the top call, the words of a command, and
+//   the exit status
+// - `sessions/run.rt`: `run`: the loop over a session
+// - `commands/checking.rt`: `check`
+// - `commands/generating.rt`: `gen`
+// - `commands/verifying.rt`: `verify`
+// - `commands/assembling.rt`: `asm`
+// - `sessions/performing.rt`: the arm of each line of a session
+// - `sessions/loading.rt`, `sessions/consoles.rt`, `sessions/filing.rt`, `sessions/listing.rt`,
+//   `sessions/ticking.rt`, `sessions/circle.rt`: lines of one kind: LOAD; TYPE and DRAIN; files;
+//   EXAM and LIST; TICK; RUN
+// - `sessions/shown.rt`, `sessions/printing.rt`, `sessions/writing.rt`, `commands/answer.rt`: what
+//   a line shows, as a value and as text
+// - `sessions/flow.rt`, `sessions/progress.rt`, `commands/counts.rt`, `sessions/room.rt`: how far a
+//   session is, and its counts
 mod commands;
-mod consoles;
-mod counts;
-mod filing;
-mod flow;
-mod generating;
-mod listing;
-mod loading;
-mod performing;
-mod printing;
-mod progress;
-mod room;
-mod run;
-mod shown;
-mod status;
-mod ticking;
+mod sessions;
 mod top;
-mod verifying;
-mod writing;
 
-pub use run::session;
-pub use status::Status;
+pub use commands::status::Status;
+pub use sessions::run::session;
 pub use top::its;

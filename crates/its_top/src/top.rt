@@ -1,4 +1,5 @@
-ghost use Rattle.std.specs.Prelude.{◌≡◌, ◌≢◌, ◌≤◌, ◌<◌, ◌+◌, ◌-◌, ◌^◌, map, string_bytes, Some, None};
+//! The program `its`: its command, by its words.
+ghost use Rattle.std.specs.Prelude.{◌≡◌, ◌≢◌, ◌≤◌, ◌<◌, ◌+◌, ◌-◌, ◌^◌, true, map, string_bytes, Some, None};
 ghost use Rattle.its_io.specs.Bytes.{next_fault};
 ghost use Rattle.its_top.specs.Commands.{asked, command_of, IfGenerates};
 ghost use Rattle.its_top.specs.Checking.{WroteText};
@@ -7,13 +8,13 @@ ghost use Rattle.its_top.specs.Conclusion.{Session};
 ghost use Rattle.its_top.specs.Outcomes.{Faults, OfAsm, OfCheck, OfGen, OfNoCommand, OfRun, OfVerify};
 ghost use Rattle.its_top.specs.Top.{Obeyed};
 
-use super::assembling::assemble;
-use super::checking::{check, write_text};
-use super::commands::{Command, read_command};
-use super::generating::generate;
-use super::run::session;
-use super::status::Status;
-use super::verifying::judge;
+use crate::commands::assembling::assemble;
+use crate::commands::checking::{check, write_text};
+use crate::commands::generating::generate;
+use crate::commands::status::Status;
+use crate::commands::verifying::judge;
+use crate::commands::words::{Command, read_command};
+use crate::sessions::run::session;
 use its_io::{Sink, Source};
 use its_monitor::Monitor;
 use std::alloc::Global;
@@ -21,11 +22,14 @@ use std::alloc::Global;
 /// The usage line.
 const USAGE: &[u8] = b"usage: its run | its check | its gen N | its verify | its asm\n";
 
-/// The program: the words after its name, the session that `src` gives, and what `out` takes. The words `run` and
-/// `check` read a session; `gen` and a number run a generated one, and read nothing. The word `verify` reads a session and its transcript,
-/// and `asm` an assembly text. What each of them promises is a record of `specs/Outcomes`, over those of `specs/Promise`.
+/// The program: the words after its name, the session that `src` gives, and what `out` takes. The
+/// words `run` and `check` read a session; `gen` and a number run a generated one, and read
+/// nothing. The word `verify` reads a session and its transcript, and `asm` an assembly text. What
+/// each of them promises is a record of `specs/Outcomes`, over those of `specs/Promise`. Split for
+/// its proof: `its_row` says what is done.
 #[tactic(auto, using(crate::proofs::PromiseLaws::promises))]
 pub fn its<S: Source, K: Sink>(alloc: Global, words: &[String], src: &mut S, out: &mut K) -> Status
+    requires readable { S.readable src.old ≡ true }
     requires source { S.faults src.old < 2 ^ 64 - 1 }
     requires sink { K.faults out.old < 2 ^ 64 - 1 }
     ensures run { asked words.now ≡ Some Command.Run
@@ -47,17 +51,13 @@ pub fn its<S: Source, K: Sink>(alloc: Global, words: &[String], src: &mut S, out
     ensures safe_source { ((a b : S) → S.faults a ≡ S.faults b) → result ≢ Status.ReadFault }
     ensures safe_sink { ((a b : K) → K.faults a ≡ K.faults b) → result ≢ Status.WriteFault }
 {
-    read_and_obey(alloc, words, src, out)
+    its_row(alloc, words, src, out)
 }
 
-/// The same, by what it did for the command that the words are.
+/// Obeys the command that the words are, as one row: what it did for that command.
 #[tactic(auto, using(crate::proofs::ObeyLaws::obeyed_by, crate::proofs::CommandLaws::few_rounds))]
-fn read_and_obey<S: Source, K: Sink>(
-    alloc: Global,
-    words: &[String],
-    src: &mut S,
-    out: &mut K,
-) -> Status
+fn its_row<S: Source, K: Sink>(alloc: Global, words: &[String], src: &mut S, out: &mut K) -> Status
+    requires readable { S.readable src.old ≡ true }
     requires source { S.faults src.old < 2 ^ 64 - 1 }
     requires sink { K.faults out.old < 2 ^ 64 - 1 }
     ensures obeyed { Obeyed (asked words.now) result (S.left src.old) (S.left src.new) (K.written out.old) (K.written out.new) }
@@ -71,13 +71,14 @@ fn read_and_obey<S: Source, K: Sink>(
 }
 
 /// Performs a command; if the words are none, writes the usage line.
-#[tactic(auto, using(crate::proofs::ObeyLaws::obeyed_run, crate::proofs::ObeyLaws::obeyed_check, crate::proofs::ObeyLaws::obeyed_gen, crate::proofs::ObeyLaws::obeyed_none, crate::proofs::ObeyLaws::obeyed_verify, crate::proofs::ObeyLaws::obeyed_asm))]
+#[tactic(auto, using(crate::proofs::Groups::obey_laws))]
 fn obey<S: Source, K: Sink>(
     alloc: Global,
     command: Option<Command>,
     src: &mut S,
     out: &mut K,
 ) -> Status
+    requires readable { S.readable src.old ≡ true }
     requires source { S.faults src.old < 2 ^ 64 - 1 }
     requires sink { K.faults out.old < 2 ^ 64 - 1 }
     requires rounds { IfGenerates command (λ n. n ≤ 4096) }
@@ -114,6 +115,7 @@ fn generate_rounds<K: Sink>(alloc: Global, n: u32, out: &mut K) -> Status
 
 /// Runs the session that the source gives.
 fn run<S: Source, K: Sink>(alloc: Global, src: &mut S, out: &mut K) -> Status
+    requires readable { S.readable src.old ≡ true }
     requires source { S.faults src.old < 2 ^ 64 - 1 }
     requires sink { K.faults out.old < 2 ^ 64 - 1 }
     ensures session { result ≢ Status.NoMemory → Session result (S.left src.old) (S.left src.new) (K.written out.old) (K.written out.new) }

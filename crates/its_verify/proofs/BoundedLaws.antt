@@ -1,10 +1,10 @@
--- What is said if there is room for so many lines: the verdict, if the lines are no more, or if the verdict names a
--- line for which there is room.
+-- What is said if there is room for so many lines: the verdict, if the lines are no more, or if the
+-- verdict names a line for which there is room.
 use Rattle.std.proofs.Common.{◌≡◌, ◌<◌, ◌≤◌, ◌⊎◌, ℕ, leb, List, length, take, refl, sym, ap, subst, ◌∙◌, inl, inr, arith, take-take, length-take}
 use Rattle.std.proofs.lemmas.Bool.{cases_Bool, cases_lt, le-leb, lt-leb, leb-true}
 use Rattle.its_records.specs.Item.{Item}
 use Rattle.its_plain.specs.Transcript.{at_start}
-use Rattle.its_plain.specs.Turns.{highest}
+use Rattle.its_plain.specs.Transcript.Turns.{highest}
 use Rattle.its_verify.specs.Accepted.{AcceptedLines, BeginsTranscript, IsFirst}
 use Rattle.its_verify.specs.Rulings.{Verdict, Yes, No, judged}
 use Rattle.its_verify.specs.Verified.{Answer, Judged, TooLong, bounded, within}
@@ -58,7 +58,8 @@ all_fit : (room : ℕ) (es : List Item) (texts : List (List ℕ)) → length tex
 unfolding bounded
 all_fit room es texts few = rw (le-leb (length texts) room few) refl
 
-too_many : (room : ℕ) (es : List Item) (texts : List (List ℕ)) → room < length texts → bounded room es texts ≡ within room (judged at_start highest es 0 (take room texts))
+too_many : (room : ℕ) (es : List Item) (texts : List (List ℕ)) → room < length texts
+    → bounded room es texts ≡ within room (judged at_start highest es 0 (take room texts))
 unfolding bounded
 too_many room es texts more = rw (lt-leb (length texts) room more) refl
 
@@ -97,10 +98,12 @@ yes_has room es texts k h =
           record { few = few; many = y.0; accepted = y.1 })
     ]
 
-pub has_yes : (room : ℕ) (es : List Item) (texts : List (List ℕ)) → length texts ≤ room → AcceptedLines es texts → bounded room es texts ≡ Judged (Yes (length texts))
+pub has_yes : (room : ℕ) (es : List Item) (texts : List (List ℕ)) → length texts ≤ room → AcceptedLines es texts
+    → bounded room es texts ≡ Judged (Yes (length texts))
 has_yes room es texts few h = all_fit room es texts few ∙ ap Judged (lines_yes es texts h)
 
--- No exactly with the first line that is not licensed, if there is room for all lines or for this one
+-- No exactly with the first line that is not licensed, if there is room for all lines or for this
+-- one
 pub record NotYet (room : ℕ) (es : List Item) (texts : List (List ℕ)) (n : ℕ) : Type 0 where
   pub room_for : (length texts ≤ room) ⊎ (n ≤ room)
   pub first : IsFirst es texts n
@@ -114,7 +117,11 @@ no_has room es texts n h =
           let few : n ≤ room = (let f = y.few in omega arith) in
           record { room_for = inr few; first = first_of_front es texts room n more few (no_lines es (take room texts) n (y.first ∙ ap No is)) })
       | inr few ↦
-          record { room_for = inl few; first = no_lines es texts n (judged_is (judged at_start highest es 0 texts) (No n) (sym (all_fit room es texts few) ∙ h)) }
+          record {
+            room_for = inl few;
+            first = no_lines es texts n
+                (judged_is (judged at_start highest es 0 texts) (No n) (sym (all_fit room es texts few) ∙ h));
+          }
     ]
 
 pub has_no : (room : ℕ) (es : List Item) (texts : List (List ℕ)) (n : ℕ) → NotYet room es texts n → bounded room es texts ≡ Judged (No n)
@@ -127,7 +134,8 @@ has_no room es texts n y =
       | inr few ↦ all_fit room es texts few ∙ ap Judged (first_lines_no es texts n y.first)
     ]
 
--- else nothing is said: there are more lines than there is room for, and no line before is the first
+-- else nothing is said: there are more lines than there is room for, and no line before is the
+-- first
 pub record Past (room : ℕ) (es : List Item) (texts : List (List ℕ)) : Type 0 where
   pub more : room < length texts
   pub none : (n : ℕ) → IsFirst es texts n → room < n

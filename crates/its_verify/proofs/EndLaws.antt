@@ -58,19 +58,22 @@ wrong_1 c (run ∷ runs) h =
     let some : (suc (length run) == 0) ≡ false = grind (arith, nat_tests) in
     rw some (not_end (c ∷ run) (filter (λ r. not (length r == 0)) runs) (rw h refl))
 
-wrong_2 : (d : ℕ) (runs : List (List ℕ)) → (d == 78) ≡ false → is_only (codes "END") (filter (λ r. not (length r == 0)) (onto_first 69 (onto_first d runs))) ≡ false
+wrong_2 : (d : ℕ) (runs : List (List ℕ)) → (d == 78) ≡ false
+    → is_only (codes "END") (filter (λ r. not (length r == 0)) (onto_first 69 (onto_first d runs))) ≡ false
 wrong_2 d [] h = rw h refl
 wrong_2 d (run ∷ runs) h =
     let some : (suc (suc (length run)) == 0) ≡ false = grind (arith, nat_tests) in
     rw some (not_end (69 ∷ d ∷ run) (filter (λ r. not (length r == 0)) runs) (rw h refl))
 
-wrong_3 : (e : ℕ) (runs : List (List ℕ)) → (e == 68) ≡ false → is_only (codes "END") (filter (λ r. not (length r == 0)) (onto_first 69 (onto_first 78 (onto_first e runs)))) ≡ false
+wrong_3 : (e : ℕ) (runs : List (List ℕ)) → (e == 68) ≡ false
+    → is_only (codes "END") (filter (λ r. not (length r == 0)) (onto_first 69 (onto_first 78 (onto_first e runs)))) ≡ false
 wrong_3 e [] h = rw h refl
 wrong_3 e (run ∷ runs) h =
     let some : (suc (suc (suc (length run))) == 0) ≡ false = grind (arith, nat_tests) in
     rw some (not_end (69 ∷ 78 ∷ e ∷ run) (filter (λ r. not (length r == 0)) runs) (rw h refl))
 
-longer : (f : ℕ) (runs : List (List ℕ)) → is_only (codes "END") (filter (λ r. not (length r == 0)) (onto_first 69 (onto_first 78 (onto_first 68 (onto_first f runs))))) ≡ false
+longer : (f : ℕ) (runs : List (List ℕ)) → is_only (codes "END")
+    (filter (λ r. not (length r == 0)) (onto_first 69 (onto_first 78 (onto_first 68 (onto_first f runs))))) ≡ false
 longer f [] = refl
 longer f (run ∷ runs) =
     let some : (suc (suc (suc (suc (length run)))) == 0) ≡ false = grind (arith, nat_tests) in
@@ -81,7 +84,8 @@ unfolding words_of
 blank_here fs = blank_behind (codes "END") fs
 
 -- E, N and D, and what follows
-after_end : (rest : List ℕ) → is_only (codes "END") (filter (λ r. not (length r == 0)) (onto_first 69 (onto_first 78 (onto_first 68 (slice_split (λ b. b == 32) rest))))) ≡ list_all is_space rest
+after_end : (rest : List ℕ) → is_only (codes "END") (filter (λ r. not (length r == 0))
+    (onto_first 69 (onto_first 78 (onto_first 68 (slice_split (λ b. b == 32) rest))))) ≡ list_all is_space rest
 after_end [] = refl
 after_end (f ∷ fs) =
     elim (cases_Bool (f == 32)) [
@@ -89,7 +93,8 @@ after_end (f ∷ fs) =
       | inr other ↦ rw other (longer f (slice_split (λ b. b == 32) fs))
     ]
 
-after_en : (rest : List ℕ) → is_only (codes "END") (filter (λ r. not (length r == 0)) (onto_first 69 (onto_first 78 (slice_split (λ b. b == 32) rest)))) ≡ ends_with_d (78 ∷ rest)
+after_en : (rest : List ℕ) → is_only (codes "END") (filter (λ r. not (length r == 0))
+    (onto_first 69 (onto_first 78 (slice_split (λ b. b == 32) rest)))) ≡ ends_with_d (78 ∷ rest)
 after_en [] = refl
 after_en (e ∷ es) =
     elim (cases_Bool (e == 32)) [
@@ -98,7 +103,8 @@ after_en (e ∷ es) =
           rw (space, wrong) (not_end (69 ∷ 78 ∷ []) (filter (λ r. not (length r == 0)) (slice_split (λ b. b == 32) es)) refl))
       | inr other ↦ elim (cases_Bool (e == 68)) [
         | inl is ↦
-            subst (λ (m : ℕ). is_only (codes "END") (filter (λ r. not (length r == 0)) (onto_first 69 (onto_first 78 (slice_split (λ b. b == 32) (m ∷ es))))) ≡ ends_with_d (78 ∷ m ∷ es))
+            subst (λ (m : ℕ). is_only (codes "END") (filter (λ r. not (length r == 0))
+            (onto_first 69 (onto_first 78 (slice_split (λ b. b == 32) (m ∷ es))))) ≡ ends_with_d (78 ∷ m ∷ es))
             (sym (eqb-true e 68 is)) (after_end es)
         | inr wrong ↦ rw (other, wrong) (wrong_3 e (slice_split (λ b. b == 32) es) wrong)
       ]
@@ -117,7 +123,8 @@ after_e (n ∷ ns) =
           rw (n_then n ns wrong, space) (not_end (69 ∷ []) (filter (λ r. not (length r == 0)) (slice_split (λ b. b == 32) ns)) refl))
       | inr other ↦ elim (cases_Bool (n == 78)) [
         | inl is ↦
-            subst (λ (m : ℕ). is_only (codes "END") (filter (λ r. not (length r == 0)) (onto_first 69 (slice_split (λ b. b == 32) (m ∷ ns)))) ≡ ends_with_d (m ∷ ns))
+            subst (λ (m : ℕ). is_only (codes "END") (filter (λ r. not (length r == 0))
+            (onto_first 69 (slice_split (λ b. b == 32) (m ∷ ns)))) ≡ ends_with_d (m ∷ ns))
             (sym (eqb-true n 78 is)) (after_en ns)
         | inr wrong ↦ rw (n_then n ns wrong, other) (wrong_2 n (slice_split (λ b. b == 32) ns) wrong)
       ]
@@ -129,7 +136,8 @@ end_first c rest other =
     let test : (c == 32) ≡ false = ne_eqb c 32 other in
     elim (cases_Bool (c == 69)) [
       | inl is ↦
-          subst (λ (m : ℕ). is_only (codes "END") (filter (λ r. not (length r == 0)) (slice_split (λ b. b == 32) (m ∷ rest))) ≡ ((m == 69) && ends_with_d rest))
+          subst (λ (m : ℕ). is_only (codes "END") (filter (λ r. not (length r == 0)) (slice_split (λ b. b == 32) (m ∷ rest))) ≡
+          ((m == 69) && ends_with_d rest))
           (sym (eqb-true c 69 is)) (after_e rest)
       | inr wrong ↦ rw (test, wrong) (wrong_1 c (slice_split (λ b. b == 32) rest) wrong)
     ]

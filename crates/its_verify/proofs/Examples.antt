@@ -1,4 +1,5 @@
--- Worked examples of the judge, evaluated: the transcripts of small sessions, whole and with one letter, line or LF changed.
+-- Worked examples of the judge, evaluated: the transcripts of small sessions, whole and with one
+-- letter, line or LF changed.
 use Rattle.std.specs.Prelude.{◌≡◌, ℕ, true, false, Some, List, [], ◌∷◌, ◌++◌, codes, map, refl, replicate}
 use Rattle.its_robin.specs.Robin.{first_running, robin}
 use Rattle.its_records.specs.Item.{Read}
@@ -8,10 +9,10 @@ use Rattle.its_print.specs.Printing.{runs_of, text_of_line}
 use Rattle.its_session.specs.Events.{events_of}
 use Rattle.its_session.specs.Grammar.{bare_line, event_of_words, kind_of, last_slot, line_event, slot_line, tick_line}
 use Rattle.its_plain.specs.Machine.{Whole, no_machine}
-use Rattle.its_plain.specs.OperatorJobs.{state_shown}
-use Rattle.its_plain.specs.OperatorLines.{lined, operate}
+use Rattle.its_plain.specs.Operator.Jobs.{state_shown}
+use Rattle.its_plain.specs.Operator.Lines.{lined, operate}
 use Rattle.its_plain.specs.Transcript.{Walk, at_start}
-use Rattle.its_plain.specs.Turns.{highest}
+use Rattle.its_plain.specs.Transcript.Turns.{highest}
 use Rattle.its_reader.specs.TextLines.{lines_in}
 use Rattle.its_verify.specs.Lines.{is_peek}
 use Rattle.its_verify.specs.Rulings.{Verdict, Yes, No, judged}
@@ -31,8 +32,9 @@ first = line (codes "T 0 2-")
 abbrev last : List ℕ
 last = line (codes "? 2 NOJOB")
 
--- the whole transcript; a letter that is not licensed; a run that is cut in two; one tick less and one more; the last line missing, one
--- line too many, the last LF missing, and an LF too many before the end; and a transcript of nothing
+-- the whole transcript; a letter that is not licensed; a run that is cut in two; one tick less and
+-- one more; the last line missing, one line too many, the last LF missing, and an LF too many
+-- before the end; and a transcript of nothing
 abbrev transcripts : List (List ℕ)
 transcripts =
     (first ++ last)
@@ -47,13 +49,17 @@ transcripts =
     ∷ []
     ∷ []
 
-answers : map (λ transcript. verified (session ++ transcript)) transcripts ≡ map Judged (Yes 2 ∷ No 1 ∷ No 1 ∷ No 1 ∷ No 1 ∷ No 2 ∷ No 3 ∷ No 2 ∷ No 2 ∷ No 1 ∷ [])
-unfolding verified bounded is_end_line lines_in events_of line_event event_of_words kind_of last_slot tick_line slot_line bare_line words_of is_octal octal_value lined operate no_machine state_shown ticks_in text_of_line runs_of spaced digits_of
+answers : map (λ transcript. verified (session ++ transcript)) transcripts ≡ map Judged
+    (Yes 2 ∷ No 1 ∷ No 1 ∷ No 1 ∷ No 1 ∷ No 2 ∷ No 3 ∷ No 2 ∷ No 2 ∷ No 1 ∷ [])
+unfolding verified bounded is_end_line lines_in events_of line_event event_of_words kind_of last_slot tick_line slot_line bare_line words_of
+    is_octal octal_value lined operate no_machine state_shown ticks_in text_of_line runs_of spaced digits_of
 answers = refl
 
--- inputs whose session has no END line, one without lines, one that has END in a word, and one with a line of 256 bytes
+-- inputs whose session has no END line, one without lines, one that has END in a word, and one with
+-- a line of 256 bytes
 abbrev inputs : List (List ℕ)
-inputs = line (codes "TICK 0 2") ∷ [] ∷ line (codes "END.") ∷ (line (replicate 256 59) ++ line (codes "END")) ∷ (codes "; " ++ line (codes "END") ++ codes " END ") ∷ []
+inputs = line (codes "TICK 0 2") ∷ [] ∷ line (codes "END.") ∷ (line (replicate 256 59) ++ line (codes "END"))
+    ∷ (codes "; " ++ line (codes "END") ++ codes " END ") ∷ []
 
 cuts : map verified inputs ≡ Cut 2 ∷ Cut 1 ∷ Cut 2 ∷ Long 1 ∷ Judged (Yes 0) ∷ []
 unfolding verified bounded is_end_line lines_in events_of line_event event_of_words kind_of bare_line words_of lined operate
@@ -64,14 +70,16 @@ abbrev with_job : Whole → Walk
 with_job q = record at_start { machine = record no_machine { jobs = λ k. Some q } }
 
 abbrev peeks : List (List ℕ)
-peeks = line (codes "P 0 USER - 0 - - -") ∷ line (codes "P") ∷ line (codes "  P here") ∷ line (codes "PP") ∷ line (codes "Q P") ∷ line [] ∷ codes "P" ∷ (line (codes "P") ++ line (codes "P")) ∷ []
+peeks = line (codes "P 0 USER - 0 - - -") ∷ line (codes "P") ∷ line (codes "  P here") ∷ line (codes "PP") ∷ line (codes "Q P") ∷ line []
+    ∷ codes "P" ∷ (line (codes "P") ++ line (codes "P")) ∷ []
 
-peeked : (q : Whole) → map (λ text. judged (with_job q) highest (Read (events.Peek 0) ∷ []) 0 (lines_in text)) peeks ≡ Yes 1 ∷ Yes 1 ∷ Yes 1 ∷ No 1 ∷ No 1 ∷ No 1 ∷ No 1 ∷ No 2 ∷ []
+peeked : (q : Whole) → map (λ text. judged (with_job q) highest (Read (events.Peek 0) ∷ []) 0 (lines_in text)) peeks ≡ Yes 1 ∷ Yes 1 ∷ Yes 1
+    ∷ No 1 ∷ No 1 ∷ No 1 ∷ No 1 ∷ No 2 ∷ []
 unfolding lined lines_in is_peek words_of
 peeked q = refl
 
--- RUN if a job runs in each slot: the turns in their order; one that is missing, of another slot, with a letter that is
--- not licensed, and one too many
+-- RUN if a job runs in each slot: the turns in their order; one that is missing, of another slot,
+-- with a letter that is not licensed, and one too many
 abbrev running : Whole → Walk
 running q = with_job (record q { job = record q.job { stopped = false } })
 
@@ -93,7 +101,8 @@ unfolding lined operate lines_in ticks_in text_of_line runs_of spaced digits_of 
 run_turns q = refl
 
 -- the next RUN goes on after the last turn
-next_turns : (q : Whole) → map (λ text. judged (running q) highest (Read (events.Run 1 1) ∷ Read (events.Run 1 1) ∷ []) 0 (lines_in text)) turns ≡ turn_answers
+next_turns : (q : Whole) → map (λ text. judged (running q) highest (Read (events.Run 1 1) ∷ Read (events.Run 1 1) ∷ []) 0 (lines_in text))
+    turns ≡ turn_answers
 unfolding lined operate lines_in ticks_in text_of_line runs_of spaced digits_of robin first_running
 next_turns q = refl
 

@@ -9,12 +9,12 @@ use Rattle.its_records.specs.declared.calls.Pace.{Pace}
 use Rattle.its_records.specs.declared.calls.Pace.TheVariants.{Step, Work}
 use Rattle.its_print.specs.declared.runs.Run.{Run}
 use Rattle.its_print.specs.Runs.{paces_in}
-use Rattle.its_plain.specs.CallStep.{disturbed, makes, step, transition, transition_of, unless_stopped}
-use Rattle.its_plain.specs.Licence.{Dots, dots_after, most_dots}
+use Rattle.its_plain.specs.Call.Step.{disturbed, makes, step, transition, transition_of, unless_stopped}
+use Rattle.its_plain.specs.Transcript.Licence.{Dots, dots_after, most_dots}
 use Rattle.its_plain.specs.Machine.{Machine, Whole}
 use Rattle.its_plain.specs.Operator.{Block}
 use Rattle.its_plain.specs.Transcript.{Walk, after_letter}
-use Rattle.its_plain.specs.Turns.{is_running}
+use Rattle.its_plain.specs.Transcript.Turns.{is_running}
 use Rattle.its_plain.proofs.StepLaws.{step_by}
 use Rattle.its_verify.specs.Gathered.{Begins, dotted, gathered_by, joined, joined_by, letters_in, letters_of, only_run, starred}
 use Rattle.its_verify.specs.JudgeState.{LeadsOn, RunLed, RunsLed, walk_of}
@@ -34,12 +34,14 @@ unfolding transition
 no_step m i off = step_by m i None (still m i (m.jobs i) off)
 
 -- a `*` forgets the `.` before it
-forgets_own : (own disturbs made : Bool) (d : ℕ) → (if own || disturbs || made then 0 else (if own then d + 1 else d)) ≡ (if own || disturbs || made then 0 else d)
+forgets_own : (own disturbs made : Bool) (d : ℕ) → (if own || disturbs || made then 0 else (if own then d + 1 else d)) ≡
+    (if own || disturbs || made then 0 else d)
 forgets_own true disturbs made d = refl
 forgets_own false disturbs made d = refl
 
 forgets_dots : (m : Machine) (d : Dots) (i : ℕ) → dots_after m (dots_after m d i Work) i Step ≡ dots_after m d i Step
-forgets_dots m d i = same_dots (dots_after m (dots_after m d i Work) i Step) (dots_after m d i Step) (λ k. forgets_own (k == i) (disturbed m i k) (makes m i k) (d k))
+forgets_dots m d i = same_dots (dots_after m (dots_after m d i Work) i Step) (dots_after m d i Step)
+    (λ k. forgets_own (k == i) (disturbed m i k) (makes m i k) (d k))
 
 star_behind_dot : (v : Walk) (i : ℕ) (ps : List Pace) → paced (after_letter v i Work v.machine) i (Step ∷ ps) ≡ paced v i (Step ∷ ps)
 star_behind_dot v i ps = ap (λ (d : Dots). option_and_then (λ (n : Machine). paced (with_dots n d) i ps) (step v.machine i)) (forgets_dots v.machine v.dots i)
@@ -48,7 +50,8 @@ star_behind_dot v i ps = ap (λ (d : Dots). option_and_then (λ (n : Machine). p
     with_dots n d = record { machine = n; dots = d; block = v.block; line = v.line }
 
 -- a `.` before a `*` is licensed if the `*` is
-dot_left_out : (v : Walk) (i : ℕ) (xs ps : List Pace) → v.dots i < most_dots → paced (after_letter v i Work v.machine) i xs ≡ paced v i (Step ∷ ps) → paced v i (Work ∷ xs) ≡ paced v i (Step ∷ ps)
+dot_left_out : (v : Walk) (i : ℕ) (xs ps : List Pace) → v.dots i < most_dots
+    → paced (after_letter v i Work v.machine) i xs ≡ paced v i (Step ∷ ps) → paced v i (Work ∷ xs) ≡ paced v i (Step ∷ ps)
 dot_left_out v i xs ps few on =
     elim (cases_Bool (is_running (v.machine.jobs i))) [
       | inl run ↦
@@ -88,10 +91,12 @@ none_left v i n =
 dots_between : (m a : ℕ) (v : Walk) (i : ℕ) (ps : List Pace) → a ≤ most_dots
     → paced v i (Step ∷ (replicate m Step ++ (replicate a Work ++ (Step ∷ ps)))) ≡ paced v i (Step ∷ (replicate m Step ++ (Step ∷ ps)))
 dots_between zero a v i ps few =
-    same_then (λ n. paced (after_letter v i Step n) i (replicate a Work ++ (Step ∷ ps))) (λ n. paced (after_letter v i Step n) i (Step ∷ ps)) (step v.machine i)
+    same_then (λ n. paced (after_letter v i Step n) i (replicate a Work ++ (Step ∷ ps)))
+    (λ n. paced (after_letter v i Step n) i (Step ∷ ps)) (step v.machine i)
     (λ n. (let none : (after_letter v i Step n).dots i ≡ 0 = none_left v i n in dots_before a (after_letter v i Step n) i ps (omega (arith, few, none))))
 dots_between (suc m) a v i ps few =
-    same_then (λ n. paced (after_letter v i Step n) i (Step ∷ (replicate m Step ++ (replicate a Work ++ (Step ∷ ps))))) (λ n. paced (after_letter v i Step n) i (Step ∷ (replicate m Step ++ (Step ∷ ps))))
+    same_then (λ n. paced (after_letter v i Step n) i (Step ∷ (replicate m Step ++ (replicate a Work ++ (Step ∷ ps)))))
+    (λ n. paced (after_letter v i Step n) i (Step ∷ (replicate m Step ++ (Step ∷ ps))))
     (step v.machine i) (λ n. dots_between m a (after_letter v i Step n) i ps few)
 
 -- runs of a letter
@@ -101,7 +106,8 @@ one_run p m k n ps is =
     ap (λ (j : ℕ). replicate m p ++ (replicate j p ++ ps)) left ∙ sym (taken_apart n m p ps (omega (arith, is)))
 
 all_stars : (m a k n : ℕ) (v : Walk) (i : ℕ) (ps : List Pace) → a ≤ most_dots → n ≡ m + k + 1
-    → paced v i (((Step ∷ replicate m Step) ++ replicate a Work) ++ ((Step ∷ replicate k Step) ++ ps)) ≡ paced v i (((Step ∷ replicate n Step) ++ replicate 0 Work) ++ ps)
+    → paced v i (((Step ∷ replicate m Step) ++ replicate a Work) ++ ((Step ∷ replicate k Step) ++ ps)) ≡ paced v i
+    (((Step ∷ replicate n Step) ++ replicate 0 Work) ++ ps)
 all_stars m a k n v i ps few is =
     ap (λ (xs : List Pace). paced v i (Step ∷ xs)) (append_assoc (replicate m Step) (replicate a Work) (Step ∷ (replicate k Step ++ ps)))
     ∙ dots_between m a v i (replicate k Step ++ ps) few
@@ -141,8 +147,10 @@ leads_by Step Work g h r first next few is =
 leads_by p q g h r first next few is = absurd (none-some h is)
 
 leads_with : (rs : List Run) (g : Gathered) (r : Run) (o : Option Gathered) (v : Walk) (i : ℕ) → g.dots ≤ most_dots → joined g r ≡ o
-    → ((h : Gathered) → h.dots ≤ most_dots → paced v i (letters_of h ++ paces_in rs) ≡ paced v i (letters_of (gathered_by h rs).0 ++ paces_in (gathered_by h rs).1))
-    → paced v i (letters_of g ++ paces_in (r ∷ rs)) ≡ paced v i (letters_of (option_map_or (λ h. gathered_by h rs) o (g, r ∷ rs)).0 ++ paces_in (option_map_or (λ h. gathered_by h rs) o (g, r ∷ rs)).1)
+    → ((h : Gathered) → h.dots ≤ most_dots → paced v i (letters_of h ++ paces_in rs) ≡ paced v i
+    (letters_of (gathered_by h rs).0 ++ paces_in (gathered_by h rs).1))
+    → paced v i (letters_of g ++ paces_in (r ∷ rs)) ≡ paced v i
+    (letters_of (option_map_or (λ h. gathered_by h rs) o (g, r ∷ rs)).0 ++ paces_in (option_map_or (λ h. gathered_by h rs) o (g, r ∷ rs)).1)
 leads_with rs g r None v i few is others = refl
 leads_with rs g r (Some h) v i few is others =
     let leads = leads_by g.run.pace r.pace g h r refl refl few is in leads.same v i (paces_in rs) ∙ others h leads.few
@@ -172,16 +180,19 @@ pub dots_past : (r : Run) (n : ℕ) → 16 < n → None ≡ dotted r n
 dots_past r n many = sym (ap (λ (b : Bool). if_so b (record { run = r; dots = n })) (lt-leb n most_dots many))
 
 -- one more run, or one that is not led together with what was gathered
-next_gathered : (whole : Gathered × List Run) (rest after : List Run) (run : Run) (g : Gathered) (o : Option Gathered) → gathered_by g rest ≡ whole → IsFirstAndRest rest run after → o ≡ joined g run
+next_gathered : (whole : Gathered × List Run) (rest after : List Run) (run : Run) (g : Gathered) (o : Option Gathered)
+    → gathered_by g rest ≡ whole → IsFirstAndRest rest run after → o ≡ joined g run
     → option_map_or (λ h. gathered_by h after) o (g, run ∷ after) ≡ whole
 next_gathered whole rest after run g o so parts is =
     ap (λ (k : Option Gathered). option_map_or (λ h. gathered_by h after) k (g, run ∷ after)) is ∙ sym (ap (gathered_by g) parts.0) ∙ so
 
-pub gathers_more : (whole : Gathered × List Run) (rest after : List Run) (run : Run) (g h : Gathered) → gathered_by g rest ≡ whole → IsFirstAndRest rest run after
+pub gathers_more : (whole : Gathered × List Run) (rest after : List Run) (run : Run) (g h : Gathered) → gathered_by g rest ≡ whole
+    → IsFirstAndRest rest run after
     → Some h ≡ joined g run → gathered_by h after ≡ whole
 gathers_more whole rest after run g h so parts is = next_gathered whole rest after run g (Some h) so parts is
 
-pub gathers_stop : (whole : Gathered × List Run) (rest after : List Run) (run : Run) (g : Gathered) → gathered_by g rest ≡ whole → IsFirstAndRest rest run after
+pub gathers_stop : (whole : Gathered × List Run) (rest after : List Run) (run : Run) (g : Gathered) → gathered_by g rest ≡ whole
+    → IsFirstAndRest rest run after
     → None ≡ joined g run → (g, rest) ≡ whole
 gathers_stop whole rest after run g so parts is =
     ap (λ (rs : List Run). (g, rs)) parts.0 ∙ next_gathered whole rest after run g None so parts is
@@ -193,13 +204,17 @@ gathers_end whole (r ∷ rs) g so none = absurd (omega (arith, none))
 -- what was gathered is led
 run_first : (old mid : Judge) (i : ℕ) (g : Gathered) → RunLed true old mid i (letters_in g.run)
     → (b : Block) (n : ℕ) (ps : List Pace) → paced (walk_of old b n) i (letters_of g ++ ps) ≡ paced (walk_of mid b n) i (replicate g.dots Work ++ ps)
-run_first old mid i g led b n ps = ap (paced (walk_of old b n) i) (append_assoc (letters_in g.run) (replicate g.dots Work) ps) ∙ led b n (replicate g.dots Work ++ ps)
+run_first old mid i g led b n ps = ap (paced (walk_of old b n) i) (append_assoc (letters_in g.run) (replicate g.dots Work) ps)
+    ∙ led b n (replicate g.dots Work ++ ps)
 
-pub run_unled : (old new : Judge) (i : ℕ) (g : Gathered) (licensed : Bool) → licensed ≡ false → RunLed licensed old new i (g.run.pace ∷ replicate g.run.more g.run.pace) → RunLed false old new i (letters_of g)
-run_unled old new i g false is led b n ps = ap (paced (walk_of old b n) i) (append_assoc (letters_in g.run) (replicate g.dots Work) ps) ∙ led b n (replicate g.dots Work ++ ps)
+pub run_unled : (old new : Judge) (i : ℕ) (g : Gathered) (licensed : Bool) → licensed ≡ false
+    → RunLed licensed old new i (g.run.pace ∷ replicate g.run.more g.run.pace) → RunLed false old new i (letters_of g)
+run_unled old new i g false is led b n ps = ap (paced (walk_of old b n) i) (append_assoc (letters_in g.run) (replicate g.dots Work) ps)
+    ∙ led b n (replicate g.dots Work ++ ps)
 run_unled old new i g true is led b n ps = absurd (false≢true (sym is))
 
-pub run_alone : (old new : Judge) (i : ℕ) (g : Gathered) (licensed : Bool) → licensed ≡ true → RunLed licensed old new i (g.run.pace ∷ replicate g.run.more g.run.pace) → g.dots ≡ 0
+pub run_alone : (old new : Judge) (i : ℕ) (g : Gathered) (licensed : Bool) → licensed ≡ true
+    → RunLed licensed old new i (g.run.pace ∷ replicate g.run.more g.run.pace) → g.dots ≡ 0
     → RunLed true old new i (letters_of g)
 run_alone old new i g true is led none b n ps =
     run_first old new i g led b n ps ∙ ap (λ (a : ℕ). paced (walk_of new b n) i (replicate a Work ++ ps)) none
@@ -208,7 +223,8 @@ run_alone old new i g false is led none b n ps = absurd (false≢true is)
 all_dots : (a : ℕ) → a ≢ 0 → replicate a Work ≡ Work ∷ replicate (a - 1) Work
 all_dots a some = let is : a ≡ suc (a - 1) = omega (arith, some) in ap (λ (j : ℕ). replicate j Work) is
 
-pub dots_then : (old mid new : Judge) (i : ℕ) (g : Gathered) (licensed last : Bool) → licensed ≡ true → RunLed licensed old mid i (g.run.pace ∷ replicate g.run.more g.run.pace) → g.dots ≢ 0
+pub dots_then : (old mid new : Judge) (i : ℕ) (g : Gathered) (licensed last : Bool) → licensed ≡ true
+    → RunLed licensed old mid i (g.run.pace ∷ replicate g.run.more g.run.pace) → g.dots ≢ 0
     → RunLed last mid new i (Work ∷ replicate (g.dots - 1) Work) → RunLed last old new i (letters_of g)
 dots_then old mid new i g true true is first some rest =
     λ b n ps. run_first old mid i g first b n ps ∙ ap (λ (xs : List Pace). paced (walk_of mid b n) i (xs ++ ps)) (all_dots g.dots some) ∙ rest b n ps
@@ -220,18 +236,23 @@ dots_then old mid new i g false last is first some rest = absurd (false≢true i
 pub runs_start : (old : Judge) (i : ℕ) (rs : List Run) → LeadsOn old old i (paces_in rs) (paces_in rs)
 runs_start old i rs b n = refl
 
-pub runs_on : (old now new : Judge) (i : ℕ) (all : List Pace) (first : Run) (rest behind left : List Run) (g : Gathered) (licensed : Bool) → LeadsOn old now i all (paces_in rest)
-    → IsFirstAndRest rest first behind → Begins first behind g left → licensed ≡ true → RunLed licensed now new i (letters_of g) → LeadsOn old new i all (paces_in left)
+pub runs_on : (old now new : Judge) (i : ℕ) (all : List Pace) (first : Run) (rest behind left : List Run) (g : Gathered) (licensed : Bool)
+    → LeadsOn old now i all (paces_in rest)
+    → IsFirstAndRest rest first behind → Begins first behind g left → licensed ≡ true → RunLed licensed now new i (letters_of g)
+    → LeadsOn old new i all (paces_in left)
 runs_on old now new i all first rest behind left g true so parts begins licensed led b n =
     so b n ∙ ap (λ (rs : List Run). paced (walk_of now b n) i (paces_in rs)) parts.0 ∙ begins (walk_of now b n) i ∙ led b n (paces_in left)
 runs_on old now new i all first rest behind left g false so parts begins licensed led b n = absurd (false≢true licensed)
 
-pub runs_stop : (old now new : Judge) (i : ℕ) (all : List Pace) (first : Run) (rest behind left : List Run) (g : Gathered) (licensed : Bool) → LeadsOn old now i all (paces_in rest)
-    → IsFirstAndRest rest first behind → Begins first behind g left → licensed ≡ false → RunLed licensed now new i (letters_of g) → RunsLed false old new i all
+pub runs_stop : (old now new : Judge) (i : ℕ) (all : List Pace) (first : Run) (rest behind left : List Run) (g : Gathered) (licensed : Bool)
+    → LeadsOn old now i all (paces_in rest)
+    → IsFirstAndRest rest first behind → Begins first behind g left → licensed ≡ false → RunLed licensed now new i (letters_of g)
+    → RunsLed false old new i all
 runs_stop old now new i all first rest behind left g false so parts begins licensed led b n =
     so b n ∙ ap (λ (rs : List Run). paced (walk_of now b n) i (paces_in rs)) parts.0 ∙ begins (walk_of now b n) i ∙ led b n (paces_in left)
 runs_stop old now new i all first rest behind left g true so parts begins licensed led b n = absurd (false≢true (sym licensed))
 
-pub runs_end : (old now : Judge) (i : ℕ) (all : List Pace) (rest : List Run) → length rest ≡ 0 → LeadsOn old now i all (paces_in rest) → RunsLed true old now i all
+pub runs_end : (old now : Judge) (i : ℕ) (all : List Pace) (rest : List Run) → length rest ≡ 0 → LeadsOn old now i all (paces_in rest)
+    → RunsLed true old now i all
 runs_end old now i all [] none so b n = so b n
 runs_end old now i all (r ∷ rs) none so b n = absurd (omega (arith, none))

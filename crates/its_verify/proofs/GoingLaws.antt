@@ -1,24 +1,20 @@
 -- The result of a line of a session for a verifier.
-use Rattle.std.proofs.Common.{◌≡◌, ◌+◌, ℕ, Bool, true, false, Option, Some, None, Result, Ok, Err, IsOk, List, [], ◌∷◌, refl, sym, ap, subst, ◌∙◌}
-use Rattle.std.proofs.lemmas.Bool.{false≢true}
+use Rattle.std.proofs.Common.{◌≡◌, ◌+◌, ℕ, Bool, false, Option, Some, None, Result, Ok, Err, List, [], ◌∷◌, refl, sym, ap, subst, ◌∙◌}
 use Rattle.its_io.specs.declared.stream.Failed.{Failed}
 use Rattle.its_records.specs.declared.session.Event.{Event}
 use Rattle.its_records.specs.declared.session.Event.TheVariants as events
-use Rattle.its_records.specs.declared.session.Reason.{Reason}
 use Rattle.its_records.specs.declared.session.Refusal.{Refusal}
-use Rattle.its_records.specs.declared.show.JobShow.{JobShow}
-use Rattle.its_print.specs.Printing.{Line, Refused, State, listed}
-use Rattle.its_plain.specs.Machine.{Machine, Whole}
+use Rattle.its_print.specs.Printing.{Line, Refused}
+use Rattle.its_plain.specs.Machine.{Machine}
 use Rattle.its_plain.specs.Operator.{Block, Does, Quits, Ticks, no_block, nobody}
-use Rattle.its_plain.specs.OperatorFiles.{file_shown}
-use Rattle.its_plain.specs.OperatorJobs.{examined, state_shown}
-use Rattle.its_plain.specs.OperatorLines.{Lined, Done, Peeks, by_exam, by_state, in_a_line, lined, operate, peeked_at, shows}
+use Rattle.its_plain.specs.Operator.Lines.{Lined, Done, Peeks, lined, operate}
 use Rattle.its_plain.specs.Transcript.{Walk, next_line}
 use Rattle.its_direct.specs.Plain.{machine_of, is_touched}
-use Rattle.its_direct.specs.Events.{Obeys, Says as AnswerSays, Speaks, Told}
+use Rattle.its_direct.specs.Events.{CanShow, Obeys, Says as AnswerSays, Speaks, Told}
 use Rattle.its_records.specs.Refusals.{reason_of}
-use Rattle.its_direct.specs.declared.events.Answer.{Answer}
-use Rattle.its_direct.specs.declared.events.Answer.TheVariants.{Nothing, Slot, Dropped, Drained}
+use Rattle.its_direct.specs.declared.lines.events.Answer.{Answer}
+use Rattle.its_direct.specs.declared.lines.events.Answer.TheVariants as answers
+use Rattle.its_direct.specs.declared.plain.Plain.{Plain}
 use Rattle.its_direct.specs.declared.plain.Spot.{Spot}
 use Rattle.its_direct.specs.declared.plain.Spot.TheVariants as spots
 use Rattle.its_verify.specs.Going.{LineSays, SaysEnd, line_ruling}
@@ -26,7 +22,7 @@ use Rattle.its_verify.specs.TranscriptReader.{Concludes, PassesOn, Says, Stays}
 use Rattle.its_verify.proofs.TranscriptReaderLaws.{nothing_on}
 use Rattle.its_verify.specs.Rulings.{Ruling, at_end, gone, led, peeking, expects}
 use Rattle.its_verify.specs.Letters.{ticked}
-use Rattle.its_verify.specs.Showing.{IsThere, shown_ruling, is_peek_event, lines_of, shown_if}
+use Rattle.its_verify.specs.Showing.{shown_ruling}
 use Rattle.its_verify.specs.JudgeState.{Forgets, Sure, walk_of}
 use Rattle.its_verify.specs.Verifier.{StaysAtItem, TicksSay}
 use Rattle.its_verify.specs.declared.outcome.Outcome.{Outcome}
@@ -35,116 +31,59 @@ use Rattle.its_verify.specs.declared.judge.Judge.{Judge}
 use Rattle.its_verify.specs.declared.verifier.Verifier.{Verifier}
 use Rattle.its_verify.proofs.JudgeStateLaws.{line_walk}
 
--- a line that shows something had this result
-does_same : (m n : Machine) (out mine : List Line) (d g : ℕ → Bool) (b c : Block) → Done (Does m mine g b) ≡ Done (Does n out d c) → (n ≡ m) × (out ≡ mine)
-does_same m n out mine d g b c is = (let a : m ≡ n = cc in sym a, let l : mine ≡ out = cc in sym l)
-
--- EXAM, LIST, STATE and SHOW
-exam_did : (m n : Machine) (b c : Block) (s : ℕ) (show : List ℕ → List Line) (r : Result (List ℕ) Reason) (out : List Line) (d : ℕ → Bool) → Done (by_exam m b s show r) ≡ Done (Does n out d c)
-    → (n ≡ m) × (out ≡ shown_if show r) × IsOk r
-exam_did m n b c s show (Ok ws) out d is = (let a : m ≡ n = cc in sym a, let l : show ws ≡ out = cc in sym l, refl)
-exam_did m n b c s show (Err e) out d is = cc
-
-state_did : (m n : Machine) (b c : Block) (s : ℕ) (r : Result JobShow Reason) (out : List Line) (d : ℕ → Bool) → Done (by_state m b s r) ≡ Done (Does n out d c)
-    → (n ≡ m) × (out ≡ shown_if (λ show. State m.version s show ∷ []) r) × IsOk r
-state_did m n b c s (Ok show) out d is = (let a : m ≡ n = cc in sym a, let l : (State m.version s show ∷ []) ≡ out = cc in sym l, refl)
-state_did m n b c s (Err e) out d is = cc
-
-shows_did : (m n : Machine) (b c : Block) (r : Result (List Line) Reason) (out : List Line) (d : ℕ → Bool) → Done (shows m b r) ≡ Done (Does n out d c) → (n ≡ m) × (out ≡ shown_if (λ ls. ls) r)
-shows_did m n b c (Ok ls) out d is = (let a : m ≡ n = cc in sym a, let l : ls ≡ out = cc in sym l)
-shows_did m n b c (Err e) out d is = cc
-
-peek_does : (s : ℕ) (o : Option Whole) (n : Machine) (out : List Line) (d : ℕ → Bool) (c : Block) → peeked_at s o ≡ Done (Does n out d c) → ⊥
-peek_does s None n out d c is = cc
-peek_does s (Some q) n out d c is = cc
-
--- what is expected for a line is what it shows
-abbrev Shown : Event → Answer → Machine → List Line → Type 0
-Shown e a n out = ((next : Ruling) → shown_ruling e a n next ≡ expects out next) × IsThere e n
-
-by_lines : (e : Event) (a : Answer) (n : Machine) (out : List Line) → out ≡ lines_of e a n → (next : Ruling) → expects (lines_of e a n) next ≡ expects out next
-by_lines e a n out is next = ap (λ (ls : List Line). expects ls next) (sym is)
-
-pub line_shown : (m n : Machine) (b c : Block) (e : Event) (a : Answer) (out : List Line) (d : ℕ → Bool) → lined m b e ≡ Done (Does n out d c) → AnswerSays e a out → Shown e a n out
-unfolding lined operate
-line_shown m n b c (events.Load u j k) (Slot s) out d is says = (by_lines (events.Load u j k) (Slot s) n out says, tt)
-line_shown m n b c (events.Load u j k) _ out d is says = absurd says
-line_shown m n b c (events.TypeIn k bytes) (Dropped s) out d is says = (by_lines (events.TypeIn k bytes) (Dropped s) n out says, tt)
-line_shown m n b c (events.TypeIn k bytes) _ out d is says = absurd says
-line_shown m n b c (events.Drain k x) (Drained s) out d is says = (by_lines (events.Drain k x) (Drained s) n out says, tt)
-line_shown m n b c (events.Drain k x) _ out d is says = absurd says
-line_shown m n b c (events.Exam s x k) a out d is says =
-    (let did = exam_did m n b c s (in_a_line s x) (examined m s x k) out d is in
-    subst (λ (q : Machine). Shown (events.Exam s x k) a q out) (sym did.0) (by_lines (events.Exam s x k) a m out did.1, did.2))
-line_shown m n b c (events.List s x k) a out d is says =
-    (let did = exam_did m n b c s (listed s x) (examined m s x k) out d is in
-    subst (λ (q : Machine). Shown (events.List s x k) a q out) (sym did.0) (by_lines (events.List s x k) a m out did.1, did.2))
-line_shown m n b c (events.State s) a out d is says =
-    (let did = state_did m n b c s (state_shown m s) out d is in
-    subst (λ (q : Machine). Shown (events.State s) a q out) (sym did.0) (by_lines (events.State s) a m out did.1, did.2))
-line_shown m n b c (events.Dir k) a out d is says =
-    (let did = does_same m n out _ d _ b c is in
-    subst (λ (q : Machine). Shown (events.Dir k) a q out) (sym did.0) (by_lines (events.Dir k) a m out did.1, tt))
-line_shown m n b c (events.Show k x y) a out d is says =
-    (let did = shows_did m n b c (file_shown m k x y) out d is in
-    subst (λ (q : Machine). Shown (events.Show k x y) a q out) (sym did.0) (by_lines (events.Show k x y) a m out did.1, tt))
-line_shown m n b c (events.Peek s) a out d is says = absurd (peek_does s (m.jobs s) n out d c is)
-line_shown m n b c e Nothing out d is says = (by_lines e Nothing n out says, tt)
-line_shown m n b c _ _ out d is says = absurd says
+-- what is expected for an answer is what it shows
+answer_shown : (a : Answer) (p : Plain) (out : List Line) → AnswerSays a p out → (next : Ruling) → shown_ruling a p next ≡ expects out next
+answer_shown answers.Peeked p out says next = absurd says
+answer_shown a p out says next = ap (λ (ls : List Line). expects ls next) (sym says)
 
 -- a line that was obeyed: what is expected for it, and the state of the walk after it
 pub record ObeyedSo (e : Event) (a : Answer) (old new : Judge) (b : Block) (n : ℕ) : Type 0 where
   pub after : Block
   pub speaks : Speaks new.plain.place after
-  pub there : IsThere e (machine_of new.plain)
-  pub goes : (next : Walk → Ruling) → gone (walk_of old b n) (lined (machine_of old.plain) b e) next ≡ shown_ruling e a (machine_of new.plain) (next (walk_of new after (n + 1)))
+  pub can : CanShow a new.plain
+  pub goes : (next : Walk → Ruling)
+      → gone (walk_of old b n) (lined (machine_of old.plain) b e) next ≡ shown_ruling a new.plain (next (walk_of new after (n + 1)))
 
 speaks_same : (p q : Spot) (b : Block) → q ≡ p → Speaks p b → Speaks q b
 speaks_same p q b is h = subst (λ (s : Spot). Speaks s b) (sym is) h
 
-peeks_at : (s i : ℕ) (o : Option Whole) → peeked_at s o ≡ Peeks i → i ≡ s
-peeks_at s i None is = cc
-peeks_at s i (Some q) is = cc
-
-peeks_event : (m : Machine) (b : Block) (e : Event) (i : ℕ) → lined m b e ≡ Peeks i → (s : ℕ) × (e ≡ events.Peek s) × (i ≡ s)
-unfolding lined
-peeks_event m b (events.Peek s) i is = (s, refl, peeks_at s i (m.jobs s) is)
-peeks_event m b e i is = cc
-
-peek_so : (e : Event) (a : Answer) (old new : Judge) (b : Block) (n s : ℕ) → e ≡ events.Peek s → Forgets new.plain old.dots new.dots → lined (machine_of old.plain) b e ≡ Peeks s
-    → machine_of new.plain ≡ machine_of old.plain → ((k : ℕ) → is_touched new.plain k ≡ false) → new.plain.place ≡ old.plain.place → Speaks old.plain.place b → ObeyedSo e a old new b n
-peek_so e a old new b n s event forgets is same none place speaks = record {
+peek_so : (e : Event) (a : Answer) (old new : Judge) (b : Block) (n s : ℕ) → a ≡ answers.Peeked → Forgets new.plain old.dots new.dots
+    → lined (machine_of old.plain) b e ≡ Peeks s
+    → machine_of new.plain ≡ machine_of old.plain → ((k : ℕ) → is_touched new.plain k ≡ false) → new.plain.place ≡ old.plain.place
+    → Speaks old.plain.place b → ObeyedSo e a old new b n
+peek_so e a old new b n s peeked forgets is same none place speaks = record {
   after = b;
   speaks = speaks_same old.plain.place new.plain.place b place speaks;
-  there = subst (λ (x : Event). IsThere x (machine_of new.plain)) (sym event) tt;
+  can = subst (λ (x : Answer). CanShow x new.plain) (sym peeked) tt;
   goes = λ next.
       ap (λ (o : Lined). gone (walk_of old b n) o next) is
       ∙ ap (λ (w : Walk). led peeking (λ text. next w)) (line_walk old new b b n (machine_of old.plain) (λ k. false) same none forgets)
-      ∙ sym (ap (λ (x : Event). shown_ruling x a (machine_of new.plain) (next (walk_of new b (n + 1)))) event);
+      ∙ sym (ap (λ (x : Answer). shown_ruling x new.plain (next (walk_of new b (n + 1)))) peeked);
 }
 
-does_so : (e : Event) (a : Answer) (old new : Judge) (b : Block) (n : ℕ) (m : Machine) (out : List Line) (d : ℕ → Bool) (after : Block) → Forgets new.plain old.dots new.dots
-    → lined (machine_of old.plain) b e ≡ Done (Does m out d after) → machine_of new.plain ≡ m → ((k : ℕ) → is_touched new.plain k ≡ d k) → Speaks new.plain.place after → AnswerSays e a out → ObeyedSo e a old new b n
-does_so e a old new b n m out d after forgets is same marks speaks says =
-    let shown = subst (λ (q : Machine). Shown e a q out) (sym same) (line_shown (machine_of old.plain) m b after e a out d is says) in
-    record {
-      after = after;
-      speaks = speaks;
-      there = shown.1;
-      goes = λ next.
-          ap (λ (o : Lined). gone (walk_of old b n) o next) is
-          ∙ ap (λ (w : Walk). expects out (next w)) (line_walk old new b after n m d same marks forgets)
-          ∙ sym (shown.0 (next (walk_of new after (n + 1))));
-    }
+does_so : (e : Event) (a : Answer) (old new : Judge) (b : Block) (n : ℕ) (m : Machine) (out : List Line) (d : ℕ → Bool) (after : Block)
+    → Forgets new.plain old.dots new.dots
+    → lined (machine_of old.plain) b e ≡ Done (Does m out d after) → machine_of new.plain ≡ m → ((k : ℕ) → is_touched new.plain k ≡ d k)
+    → Speaks new.plain.place after → AnswerSays a new.plain out → CanShow a new.plain → ObeyedSo e a old new b n
+does_so e a old new b n m out d after forgets is same marks speaks says can = record {
+  after = after;
+  speaks = speaks;
+  can = can;
+  goes = λ next.
+      ap (λ (o : Lined). gone (walk_of old b n) o next) is
+      ∙ ap (λ (w : Walk). expects out (next w)) (line_walk old new b after n m d same marks forgets)
+      ∙ sym (answer_shown a new.plain out says (next (walk_of new after (n + 1))));
+}
 
-by_comes : (e : Event) (a : Answer) (old new : Judge) (b : Block) (n : ℕ) (o : Lined) → Forgets new.plain old.dots new.dots → Speaks old.plain.place b → lined (machine_of old.plain) b e ≡ o → Obeys e a old.plain new.plain o
+by_comes : (e : Event) (a : Answer) (old new : Judge) (b : Block) (n : ℕ) (o : Lined) → Forgets new.plain old.dots new.dots
+    → Speaks old.plain.place b → lined (machine_of old.plain) b e ≡ o → Obeys a old.plain new.plain o
     → ObeyedSo e a old new b n
-by_comes e a old new b n (Done (Does m out d after)) forgets speaks is h = does_so e a old new b n m out d after forgets is h.0 h.1 h.2 h.3
-by_comes e a old new b n (Peeks i) forgets speaks is h =
-    (let p = peeks_event (machine_of old.plain) b e i is in peek_so e a old new b n p.0 p.1 forgets (is ∙ ap Peeks p.2) h.0 h.1 h.2 speaks)
+by_comes e a old new b n (Done (Does m out d after)) forgets speaks is h = does_so e a old new b n m out d after forgets is h.0 h.1 h.2 h.3 h.4
+by_comes e a old new b n (Peeks i) forgets speaks is h = peek_so e a old new b n i h.3 forgets is h.0 h.1 h.2 speaks
 by_comes e a old new b n _ forgets speaks is h = absurd h
 
-obeyed_so : (e : Event) (a : Answer) (old new : Judge) (b : Block) (n : ℕ) → Told e old.plain new.plain (Ok a) → Forgets new.plain old.dots new.dots → Speaks old.plain.place b → ObeyedSo e a old new b n
+obeyed_so : (e : Event) (a : Answer) (old new : Judge) (b : Block) (n : ℕ) → Told e old.plain new.plain (Ok a)
+    → Forgets new.plain old.dots new.dots → Speaks old.plain.place b → ObeyedSo e a old new b n
 obeyed_so e a old new b n h forgets speaks =
     let o = h b speaks in
     by_comes e a old new b n o.comes forgets speaks o.is o.obeys
@@ -160,12 +99,14 @@ speaks_at spots.Plain = tt
 speaks_at (spots.Load s) = refl
 speaks_at (spots.File names) = refl
 
-pub told_there : (e : Event) (a : Answer) (old new : Judge) → Told e old.plain new.plain (Ok a) → Forgets new.plain old.dots new.dots → IsThere e (machine_of new.plain)
-told_there e a old new h forgets = (obeyed_so e a old new (block_at old.plain.place) 0 h forgets (speaks_at old.plain.place)).there
+pub told_can : (e : Event) (a : Answer) (old new : Judge) → Told e old.plain new.plain (Ok a) → Forgets new.plain old.dots new.dots
+    → CanShow a new.plain
+told_can e a old new h forgets = (obeyed_so e a old new (block_at old.plain.place) 0 h forgets (speaks_at old.plain.place)).can
 
 -- the result of a line, if it was obeyed and its lines are read
-says_told : (e : Event) (a : Answer) (r : Result (Option Outcome) Failed) (old mid new : Verifier) (left rest : Option (List ℕ)) (b : Block) (n : ℕ) (so : ObeyedSo e a old.judge mid.judge b n) → mid.reader ≡ old.reader
-    → new.judge ≡ mid.judge → ((next : Ruling) → Says r mid.reader new.reader left rest (shown_ruling e a (machine_of mid.judge.plain) next) next)
+says_told : (e : Event) (a : Answer) (r : Result (Option Outcome) Failed) (old mid new : Verifier) (left rest : Option (List ℕ)) (b : Block)
+    (n : ℕ) (so : ObeyedSo e a old.judge mid.judge b n) → mid.reader ≡ old.reader
+    → new.judge ≡ mid.judge → ((next : Ruling) → Says r mid.reader new.reader left rest (shown_ruling a mid.judge.plain next) next)
     → (next : Walk → Ruling) → Says r old.reader new.reader left rest (line_ruling old b n e next) (next (walk_of new.judge so.after (n + 1)))
 says_told e a r old mid new left rest b n so reader judge says next =
     let on : Ruling = next (walk_of mid.judge so.after (n + 1)) in
@@ -173,9 +114,10 @@ says_told e a r old mid new left rest b n so reader judge says next =
     (subst (λ (h : TranscriptReader). Says r h new.reader left rest (line_ruling old b n e next) on) reader
     (subst (λ (j : Ruling). Says r mid.reader new.reader left rest j on) (sym (so.goes next)) (says on)))
 
-pub told_says : (e : Event) (a : Answer) (r : Result (Option Outcome) Failed) (old mid new : Verifier) (left rest : Option (List ℕ)) (n : ℕ) → Told e old.judge.plain mid.judge.plain (Ok a)
+pub told_says : (e : Event) (a : Answer) (r : Result (Option Outcome) Failed) (old mid new : Verifier) (left rest : Option (List ℕ)) (n : ℕ)
+    → Told e old.judge.plain mid.judge.plain (Ok a)
     → Forgets mid.judge.plain old.judge.dots mid.judge.dots → mid.reader ≡ old.reader → new.judge ≡ mid.judge
-    → ((next : Ruling) → Says r mid.reader new.reader left rest (shown_ruling e a (machine_of mid.judge.plain) next) next) → LineSays r old new left rest n e
+    → ((next : Ruling) → Says r mid.reader new.reader left rest (shown_ruling a mid.judge.plain next) next) → LineSays r old new left rest n e
 told_says e a (Ok None) old mid new left rest n h forgets reader judge says = λ b speaks.
     (let so = obeyed_so e a old.judge mid.judge b n h forgets speaks in
     record {
@@ -191,13 +133,17 @@ told_says e a (Err x) old mid new left rest n h forgets reader judge says = λ b
 
 -- if all is said with a line
 ends_says : (r : Result (Option Outcome) Failed) (e : Event) (old new : Verifier) (left rest : Option (List ℕ)) (n : ℕ) (judge : Ruling)
-    → ((b : Block) → Speaks old.judge.plain.place b → (next : Walk → Ruling) → line_ruling old b n e next ≡ judge) → SaysEnd r old.reader left rest judge → LineSays r old new left rest n e
+    → ((b : Block) → Speaks old.judge.plain.place b → (next : Walk → Ruling) → line_ruling old b n e next ≡ judge)
+    → SaysEnd r old.reader left rest judge → LineSays r old new left rest n e
 ends_says (Ok None) e old new left rest n judge is ends = absurd ends
-ends_says (Ok (Some f)) e old new left rest n judge is ends = λ b speaks next. subst (λ (j : Ruling). Concludes (Ok f) old.reader left rest j) (sym (is b speaks next)) ends
-ends_says (Err x) e old new left rest n judge is ends = λ b speaks next forward. subst (λ (j : Ruling). Concludes (Err x) old.reader left rest j) (sym (is b speaks next)) ends
+ends_says (Ok (Some f)) e old new left rest n judge is ends =
+    λ b speaks next. subst (λ (j : Ruling). Concludes (Ok f) old.reader left rest j) (sym (is b speaks next)) ends
+ends_says (Err x) e old new left rest n judge is ends = λ b speaks next forward. subst
+    (λ (j : Ruling). Concludes (Err x) old.reader left rest j) (sym (is b speaks next)) ends
 
 -- if it was refused
-pub told_refused : (e : Event) (x : Refusal) (r : Result (Option Outcome) Failed) (old new : Verifier) (mid : Judge) (h : TranscriptReader) (left rest : Option (List ℕ)) (n : ℕ) → Told e old.judge.plain mid.plain (Err x)
+pub told_refused : (e : Event) (x : Refusal) (r : Result (Option Outcome) Failed) (old new : Verifier) (mid : Judge) (h : TranscriptReader)
+    (left rest : Option (List ℕ)) (n : ℕ) → Told e old.judge.plain mid.plain (Err x)
     → h ≡ old.reader → SaysEnd r h left rest (expects (Refused n (reason_of x) ∷ []) at_end) → LineSays r old new left rest n e
 told_refused e x r old new mid h left rest n refuses reader ends =
     ends_says r e old new left rest n (expects (Refused n (reason_of x) ∷ []) at_end)
@@ -217,7 +163,8 @@ says_tick : (i k : ℕ) (r : Result (Option Outcome) Failed) (old new : Verifier
     → Says r old.reader new.reader left rest (led (ticked (walk_of old.judge b n) i k) (λ w. next (next_line w))) (next (walk_of new.judge b (n + 1)))
     → Says r old.reader new.reader left rest (line_ruling old b n (events.Tick i k) next) (next (walk_of new.judge b (n + 1)))
 says_tick i k r old new left rest b n next =
-    subst (λ (o : Lined). Says r old.reader new.reader left rest (gone (walk_of old.judge b n) o next) (next (walk_of new.judge b (n + 1)))) (sym (tick_lined (machine_of old.judge.plain) b i k))
+    subst (λ (o : Lined). Says r old.reader new.reader left rest (gone (walk_of old.judge b n) o next) (next (walk_of new.judge b (n + 1))))
+    (sym (tick_lined (machine_of old.judge.plain) b i k))
 
 pub tick_says : (i k : ℕ) (r : Result (Option Outcome) Failed) (old new : Verifier) (left rest : Option (List ℕ)) (n : ℕ)
     → TicksSay r old new left rest i k
@@ -227,9 +174,11 @@ tick_says i k (Ok None) old new left rest n says place = λ b speaks. record {
   speaks = speaks_same old.judge.plain.place new.judge.plain.place b place speaks;
   goes = λ next. says_tick i k (Ok None) old new left rest b n next (says b n (λ w. next (next_line w)));
 }
-tick_says i k (Ok (Some f)) old new left rest n says place = λ b speaks next. says_tick i k (Ok (Some f)) old new left rest b n next (says b n (λ w. next (next_line w)))
+tick_says i k (Ok (Some f)) old new left rest n says place =
+    λ b speaks next. says_tick i k (Ok (Some f)) old new left rest b n next (says b n (λ w. next (next_line w)))
 tick_says i k (Err x) old new left rest n says place = λ b speaks next forward.
-    says_tick i k (Err x) old new left rest b n next (λ on. says b n (λ w. next (next_line w)) (λ w. forward (next_line w))) (forward (walk_of new.judge b (n + 1)))
+    says_tick i k (Err x) old new left rest b n next (λ on. says b n (λ w. next (next_line w)) (λ w. forward (next_line w)))
+    (forward (walk_of new.judge b (n + 1)))
 
 run_lined : (m : Machine) (b : Block) (k q : ℕ) → lined m b (events.Run k q) ≡ Done (Does m [] nobody b)
 unfolding lined operate
@@ -241,37 +190,33 @@ run_says k q e old left n is = λ b speaks. record {
   speaks = speaks;
   goes = λ next.
       (let on : Ruling = next (walk_of old.judge b (n + 1)) in
-      subst (λ (o : Lined). PassesOn old.reader old.reader left left (gone (walk_of old.judge b n) o next) on) (sym (ap (lined (machine_of old.judge.plain) b) is ∙ run_lined (machine_of old.judge.plain) b k q))
+      subst (λ (o : Lined). PassesOn old.reader old.reader left left (gone (walk_of old.judge b n) o next) on)
+      (sym (ap (lined (machine_of old.judge.plain) b) is ∙ run_lined (machine_of old.judge.plain) b k q))
       (nothing_on old.reader left on));
 }
 
-pub end_says : (r : Result (Option Outcome) Failed) (e : Event) (old new : Verifier) (left rest : Option (List ℕ)) (n : ℕ) → e ≡ events.End → SaysEnd r old.reader left rest at_end → LineSays r old new left rest n e
+pub end_says : (r : Result (Option Outcome) Failed) (e : Event) (old new : Verifier) (left rest : Option (List ℕ)) (n : ℕ) → e ≡ events.End
+    → SaysEnd r old.reader left rest at_end → LineSays r old new left rest n e
 end_says r e old new left rest n is ends =
     ends_says r e old new left rest n at_end
-    (λ b speaks next. ap (λ (o : Lined). gone (walk_of old.judge b n) o next) (ap (lined (machine_of old.judge.plain) b) is ∙ end_lined (machine_of old.judge.plain) b)) ends
+    (λ b speaks next. ap (λ (o : Lined). gone (walk_of old.judge b n) o next)
+    (ap (lined (machine_of old.judge.plain) b) is ∙ end_lined (machine_of old.judge.plain) b)) ends
 
-pub end_stays : (r : Result (Option Outcome) Failed) (old : TranscriptReader) (left rest : Option (List ℕ)) (judge : Ruling) (new : Verifier) → SaysEnd r old left rest judge → StaysAtItem r new rest
+pub end_stays : (r : Result (Option Outcome) Failed) (old : TranscriptReader) (left rest : Option (List ℕ)) (judge : Ruling)
+    (new : Verifier) → SaysEnd r old left rest judge → StaysAtItem r new rest
 end_stays (Ok None) old left rest judge new ends = absurd ends
 end_stays (Ok (Some f)) old left rest judge new ends = tt
 end_stays (Err x) old left rest judge new ends = tt
 
-pub never_on : {X : Type 0} (r : Result (Option Outcome) Failed) (old : TranscriptReader) (left rest : Option (List ℕ)) (judge : Ruling) → SaysEnd r old left rest judge → r ≡ Ok None → X
+pub never_on : {X : Type 0} (r : Result (Option Outcome) Failed) (old : TranscriptReader) (left rest : Option (List ℕ)) (judge : Ruling)
+    → SaysEnd r old left rest judge → r ≡ Ok None → X
 never_on (Ok None) old left rest judge ends is = absurd ends
 never_on (Ok (Some f)) old left rest judge ends is = cc
 never_on (Err x) old left rest judge ends is = cc
 
--- PEEK, and any other line
-pub peek_shown : (e : Event) (a : Answer) (m : Machine) (r : Result (Option Outcome) Failed) (old new : TranscriptReader) (left rest : Option (List ℕ)) (b : Bool) → b ≡ is_peek_event e → b ≡ true
-    → ((next : Ruling) → Says r old new left rest (led peeking (λ t. next)) next) → (next : Ruling) → Says r old new left rest (shown_ruling e a m next) next
-peek_shown (events.Peek s) a m r old new left rest b test is says = says
-peek_shown e a m r old new left rest b test is says = absurd (false≢true (sym test ∙ is))
-
-pub lines_shown : (e : Event) (a : Answer) (m : Machine) (r : Result (Option Outcome) Failed) (old new : TranscriptReader) (left rest : Option (List ℕ)) (b : Bool) → b ≡ is_peek_event e → b ≡ false
-    → ((next : Ruling) → Says r old new left rest (expects (lines_of e a m) next) next) → (next : Ruling) → Says r old new left rest (shown_ruling e a m next) next
-lines_shown (events.Peek s) a m r old new left rest b test is says = absurd (false≢true (sym is ∙ test))
-lines_shown e a m r old new left rest b test is says = says
-
-pub at_item_on : (r : Result (Option Outcome) Failed) (new : Verifier) (rest : Option (List ℕ)) → Stays r new.reader rest → Sure new.judge → new.judge.ended ≡ false → StaysAtItem r new rest
+-- if it goes on, the next line may come
+pub at_item_on : (r : Result (Option Outcome) Failed) (new : Verifier) (rest : Option (List ℕ)) → Stays r new.reader rest → Sure new.judge
+    → new.judge.ended ≡ false → StaysAtItem r new rest
 at_item_on (Ok None) new rest h sure going = record { at_line = h; sure = sure; going = going }
 at_item_on (Ok (Some f)) new rest h sure going = tt
 at_item_on (Err x) new rest h sure going = tt

@@ -19,28 +19,33 @@ faced_whole true Q more f h = subst (Q true) (sym (h refl)) f
 over : (r : Items) (rest : Option (List ℕ)) → BetweenLines r.lines rest → r.lines.ended ≡ true → bytes_of rest ≡ []
 over r rest ready e = at_its_end rest (ready.over e).1
 
-pub found_line : (old new : Items) (left rest : Option (List ℕ)) (e : Event) → Finds (Ok (Line e)) old new left rest → BetweenLines new.lines rest → IsTold left
+pub found_line : (old new : Items) (left rest : Option (List ℕ)) (e : Event) → Finds (Ok (Line e)) old new left rest
+    → BetweenLines new.lines rest → IsTold left
     → (items_of old left ≡ item_then (Ok e) (λ _. items_of new rest)) × IsTold rest
 found_line old new left rest e f ready t =
     let told = told_on left rest f.read t f.consumed in (
       ap (items_ahead true old) told.bytes
-          ∙ faced_whole new.lines.ended (λ whole more. items_ahead whole old (f.read ++ more) ≡ item_then (Ok e) (λ _. items_ahead whole new more)) (bytes_of rest) f.found (over new rest ready),
+          ∙ faced_whole new.lines.ended (λ whole more. items_ahead whole old (f.read ++ more) ≡ item_then (Ok e)
+          (λ _. items_ahead whole new more)) (bytes_of rest) f.found (over new rest ready),
       told.told,
     )
 
-pub found_bad : (old new : Items) (left rest : Option (List ℕ)) (r : Reason) → Finds (Ok (Bad r)) old new left rest → BetweenLines new.lines rest → IsTold left → items_of old left ≡ Unread r ∷ []
+pub found_bad : (old new : Items) (left rest : Option (List ℕ)) (r : Reason) → Finds (Ok (Bad r)) old new left rest
+    → BetweenLines new.lines rest → IsTold left → items_of old left ≡ Unread r ∷ []
 found_bad old new left rest r f ready t =
     let told = told_on left rest f.read t f.consumed in
     ap (items_ahead true old) told.bytes
     ∙ faced_whole new.lines.ended (λ whole more. items_ahead true old (f.read ++ more) ≡ Unread r ∷ []) (bytes_of rest) f.found (over new rest ready)
 
-pub found_beyond : (old new : Items) (left rest : Option (List ℕ)) → Finds (Ok Beyond) old new left rest → BetweenLines new.lines rest → IsTold left → items_of old left ≡ items.Beyond ∷ []
+pub found_beyond : (old new : Items) (left rest : Option (List ℕ)) → Finds (Ok Beyond) old new left rest → BetweenLines new.lines rest
+    → IsTold left → items_of old left ≡ items.Beyond ∷ []
 found_beyond old new left rest f ready t =
     let told = told_on left rest f.read t f.consumed in
     ap (items_ahead true old) told.bytes
     ∙ faced_whole new.lines.ended (λ whole more. items_ahead true old (f.read ++ more) ≡ items.Beyond ∷ []) (bytes_of rest) f.found (over new rest ready)
 
-pub found_end : (old new : Items) (left rest : Option (List ℕ)) → Finds (Ok End) old new left rest → BetweenLines new.lines rest → IsTold left → items_of old left ≡ []
+pub found_end : (old new : Items) (left rest : Option (List ℕ)) → Finds (Ok End) old new left rest → BetweenLines new.lines rest
+    → IsTold left → items_of old left ≡ []
 found_end old new left rest f ready t =
     let told = told_on left rest f.read t f.consumed in
     ap (items_ahead true old) told.bytes

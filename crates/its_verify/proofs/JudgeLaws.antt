@@ -9,12 +9,12 @@ use Rattle.std.specs.Prelude.{bytes_eq, codes}
 use Rattle.its_print.specs.Printing.{Line, Ticks, Peeked, text_of_line}
 use Rattle.its_print.specs.Printing as printed
 use Rattle.its_word.specs.Text.{words_of}
-use Rattle.its_plain.specs.OperatorLines.{Lined, Done, Peeks, lined}
+use Rattle.its_plain.specs.Operator.Lines.{Lined, Done, Peeks, lined}
 use Rattle.its_plain.specs.Machine.{Machine}
 use Rattle.its_plain.specs.Operator.{Block, Refuses, Does, Quits}
 use Rattle.its_plain.specs.Operator as operator
 use Rattle.its_plain.specs.Transcript.{Fate, Ended, Open, Refused, TooLong, Walk, walk_after, next_line}
-use Rattle.its_plain.specs.Turns.{turn_after, turns_asked, ticks_asked}
+use Rattle.its_plain.specs.Transcript.Turns.{turn_after, turns_asked, ticks_asked}
 use Rattle.its_plain.proofs.RunLaws.{PacedOn, TurnBy, TurnsOn, LinedOn, Run}
 use Rattle.its_verify.specs.Lines.{Said, is_peek, says}
 use Rattle.its_verify.specs.Letters.{paced, ticked, ticks_in}
@@ -65,7 +65,8 @@ pub record Along (out : List Line) (S : List Line → Fate → Type 0) (texts : 
   pub holds : S rest fate
   pub said : Said (out ++ rest) texts
 
-led_by_said : (l : Line) (t : List ℕ) (R : List (List ℕ) → Type 0) (ts : List (List ℕ)) (o : Option (List ℕ)) → saying l t ≡ o → LedBy o (λ text. R) ts → (says l t ≡ true) × R ts
+led_by_said : (l : Line) (t : List ℕ) (R : List (List ℕ) → Type 0) (ts : List (List ℕ)) (o : Option (List ℕ)) → saying l t ≡ o
+    → LedBy o (λ text. R) ts → (says l t ≡ true) × R ts
 led_by_said l t R ts None is h = absurd h
 led_by_said l t R ts (Some x) is h = (led_said l t x is, h)
 
@@ -109,7 +110,8 @@ OnLined v l S lines fate = LinedOn v l (λ w rest. S w rest fate) lines fate
 right_known : (known : List Line) (S : List Line → Fate → Type 0) (fate : Fate) → S known fate → ((lines : List Line) (f : Fate) → S lines f → lines ≡ known)
     → Right (Along [] S) (expects known at_end)
 right_known known S fate there only =
-    right_as (Told known Finished) (Along [] S) (expects known at_end) (λ ts h. record { rest = known; fate = fate; holds = there; said = told_said known ts h })
+    right_as (Told known Finished) (Along [] S) (expects known at_end)
+    (λ ts h. record { rest = known; fate = fate; holds = there; said = told_said known ts h })
     (λ ts a. said_told known ts (subst (λ (ls : List Line). Said ls ts) (only a.rest a.fate a.holds) a.said)) (right_told known Finished at_end right_at_end)
 
 -- a line that does something shows its lines first
@@ -168,7 +170,8 @@ right_ticks v i k S ruling next =
 a_peek : Peek
 a_peek = record { state = User; name = None; left = 0; a = None; b = None; h = None }
 
-peek_to : (v : Walk) (i : ℕ) (S : Next) (t : List ℕ) (ts : List (List ℕ)) (o : Option (List ℕ)) → peeking t ≡ o → LedBy o (λ text. Along [] (S (next_line v))) ts
+peek_to : (v : Walk) (i : ℕ) (S : Next) (t : List ℕ) (ts : List (List ℕ)) (o : Option (List ℕ)) → peeking t ≡ o
+    → LedBy o (λ text. Along [] (S (next_line v))) ts
     → Along [] (OnLined v (Peeks i) S) (t ∷ ts)
 peek_to v i S t ts None is h = absurd h
 peek_to v i S t ts (Some text) is h =
@@ -185,11 +188,13 @@ to_peek v i S [] peek rest fate holds said = absurd said
 to_peek v i S (t ∷ ts) peek rest fate holds said =
     led_on peeking (λ text. Along [] (S (next_line v))) t t ts (rw said.0 refl) (record { rest = rest; fate = fate; holds = holds; said = said.1 })
 
-peek_led : (v : Walk) (i : ℕ) (S : Next) (texts : List (List ℕ)) → Led peeking (λ text. Along [] (S (next_line v))) texts → Along [] (OnLined v (Peeks i) S) texts
+peek_led : (v : Walk) (i : ℕ) (S : Next) (texts : List (List ℕ)) → Led peeking (λ text. Along [] (S (next_line v))) texts
+    → Along [] (OnLined v (Peeks i) S) texts
 peek_led v i S [] h = absurd h
 peek_led v i S (t ∷ ts) h = peek_to v i S t ts (peeking t) refl h
 
-right_peek : (v : Walk) (i : ℕ) (S : Next) (ruling : Ruling) → Right (Along [] (S (next_line v))) ruling → Right (Along [] (OnLined v (Peeks i) S)) (led peeking (λ text. ruling))
+right_peek : (v : Walk) (i : ℕ) (S : Next) (ruling : Ruling) → Right (Along [] (S (next_line v))) ruling
+    → Right (Along [] (OnLined v (Peeks i) S)) (led peeking (λ text. ruling))
 right_peek v i S ruling next =
     right_as (Led peeking (λ text. Along [] (S (next_line v)))) (Along [] (OnLined v (Peeks i) S)) (led peeking (λ text. ruling))
     (peek_led v i S)
@@ -197,8 +202,10 @@ right_peek v i S ruling next =
     (right_led peeking (λ text. Along [] (S (next_line v))) (λ text. ruling) p_line p_line (rw short_peek refl) (λ text. next))
 
 -- a line of the session with result l
-right_gone : (v : Walk) (l : Lined) (S : Next) (ruling : Walk → Ruling) → ((w : Walk) → Right (Along [] (S w)) (ruling w)) → Right (Along [] (OnLined v l S)) (gone v l ruling)
-right_gone v (Done (Refuses r)) S ruling next = right_known (printed.Refused v.line r ∷ []) (OnLined v (Done (Refuses r)) S) Refused (refl, refl) (λ lines f h. h.0)
+right_gone : (v : Walk) (l : Lined) (S : Next) (ruling : Walk → Ruling) → ((w : Walk) → Right (Along [] (S w)) (ruling w))
+    → Right (Along [] (OnLined v l S)) (gone v l ruling)
+right_gone v (Done (Refuses r)) S ruling next = right_known (printed.Refused v.line r ∷ []) (OnLined v (Done (Refuses r)) S) Refused
+    (refl, refl) (λ lines f h. h.0)
 right_gone v (Done (Does n out touched b)) S ruling next =
     right_does v n out touched b S (ruling (next_line (walk_after v n touched b))) (next (next_line (walk_after v n touched b)))
 right_gone v (Done (operator.Ticks i k)) S ruling next =
@@ -214,7 +221,8 @@ abbrev Turned : ℕ → ℕ → Walk → ℕ → Option ℕ → (Walk → ℕ �
 Turned n q v last o S lines fate = TurnBy q v o (λ w s rest. Turns n q w s S rest fate) (S v last lines fate) lines
 
 right_turn : (n q : ℕ) (v : Walk) (last : ℕ) (o : Option ℕ) (S : Walk → ℕ → List Line → Fate → Type 0) (more : Walk → ℕ → Ruling) (done : Ruling)
-    → ((w : Walk) (s : ℕ) → Right (Along [] (Turns n q w s S)) (more w s)) → Right (Along [] (S v last)) done → Right (Along [] (Turned n q v last o S)) (turned_by q v o more done)
+    → ((w : Walk) (s : ℕ) → Right (Along [] (Turns n q w s S)) (more w s)) → Right (Along [] (S v last)) done
+    → Right (Along [] (Turned n q v last o S)) (turned_by q v o more done)
 right_turn n q v last None S more done each end = end
 right_turn n q v last (Some s) S more done each end = right_ticks v s q (λ w. Turns n q w s S) (λ w. more w s) (λ w. each w s)
 
@@ -222,16 +230,19 @@ right_turns : (n q : ℕ) (v : Walk) (last : ℕ) (S : Walk → ℕ → List Lin
     → ((w : Walk) (s : ℕ) → Right (Along [] (S w s)) (ruling w s)) → Right (Along [] (Turns n q v last S)) (turned n q v last ruling)
 right_turns zero q v last S ruling each = each v last
 right_turns (suc n) q v last S ruling each =
-    right_turn n q v last (turn_after v.machine last) S (λ w s. turned n q w s ruling) (ruling v last) (λ w s. right_turns n q w s S ruling each) (each v last)
+    right_turn n q v last (turn_after v.machine last) S (λ w s. turned n q w s ruling) (ruling v last)
+    (λ w s. right_turns n q w s S ruling each) (each v last)
 
--- lines that are shown by a session from the walk on, after a turn of the last slot, and their texts
+-- lines that are shown by a session from the walk on, after a turn of the last slot, and their
+-- texts
 abbrev pub From : Walk → ℕ → List Item → List (List ℕ) → Type 0
 From v last es texts = Along [] (Run v last es) texts
 
 pub right_judged : (es : List Item) (v : Walk) (last : ℕ) → Right (From v last es) (judged v last es)
 right_judged [] v last = right_known [] (Run v last []) Open (refl, refl) (λ lines f h. h.0)
 right_judged (Read e ∷ es) v last =
-    right_gone v (lined v.machine v.block e) (λ w. Turns (turns_asked e) (ticks_asked e) w last (λ x s. Run x s es)) (λ w. turned (turns_asked e) (ticks_asked e) w last (λ x s. judged x s es))
+    right_gone v (lined v.machine v.block e) (λ w. Turns (turns_asked e) (ticks_asked e) w last (λ x s. Run x s es))
+    (λ w. turned (turns_asked e) (ticks_asked e) w last (λ x s. judged x s es))
     (λ w. right_turns (turns_asked e) (ticks_asked e) w last (λ x s. Run x s es) (λ x s. judged x s es) (λ x s. right_judged es x s))
 right_judged (Unread r ∷ es) v last = right_known (printed.Refused v.line r ∷ []) (Run v last (Unread r ∷ es)) Refused (refl, refl) (λ lines f h. h.0)
 right_judged (Beyond ∷ es) v last = right_known [] (Run v last (Beyond ∷ es)) TooLong (refl, refl) (λ lines f h. h.0)

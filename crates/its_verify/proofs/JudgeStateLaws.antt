@@ -7,13 +7,13 @@ use Rattle.std.proofs.lemmas.Option.{none-some, same_Some}
 use Rattle.std.proofs.Math.ListN.{get_or-eq_default}
 use Rattle.its_records.specs.declared.calls.Pace.{Pace}
 use Rattle.its_records.specs.declared.calls.Pace.TheVariants.{Step, Work, Wait, Off}
-use Rattle.its_plain.specs.CallStep.{Transition, among, disturbed, disturbs_in, step, transition, is_made, makes, makes_in}
+use Rattle.its_plain.specs.Call.Step.{Transition, among, disturbed, disturbs_in, step, transition, is_made, makes, makes_in}
 use Rattle.its_plain.proofs.StepLaws.{step_by}
-use Rattle.its_plain.specs.Licence.{Dots, dots_after, dots_after_line, most_dots}
+use Rattle.its_plain.specs.Transcript.Licence.{Dots, dots_after, dots_after_line, most_dots}
 use Rattle.its_plain.specs.Machine.{Machine}
 use Rattle.its_plain.specs.Operator.{Block}
 use Rattle.its_plain.specs.Transcript.{Walk, walk_after, next_line}
-use Rattle.its_plain.specs.Turns.{is_running}
+use Rattle.its_plain.specs.Transcript.Turns.{is_running}
 use Rattle.its_direct.specs.Plain.{machine_of, is_touched}
 use Rattle.its_direct.specs.Events.{Kept}
 use Rattle.its_direct.specs.Steps.{Makes, touches}
@@ -58,7 +58,8 @@ past_own n = grind (arith, nat_tests)
 below_own : (n : ℕ) → ltb n (n + 1) ≡ true
 below_own n = grind (arith, nat_tests)
 
-pub forget_one : (p : Plain) (old ds : List ℕ) (n d e : ℕ) (b : Bool) → b ≡ slice_index_or p.touched n b → d ≡ slice_index_or ds n d → e ≡ forgotten b d → n < length p.touched → n < length ds
+pub forget_one : (p : Plain) (old ds : List ℕ) (n d e : ℕ) (b : Bool) → b ≡ slice_index_or p.touched n b → d ≡ slice_index_or ds n d
+    → e ≡ forgotten b d → n < length p.touched → n < length ds
     → ForgetsBelow n p old ds → ForgetsBelow (n + 1) p old (slice_set ds n e)
 forget_one p old ds n d e b at place is within room h k =
     elim (cases_eq k n) [
@@ -73,7 +74,8 @@ forget_one p old ds n d e b at place is within room h k =
 pub forget_end : (p q : Plain) (old ds : List ℕ) (n : ℕ) → length p.touched ≤ n → q ≡ p → ForgetsBelow n q old ds → Forgets p old ds
 forget_end p q old ds n all is h k =
     elim (cases_Bool (ltb k n)) [
-      | inl below ↦ (let so : dots_of ds k ≡ forgotten (ltb k n && is_touched p k) (dots_of old k) = subst (λ (r : Plain). ForgetsBelow n r old ds) is h k in rw below at so)
+      | inl below ↦ (let so : dots_of ds k ≡ forgotten (ltb k n && is_touched p k) (dots_of old k) = subst
+          (λ (r : Plain). ForgetsBelow n r old ds) is h k in rw below at so)
       | inr past ↦
           (let so : dots_of ds k ≡ forgotten (ltb k n && is_touched p k) (dots_of old k) = subst (λ (r : Plain). ForgetsBelow n r old ds) is h k in
           let far : n ≤ k = grind (arith, nat_tests) in
@@ -166,14 +168,16 @@ dot_led old new i d at run few room p is =
 pub dot_still : (old : Judge) (i : ℕ) → is_running ((machine_of old.plain).jobs i) ≡ false → (b : Block) (n : ℕ) → led_to (walk_of old b n) i Work ≡ None
 dot_still old i off b n = rw off refl
 
-pub dot_not_led : (old : Judge) (i d : ℕ) → d ≡ slice_index_or old.dots i d → 16 ≤ d → i < length old.dots → (b : Block) (n : ℕ) → led_to (walk_of old b n) i Work ≡ None
+pub dot_not_led : (old : Judge) (i d : ℕ) → d ≡ slice_index_or old.dots i d → 16 ≤ d → i < length old.dots → (b : Block) (n : ℕ)
+    → led_to (walk_of old b n) i Work ≡ None
 dot_not_led old i d at many room b n =
     let count : dots_of old.dots i ≡ d = get_or_default old.dots i 0 d room ∙ sym at in
     let far : ltb (dots_of old.dots i) most_dots ≡ false = grind (arith, nat_tests, count, many) in
     rw (far, and_right (is_running ((machine_of old.plain).jobs i)) false refl) refl
 
 -- `w` and `-`
-stays : (old new : Judge) (i : ℕ) (p : Pace) → new.plain ≡ old.plain → new.dots ≡ old.dots → ((b : Block) (n : ℕ) → led_to (walk_of old b n) i p ≡ Some (machine_of old.plain))
+stays : (old new : Judge) (i : ℕ) (p : Pace) → new.plain ≡ old.plain → new.dots ≡ old.dots
+    → ((b : Block) (n : ℕ) → led_to (walk_of old b n) i p ≡ Some (machine_of old.plain))
     → ((k : ℕ) → dots_after (machine_of old.plain) (dots_of old.dots) i p k ≡ dots_of old.dots k) → Led old new i p
 stays old new i p is ds leads same = record {
   leads = λ b n. leads b n ∙ ap (λ (q : Plain). Some (machine_of q)) (sym is);
@@ -181,7 +185,8 @@ stays old new i p is ds leads same = record {
   place = ap (λ (q : Plain). q.place) is;
 }
 
-pub wait_led : (b : Bool) (old new : Judge) (i : ℕ) → b ≡ false → is_running ((machine_of old.plain).jobs i) ≡ true → Makes b (transition (machine_of old.plain) i) old.plain new.plain
+pub wait_led : (b : Bool) (old new : Judge) (i : ℕ) → b ≡ false → is_running ((machine_of old.plain).jobs i) ≡ true
+    → Makes b (transition (machine_of old.plain) i) old.plain new.plain
     → new.dots ≡ old.dots → Led old new i Wait
 wait_led true old new i is run makes ds = absurd (false≢true (sym is))
 wait_led false old new i is run makes ds =
@@ -195,7 +200,8 @@ wait_not_led true old mid i is makes c n =
     let some : step (machine_of old.plain) i ≡ Some makes.transition.machine = step_is (machine_of old.plain) i makes.transition makes.is in
     rw (some, and_right (is_running ((machine_of old.plain).jobs i)) false refl) refl
 
-pub waited : (b : Bool) (old new : Judge) (i : ℕ) → is_running ((machine_of old.plain).jobs i) ≡ true → Makes b (transition (machine_of old.plain) i) old.plain new.plain → new.dots ≡ old.dots
+pub waited : (b : Bool) (old new : Judge) (i : ℕ) → is_running ((machine_of old.plain).jobs i) ≡ true
+    → Makes b (transition (machine_of old.plain) i) old.plain new.plain → new.dots ≡ old.dots
     → LedIf (not b) old new i Wait
 waited true old new i run makes ds = wait_not_led true old new.plain i refl makes
 waited false old new i run makes ds = wait_led false old new i refl run makes ds
@@ -212,11 +218,13 @@ by_touch : (touched marked : Bool) (d : ℕ) → touched ≡ marked → forgotte
 by_touch touched true d is = rw is refl
 by_touch touched false d is = rw is refl
 
-pub line_walk : (old new : Judge) (b after : Block) (n : ℕ) (m : Machine) (disturbs : ℕ → Bool) → machine_of new.plain ≡ m → ((k : ℕ) → is_touched new.plain k ≡ disturbs k)
+pub line_walk : (old new : Judge) (b after : Block) (n : ℕ) (m : Machine) (disturbs : ℕ → Bool) → machine_of new.plain ≡ m
+    → ((k : ℕ) → is_touched new.plain k ≡ disturbs k)
     → Forgets new.plain old.dots new.dots → next_line (walk_after (walk_of old b n) m disturbs after) ≡ walk_of new after (n + 1)
 line_walk old new b after n m disturbs is marks f =
     let dots : dots_after_line (dots_of old.dots) disturbs ≡ dots_of new.dots =
-    same_dots (dots_after_line (dots_of old.dots) disturbs) (dots_of new.dots) (λ k. sym (f k ∙ by_touch (is_touched new.plain k) (disturbs k) (dots_of old.dots k) (marks k))) in
+    same_dots (dots_after_line (dots_of old.dots) disturbs) (dots_of new.dots)
+    (λ k. sym (f k ∙ by_touch (is_touched new.plain k) (disturbs k) (dots_of old.dots k) (marks k))) in
     ap (λ (x : Machine). after_with x (dots_after_line (dots_of old.dots) disturbs)) (sym is) ∙ ap (after_with (machine_of new.plain)) dots
   where
     after_with : Machine → Dots → Walk
@@ -240,7 +248,8 @@ still_waits : (old mid : Judge) (i : ℕ) → Led old mid i Wait → Led mid mid
 still_waits old mid i led = record {
   leads = λ b n.
       (let same : machine_of old.plain ≡ machine_of mid.plain =
-      kept_if (is_running ((machine_of old.plain).jobs i) && is_none (step (machine_of old.plain) i)) (machine_of old.plain) (machine_of mid.plain) (led.leads b n) in
+      kept_if (is_running ((machine_of old.plain).jobs i) && is_none (step (machine_of old.plain) i)) (machine_of old.plain)
+      (machine_of mid.plain) (led.leads b n) in
       subst (λ (m : Machine). if_so (is_running (m.jobs i) && is_none (step m i)) m ≡ Some (machine_of mid.plain)) same (led.leads b n));
   dots = same_dots (dots_of mid.dots) (dots_after (machine_of mid.plain) (dots_of mid.dots) i Wait) (λ k. refl);
   place = refl;

@@ -4,7 +4,7 @@ use Rattle.std.proofs.lemmas.Bool.{false≢true}
 use Rattle.std.specs.Prelude.{option_and_then}
 use Rattle.its_records.specs.declared.calls.Pace.{Pace}
 use Rattle.its_records.specs.declared.calls.Pace.TheVariants.{Wait, Off}
-use Rattle.its_plain.specs.Licence.{Dots}
+use Rattle.its_plain.specs.Transcript.Licence.{Dots}
 use Rattle.its_plain.specs.Machine.{Machine}
 use Rattle.its_plain.specs.Operator.{Block}
 use Rattle.its_plain.specs.Transcript.{after_letter}
@@ -14,12 +14,14 @@ use Rattle.its_verify.specs.JudgeState.{Again, AllLed, walk_of, Sure, Led, LedIf
 use Rattle.its_verify.specs.declared.judge.Judge.{Judge}
 
 -- one letter
-pub letter_leads : (old new : Judge) (i : ℕ) (p : Pace) (ps : List Pace) (b : Block) (n : ℕ) → Led old new i p → paced (walk_of old b n) i (p ∷ ps) ≡ paced (walk_of new b n) i ps
+pub letter_leads : (old new : Judge) (i : ℕ) (p : Pace) (ps : List Pace) (b : Block) (n : ℕ) → Led old new i p
+    → paced (walk_of old b n) i (p ∷ ps) ≡ paced (walk_of new b n) i ps
 letter_leads old new i p ps b n led =
     ap (option_and_then (λ (m : Machine). paced (after_letter (walk_of old b n) i p m) i ps)) (led.leads b n)
     ∙ ap (λ (d : Dots). paced (record { machine = machine_of new.plain; dots = d; block = b; line = n }) i ps) (sym led.dots)
 
-pub letter_stops : (old : Judge) (i : ℕ) (p : Pace) (ps : List Pace) (b : Block) (n : ℕ) → led_to (walk_of old b n) i p ≡ None → paced (walk_of old b n) i (p ∷ ps) ≡ None
+pub letter_stops : (old : Judge) (i : ℕ) (p : Pace) (ps : List Pace) (b : Block) (n : ℕ) → led_to (walk_of old b n) i p ≡ None
+    → paced (walk_of old b n) i (p ∷ ps) ≡ None
 letter_stops old i p ps b n none = ap (option_and_then (λ (m : Machine). paced (after_letter (walk_of old b n) i p m) i ps)) none
 
 -- a run
@@ -30,7 +32,8 @@ taken_apart (suc m) (suc k) p ps few =
     let left : m - k ≡ suc m - suc k = omega arith in
     ap (λ (xs : List Pace). p ∷ xs) (taken_apart m k p ps (omega (arith, few)) ∙ ap (λ (j : ℕ). replicate k p ++ (replicate j p ++ ps)) left)
 
-pub run_start : (old mid new : Judge) (i m k : ℕ) (p : Pace) (licensed : Bool) → licensed ≡ true → LedIf licensed old mid i p → k ≤ m → RunLed true mid new i (replicate k p)
+pub run_start : (old mid new : Judge) (i m k : ℕ) (p : Pace) (licensed : Bool) → licensed ≡ true → LedIf licensed old mid i p → k ≤ m
+    → RunLed true mid new i (replicate k p)
     → RunOn old new i (p ∷ replicate m p) (replicate (m - k) p)
 run_start old mid new i m k p true is led few taken b n ps =
     letter_leads old mid i p (replicate m p ++ ps) b n led
@@ -38,23 +41,28 @@ run_start old mid new i m k p true is led few taken b n ps =
     ∙ taken b n (replicate (m - k) p ++ ps)
 run_start old mid new i m k p false is led few taken b n ps = absurd (false≢true is)
 
-pub run_first_stops : (old new : Judge) (i m : ℕ) (p : Pace) (licensed : Bool) → licensed ≡ false → LedIf licensed old new i p → RunLed false old new i (p ∷ replicate m p)
+pub run_first_stops : (old new : Judge) (i m : ℕ) (p : Pace) (licensed : Bool) → licensed ≡ false → LedIf licensed old new i p
+    → RunLed false old new i (p ∷ replicate m p)
 run_first_stops old new i m p false is led b n ps = letter_stops old i p (replicate m p ++ ps) b n (led b n)
 run_first_stops old new i m p true is led b n ps = absurd (false≢true (sym is))
 
 one_left : (m k : ℕ) (p : Pace) → k < m → replicate (m - k) p ≡ p ∷ replicate (m - (k + 1)) p
 one_left m k p less = let e : m - k ≡ suc (m - (k + 1)) = omega arith in rw e refl
 
-pub run_on : (old now new : Judge) (i m k : ℕ) (all : List Pace) (p : Pace) (licensed : Bool) → k < m → RunOn old now i all (replicate (m - k) p) → licensed ≡ true → LedIf licensed now new i p
+pub run_on : (old now new : Judge) (i m k : ℕ) (all : List Pace) (p : Pace) (licensed : Bool) → k < m
+    → RunOn old now i all (replicate (m - k) p) → licensed ≡ true → LedIf licensed now new i p
     → RunOn old new i all (replicate (m - (k + 1)) p)
 run_on old now new i m k all p true less so is led b n ps =
-    so b n ps ∙ ap (λ (qs : List Pace). paced (walk_of now b n) i (qs ++ ps)) (one_left m k p less) ∙ letter_leads now new i p (replicate (m - (k + 1)) p ++ ps) b n led
+    so b n ps ∙ ap (λ (qs : List Pace). paced (walk_of now b n) i (qs ++ ps)) (one_left m k p less)
+    ∙ letter_leads now new i p (replicate (m - (k + 1)) p ++ ps) b n led
 run_on old now new i m k all p false less so is led b n ps = absurd (false≢true is)
 
-pub run_stops : (old now new : Judge) (i m k : ℕ) (all : List Pace) (p : Pace) (licensed : Bool) → k < m → RunOn old now i all (replicate (m - k) p) → licensed ≡ false → LedIf licensed now new i p
+pub run_stops : (old now new : Judge) (i m k : ℕ) (all : List Pace) (p : Pace) (licensed : Bool) → k < m
+    → RunOn old now i all (replicate (m - k) p) → licensed ≡ false → LedIf licensed now new i p
     → RunLed false old new i all
 run_stops old now new i m k all p false less so is led b n ps =
-    so b n ps ∙ ap (λ (qs : List Pace). paced (walk_of now b n) i (qs ++ ps)) (one_left m k p less) ∙ letter_stops now i p (replicate (m - (k + 1)) p ++ ps) b n (led b n)
+    so b n ps ∙ ap (λ (qs : List Pace). paced (walk_of now b n) i (qs ++ ps)) (one_left m k p less)
+    ∙ letter_stops now i p (replicate (m - (k + 1)) p ++ ps) b n (led b n)
 run_stops old now new i m k all p true less so is led b n ps = absurd (false≢true (sym is))
 
 pub run_end : (old now : Judge) (i m k : ℕ) (all : List Pace) (p : Pace) → m ≤ k → RunOn old now i all (replicate (m - k) p) → RunLed true old now i all
@@ -63,7 +71,8 @@ run_end old now i m k all p past so b n ps =
     so b n ps ∙ ap (λ (j : ℕ). paced (walk_of now b n) i (replicate j p ++ ps)) none
 
 -- none, and then some
-pub run_then : (old mid new : Judge) (i j k : ℕ) (p : Pace) → j ≡ 0 → RunLed true old mid i (replicate j p) → RunLed true mid new i (replicate k p) → RunLed true old new i (replicate k p)
+pub run_then : (old mid new : Judge) (i j k : ℕ) (p : Pace) → j ≡ 0 → RunLed true old mid i (replicate j p)
+    → RunLed true mid new i (replicate k p) → RunLed true old new i (replicate k p)
 run_then old mid new i j k p none first then b n ps =
     ap (λ (m : ℕ). paced (walk_of old b n) i (replicate m p ++ (replicate k p ++ ps))) (sym none) ∙ first b n (replicate k p ++ ps) ∙ then b n ps
 

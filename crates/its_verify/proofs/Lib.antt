@@ -30,3 +30,4 @@ mod Examples
 pub mod SeriesLaws
 pub mod StarsLaws
 pub mod GatheredLaws
+pub mod Groups

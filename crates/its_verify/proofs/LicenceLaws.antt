@@ -1,4 +1,5 @@
--- The judge's letters lead to what the licence allows, both ways; and some letter is always licensed.
+-- The judge's letters lead to what the licence allows, both ways; and some letter is always
+-- licensed.
 use Rattle.std.proofs.Common.{◌≡◌, ◌<◌, ◌==◌, ◌&&◌, ℕ, zero, suc, Bool, true, false, not, Option, Some, None, List, [], ◌∷◌, length, refl, sym, ap, inl, inr, arith}
 use Rattle.std.proofs.lemmas.Bool.{cases_Bool, false≢true, and_parts, eqb-true, eq-eqb, lt-ltb, ltb-true, not-true, not-false}
 use Rattle.std.proofs.lemmas.Slice.Eq.{bytes_eq-Decides}
@@ -6,11 +7,11 @@ use Rattle.std.specs.Prelude.{is_none, nat_lt, option_and_then}
 use Rattle.its_records.specs.declared.calls.Pace.{Pace}
 use Rattle.its_records.specs.declared.calls.Pace.TheVariants.{Step, Work, Wait, Off}
 use Rattle.its_print.specs.Printing.{Ticks, text_of_line}
-use Rattle.its_plain.specs.CallStep.{step}
-use Rattle.its_plain.specs.Licence.{IsRunning, IsOff, Licensed, most_dots}
+use Rattle.its_plain.specs.Call.Step.{step}
+use Rattle.its_plain.specs.Transcript.Licence.{IsRunning, IsOff, Licensed, most_dots}
 use Rattle.its_plain.specs.Machine.{Whole, Machine}
 use Rattle.its_plain.specs.Transcript.{Walk, after_letter}
-use Rattle.its_plain.specs.Turns.{is_running}
+use Rattle.its_plain.specs.Transcript.Turns.{is_running}
 use Rattle.its_plain.proofs.RunLaws.{PacedOn}
 use Rattle.its_verify.specs.Lines.{says}
 use Rattle.its_verify.specs.Letters.{if_so, led_to, paces_from, paced, ticks_in, ticked}
@@ -142,5 +143,6 @@ ticks_said i k text ps many said =
     let test : (length ps == k) ≡ true = eq-eqb (length ps) k many in
     rw (again, test, said) refl
 
-pub ticked_some : (v : Walk) (i k : ℕ) (text : List ℕ) (ps : List Pace) (w : Walk) → length ps ≡ k → says (Ticks i ps) text ≡ true → paced v i ps ≡ Some w → ticked v i k text ≡ Some w
+pub ticked_some : (v : Walk) (i k : ℕ) (text : List ℕ) (ps : List Pace) (w : Walk) → length ps ≡ k → says (Ticks i ps) text ≡ true
+    → paced v i ps ≡ Some w → ticked v i k text ≡ Some w
 ticked_some v i k text ps w many said leads = rw (ticks_said i k text ps many said) leads

@@ -1,4 +1,5 @@
--- The lines of bytes put together again are the bytes, and the lines of texts that end with LF, one after another, are the texts.
+-- The lines of bytes put together again are the bytes, and the lines of texts that end with LF, one
+-- after another, are the texts.
 use Rattle.std.proofs.Common.{◌≡◌, ◌≤◌, ◌==◌, ℕ, true, List, [], ◌∷◌, ◌++◌, length, refl, ap, ◌∙◌, inl, inr, arith}
 use Rattle.std.proofs.lemmas.Bool.{and_parts, cases_Bool, false≢true}
 use Rattle.std.specs.List.{concat, list_all}

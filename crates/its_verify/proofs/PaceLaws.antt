@@ -46,7 +46,8 @@ digits_by_fuel (suc f) most n rest h few =
       | inl small ↦ rw (digits_below_8 n small) (at_digit most 0 n n rest small (omega arith) few)
       | inr large ↦
           rw (digits_from_8 n large, append_assoc (digits_of (n / 8)) ((48 + n % 8) ∷ []) rest)
-          (digits_by_fuel f most (n / 8) ((48 + n % 8) ∷ rest) (omega arith) (omega arith) ∙ at_digit most (n / 8) (n % 8) n rest (omega arith) (omega arith) few)
+          (digits_by_fuel f most (n / 8) ((48 + n % 8) ∷ rest) (omega arith) (omega arith)
+          ∙ at_digit most (n / 8) (n % 8) n rest (omega arith) (omega arith) few)
     ]
 
 at_number : (most n : ℕ) (rest : List ℕ) → n ≤ most → paces_from most 0 (digits_of n ++ rest) ≡ paces_from most n rest
@@ -79,7 +80,8 @@ at_runs most n q (p ∷ ps) few =
           rw (same, is) (at_runs most (n + 1) q ps (omega arith) ∙ one_more n q ps))
       | inr other ↦
           rw other
-          (at_run most n q (behind (runs_from 1 (letter_of p) ps) (10 ∷ [])) (omega arith) ∙ ap (λ xs. replicate n q ++ xs) (at_runs most 1 p ps (omega arith)))
+          (at_run most n q (behind (runs_from 1 (letter_of p) ps) (10 ∷ [])) (omega arith)
+          ∙ ap (λ xs. replicate n q ++ xs) (at_runs most 1 p ps (omega arith)))
     ]
 
 -- a number before a space or LF is none of a run

@@ -31,17 +31,20 @@ unfolding words_of
 space_first c rest is = rw is refl
 
 -- a first run of bytes, of which there are some
-by_run : (c : ℕ) (run : List ℕ) (runs : List (List ℕ)) → begins_with (codes "P") (filter (λ r. not (length r == 0)) ((c ∷ run) ∷ runs)) ≡ ((c == 80) && is_last run)
+by_run : (c : ℕ) (run : List ℕ) (runs : List (List ℕ)) → begins_with (codes "P")
+    (filter (λ r. not (length r == 0)) ((c ∷ run) ∷ runs)) ≡ ((c == 80) && is_last run)
 by_run c [] runs = refl
 by_run c (d ∷ ds) runs =
     let some : (suc (suc (length ds)) == 0) ≡ false = grind (arith, nat_tests) in
     rw some refl
 
-longer : (c d : ℕ) (runs : List (List ℕ)) → begins_with (codes "P") (filter (λ r. not (length r == 0)) (onto_first c (onto_first d runs))) ≡ ((c == 80) && false)
+longer : (c d : ℕ) (runs : List (List ℕ)) → begins_with (codes "P")
+    (filter (λ r. not (length r == 0)) (onto_first c (onto_first d runs))) ≡ ((c == 80) && false)
 longer c d [] = by_run c (d ∷ []) []
 longer c d (run ∷ runs) = by_run c (d ∷ run) runs
 
-split_first : (c : ℕ) (rest : List ℕ) → begins_with (codes "P") (filter (λ r. not (length r == 0)) (onto_first c (slice_split (λ b. b == 32) rest))) ≡ ((c == 80) && ends_word rest)
+split_first : (c : ℕ) (rest : List ℕ) → begins_with (codes "P")
+    (filter (λ r. not (length r == 0)) (onto_first c (slice_split (λ b. b == 32) rest))) ≡ ((c == 80) && ends_word rest)
 split_first c [] = by_run c [] []
 split_first c (d ∷ ds) =
     elim (cases_Bool (d == 32)) [
@@ -111,9 +114,11 @@ unfolding is_peek
 past_end line k found past =
     let at = position_is line k found in
     let long : leb (length line) (most_bytes + 1) ≡ false = lt-leb (length line) (most_bytes + 1) (omega (arith, at.0, at.1)) in
-    and_left (is_whole line && leb (length line) (most_bytes + 1)) (begins_with (codes "P") (words_of (before_lf line))) (and_right (is_whole line) (leb (length line) (most_bytes + 1)) long)
+    and_left (is_whole line && leb (length line) (most_bytes + 1)) (begins_with (codes "P") (words_of (before_lf line)))
+    (and_right (is_whole line) (leb (length line) (most_bytes + 1)) long)
 
-pub at_end : (line : List ℕ) (k : ℕ) → position (λ b. b == 10) line ≡ Some k → k + 1 ≡ length line → k ≤ most_bytes → is_peek line ≡ begins_with (codes "P") (words_of (take k line))
+pub at_end : (line : List ℕ) (k : ℕ) → position (λ b. b == 10) line ≡ Some k → k + 1 ≡ length line → k ≤ most_bytes
+    → is_peek line ≡ begins_with (codes "P") (words_of (take k line))
 unfolding is_peek
 at_end line k found end few =
     let at = position_is line k found in

@@ -1,4 +1,5 @@
--- Each text that says a line has LF as its last byte and nowhere else; and the text of a printed line says it.
+-- Each text that says a line has LF as its last byte and nowhere else; and the text of a printed
+-- line says it.
 use Rattle.std.proofs.Common.{◌≡◌, ◌*◌, ◌+◌, ◌-◌, ◌/◌, ◌%◌, ◌^◌, ◌==◌, ◌&&◌, ℕ, Bool, true, false, not, Option, Some, None, List, [], ◌∷◌, ◌++◌, length, map, refl, sym, ap, ◌∙◌, inl, inr, arith, append-nil, ltb}
 use Rattle.std.proofs.lemmas.Bool.{cases_Bool, and_parts, le-leb, lt-ltb, not-true}
 use Rattle.std.proofs.lemmas.Bool.Decides.{nat_tests}
@@ -133,7 +134,25 @@ all_free_append [] ws h k = k
 all_free_append (u ∷ us) ws h k = (h.0, all_free_append us ws h.1 k)
 
 job_free : (j : JobShow) → AllFree (job_fields j)
-job_free j = (octal12_free j.u, (octal12_free j.j, (number_free j.sup, (number_free j.con, (run_or_stop_free j.run, (octal12_free j.pc, (octal12_free j.p1, (octal12_free j.p2, (octal12_free j.m1, (octal12_free j.m2, (octal12_free j.d1, (octal12_free j.d2, tt))))))))))))
+job_free j = (
+  octal12_free j.u,
+  (
+    octal12_free j.j,
+    (
+      number_free j.sup,
+      (
+        number_free j.con,
+        (
+          run_or_stop_free j.run,
+          (
+            octal12_free j.pc,
+            (octal12_free j.p1, (octal12_free j.p2, (octal12_free j.m1, (octal12_free j.m2, (octal12_free j.d1, (octal12_free j.d2, tt)))))),
+          ),
+        ),
+      ),
+    ),
+  ),
+)
 
 symbol_or_dashes_free : (o : Option (ℕ × ℕ)) → AllFree (symbol_or_dashes o)
 symbol_or_dashes_free None = (refl, (refl, tt))
@@ -161,7 +180,13 @@ fields_free (Drained c bs) = (digits_free c, all_free digits_of bs digits_free)
 fields_free (Words s a ws) = (digits_free s, (octal6_free a, all_free octal12_of ws octal12_free))
 fields_free (Listed s a w) = (digits_free s, (octal6_free a, (typed_free w, tt)))
 fields_free (State v s j) = (digits_free s, all_free_append (job_fields j) (symbol_fields v j.symbol) (job_free j) (symbol_free v j.symbol))
-fields_free (Peeked s p) = (digits_free s, (state_free p.state, (word_free p.name, (digits_free p.left, (word_free p.a, (word_free p.b, (word_free p.h, tt)))))))
+fields_free (Peeked s p) = (
+  digits_free s,
+  (
+    state_free p.state,
+    (word_free p.name, (digits_free p.left, (word_free p.a, (word_free p.b, (word_free p.h, tt))))),
+  ),
+)
 fields_free (Dir d n) = (octal12_free d, (digits_free n, tt))
 fields_free (Filed f) = (octal12_free f.x, (octal12_free f.y, (digits_free f.length, tt)))
 fields_free (Shown d x y k) = (octal12_free d, (octal12_free x, (octal12_free y, (digits_free k, tt))))
@@ -245,7 +270,8 @@ first_word rest =
 
 peeked_text : (s : ℕ) (peek : Peek) → text_of_line (Peeked s peek) ≡ (80 ∷ behind (fields_of (Peeked s peek)) []) ++ 10 ∷ []
 unfolding text_of_line
-peeked_text s peek = ap (λ xs. xs ++ 10 ∷ []) (sym (append-nil (spaced (codes "P") (fields_of (Peeked s peek)))) ∙ spaced_behind (codes "P") (fields_of (Peeked s peek)) [])
+peeked_text s peek = ap (λ xs. xs ++ 10 ∷ []) (sym (append-nil (spaced (codes "P") (fields_of (Peeked s peek))))
+    ∙ spaced_behind (codes "P") (fields_of (Peeked s peek)) [])
 
 peek_said : (s : ℕ) (peek : Peek) → IsPrinted (Peeked s peek) → is_peek (text_of_line (Peeked s peek)) ≡ true
 unfolding is_peek

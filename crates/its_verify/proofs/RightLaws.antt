@@ -1,5 +1,5 @@
--- A judge that is right about which lines are accepted: it says Yes of those that are, and of others the first that begins no
--- accepted ones, or that is missing.
+-- A judge that is right about which lines are accepted: it says Yes of those that are, and of
+-- others the first that begins no accepted ones, or that is missing.
 use Rattle.std.proofs.Common.{◌≡◌, ◌≤◌, ◌+◌, ℕ, suc, Option, Some, None, List, [], ◌∷◌, ◌++◌, ◌⊎◌, length, take, refl, ap, inl, inr, arith}
 use Rattle.its_verify.specs.Rulings.{Verdict, Yes, No, Ruling, at_end, led_by, led}
 
@@ -29,7 +29,8 @@ pub record Right (R : List (List ℕ) → Type 0) (ruling : Ruling) : Type 0 whe
   pub decides : (n : ℕ) (texts : List (List ℕ)) → Decided R n texts (ruling n texts)
 
 -- the same, said otherwise
-decided_as : (R S : List (List ℕ) → Type 0) (n : ℕ) (texts : List (List ℕ)) (v : Verdict) → ((ts : List (List ℕ)) → R ts → S ts) → ((ts : List (List ℕ)) → S ts → R ts)
+decided_as : (R S : List (List ℕ) → Type 0) (n : ℕ) (texts : List (List ℕ)) (v : Verdict) → ((ts : List (List ℕ)) → R ts → S ts)
+    → ((ts : List (List ℕ)) → S ts → R ts)
     → Decided R n texts v → Decided S n texts v
 decided_as R S n texts (Yes k) to from h = (h.0, to texts h.1)
 decided_as R S n texts (No k) to from h = (
@@ -47,7 +48,8 @@ decided_as R S n texts (No k) to from h = (
   λ s. h.1 (from texts s),
 )
 
-pub right_as : (R S : List (List ℕ) → Type 0) (ruling : Ruling) → ((ts : List (List ℕ)) → R ts → S ts) → ((ts : List (List ℕ)) → S ts → R ts) → Right R ruling → Right S ruling
+pub right_as : (R S : List (List ℕ) → Type 0) (ruling : Ruling) → ((ts : List (List ℕ)) → R ts → S ts)
+    → ((ts : List (List ℕ)) → S ts → R ts) → Right R ruling → Right S ruling
 right_as R S ruling to from h = record {
   going = record { more = h.going.more; whole = to h.going.more h.going.whole };
   decides = λ n texts. decided_as R S n texts (ruling n texts) to from (h.decides n texts);
@@ -75,13 +77,16 @@ abbrev pub Led : {X : Type 0} → (List ℕ → Option X) → (X → List (List 
 Led reads R [] = ⊥
 Led reads R (text ∷ texts) = LedBy (reads text) R texts
 
-pub led_on : {X : Type 0} (reads : List ℕ → Option X) (R : X → List (List ℕ) → Type 0) (text : List ℕ) (x : X) (ts : List (List ℕ)) → reads text ≡ Some x → R x ts → Led reads R (text ∷ ts)
+pub led_on : {X : Type 0} (reads : List ℕ → Option X) (R : X → List (List ℕ) → Type 0) (text : List ℕ) (x : X) (ts : List (List ℕ))
+    → reads text ≡ Some x → R x ts → Led reads R (text ∷ ts)
 led_on reads R text x ts is h = rw is h
 
-pub led_off : {X : Type 0} (reads : List ℕ → Option X) (R : X → List (List ℕ) → Type 0) (text : List ℕ) (x : X) (ts : List (List ℕ)) → reads text ≡ Some x → Led reads R (text ∷ ts) → R x ts
+pub led_off : {X : Type 0} (reads : List ℕ → Option X) (R : X → List (List ℕ) → Type 0) (text : List ℕ) (x : X) (ts : List (List ℕ))
+    → reads text ≡ Some x → Led reads R (text ∷ ts) → R x ts
 led_off reads R text x ts is h = rw is at h
 
-none_led : {X : Type 0} (reads : List ℕ → Option X) (R : X → List (List ℕ) → Type 0) (text : List ℕ) (ts : List (List ℕ)) → reads text ≡ None → Led reads R (text ∷ ts) → ⊥
+none_led : {X : Type 0} (reads : List ℕ → Option X) (R : X → List (List ℕ) → Type 0) (text : List ℕ) (ts : List (List ℕ))
+    → reads text ≡ None → Led reads R (text ∷ ts) → ⊥
 none_led reads R text ts is h = rw is at h
 
 -- if the first line is licensed, what is said of the others is said of all
@@ -104,13 +109,17 @@ led_decided reads R text x n texts (No k) is h = (
 )
 
 -- the first line, whatever it says
-first_decided : {X : Type 0} (reads : List ℕ → Option X) (R : X → List (List ℕ) → Type 0) (ruling : X → Ruling) → Begun (Led reads R) [] → ((y : X) → Right (R y) (ruling y))
+first_decided : {X : Type 0} (reads : List ℕ → Option X) (R : X → List (List ℕ) → Type 0) (ruling : X → Ruling) → Begun (Led reads R) []
+    → ((y : X) → Right (R y) (ruling y))
     → (n : ℕ) (t : List ℕ) (ts : List (List ℕ)) (o : Option X) → reads t ≡ o → Decided (Led reads R) n (t ∷ ts) (led_by o ruling n ts)
-first_decided reads R ruling going each n t ts None none =
-    (record { before = 0; at = omega arith; few = omega arith; begun = going; stops = inr (λ b. none_led reads R t b.more none b.whole) }, λ h. none_led reads R t ts none h)
+first_decided reads R ruling going each n t ts None none = (
+  record { before = 0; at = omega arith; few = omega arith; begun = going; stops = inr (λ b. none_led reads R t b.more none b.whole) },
+  λ h. none_led reads R t ts none h,
+)
 first_decided reads R ruling going each n t ts (Some y) some = led_decided reads R t y n ts (ruling y (n + 1) ts) some ((each y).decides (n + 1) ts)
 
-all_decided : {X : Type 0} (reads : List ℕ → Option X) (R : X → List (List ℕ) → Type 0) (ruling : X → Ruling) → Begun (Led reads R) [] → ((y : X) → Right (R y) (ruling y))
+all_decided : {X : Type 0} (reads : List ℕ → Option X) (R : X → List (List ℕ) → Type 0) (ruling : X → Ruling) → Begun (Led reads R) []
+    → ((y : X) → Right (R y) (ruling y))
     → (n : ℕ) (texts : List (List ℕ)) → Decided (Led reads R) n texts (led reads ruling n texts)
 all_decided reads R ruling going each n [] =
     (record { before = 0; at = omega arith; few = omega arith; begun = going; stops = inl (refl, λ h. h) }, λ h. h)

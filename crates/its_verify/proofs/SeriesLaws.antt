@@ -5,8 +5,8 @@ use Rattle.std.proofs.lemmas.Bool.{cases_eq, eq-eqb, false≢true, ne_eqb}
 use Rattle.std.proofs.lemmas.List.{get_or-set_same, get_or-set_other}
 use Rattle.its_records.specs.declared.calls.Pace.{Pace}
 use Rattle.its_records.specs.declared.calls.Pace.TheVariants.{Step}
-use Rattle.its_plain.specs.CallStep.{Transition, among, quiet_step, disturbed, is_made, transition, makes}
-use Rattle.its_plain.specs.Licence.{Dots, dots_after}
+use Rattle.its_plain.specs.Call.Step.{Transition, among, quiet_step, disturbed, is_made, transition, makes}
+use Rattle.its_plain.specs.Transcript.Licence.{Dots, dots_after}
 use Rattle.its_plain.specs.Machine.{Machine}
 use Rattle.its_plain.specs.Operator.{Block}
 use Rattle.its_plain.specs.Transcript.{Walk, after_letter}
@@ -66,21 +66,28 @@ series_alone (suc n) m o j s = (
 
 parts_alone : (n : ℕ) (m o : Machine) (j : ℕ) → InParts n m j o → AllAlone n m j o
 parts_alone zero m o j s = s
-parts_alone (suc n) m o j s = (s.0, record { step = s.1.step; is = s.1.is; machine = s.1.machine; alone = s.1.alone; unmade = s.1.unmade }, parts_alone n s.0 o j s.2)
+parts_alone (suc n) m o j s = (
+  s.0,
+  record { step = s.1.step; is = s.1.is; machine = s.1.machine; alone = s.1.alone; unmade = s.1.unmade },
+  parts_alone n s.0 o j s.2,
+)
 
 alone_dots : (m p : Machine) (d : Dots) (i : ℕ) → Alone m i p → dots_after m d i Step ≡ cleared d i
 alone_dots m p d i a = same_dots (dots_after m d i Step) (cleared d i) (λ x. or_false (x == i) (disturbed m i x) (makes m i x) (d x)
-    (disturbed_is m i x a.step a.is ∙ ap (λ (ks : List ℕ). among x ks) a.alone) (makes_is m i x a.step a.is ∙ ap (λ (n : Machine). is_made m n x) (sym a.machine) ∙ a.unmade x))
+    (disturbed_is m i x a.step a.is ∙ ap (λ (ks : List ℕ). among x ks) a.alone)
+    (makes_is m i x a.step a.is ∙ ap (λ (n : Machine). is_made m n x) (sym a.machine) ∙ a.unmade x))
 
 abbrev walk_at : Machine → Dots → Block → ℕ → Walk
 walk_at m d b n = record { machine = m; dots = d; block = b; line = n }
 
-one_paced : (m p : Machine) (d : Dots) (b : Block) (n i : ℕ) (ps : List Pace) → Alone m i p → paced (walk_at m d b n) i (Step ∷ ps) ≡ paced (walk_at p (cleared d i) b n) i ps
+one_paced : (m p : Machine) (d : Dots) (b : Block) (n i : ℕ) (ps : List Pace) → Alone m i p
+    → paced (walk_at m d b n) i (Step ∷ ps) ≡ paced (walk_at p (cleared d i) b n) i ps
 one_paced m p d b n i ps a =
     ap (option_and_then (λ (x : Machine). paced (after_letter (walk_at m d b n) i Step x) i ps)) (step_is m i a.step a.is ∙ ap Some (sym a.machine))
     ∙ ap (λ (e : Dots). paced (walk_at p e b n) i ps) (alone_dots m p d i a)
 
-all_paced : (k : ℕ) (m o : Machine) (d : Dots) (b : Block) (n i : ℕ) (ps : List Pace) → AllAlone k m i o → paced (walk_at m d b n) i (replicate k Step ++ ps) ≡ paced (walk_at o (cleared_by k d i) b n) i ps
+all_paced : (k : ℕ) (m o : Machine) (d : Dots) (b : Block) (n i : ℕ) (ps : List Pace) → AllAlone k m i o
+    → paced (walk_at m d b n) i (replicate k Step ++ ps) ≡ paced (walk_at o (cleared_by k d i) b n) i ps
 all_paced zero m o d b n i ps s = ap (λ (x : Machine). paced (walk_at x d b n) i ps) (sym s)
 all_paced (suc k) m o d b n i ps s =
     one_paced m s.0 d b n i (replicate k Step ++ ps) s.1
@@ -104,13 +111,15 @@ units_none old new i k none plain dots b n ps =
     ∙ (λ t. paced (walk_at (machine_of (sym plain t)) (dots_of (sym dots t)) b n) i ps)
 
 -- some were
-some_led : (old new : Judge) (i k : ℕ) → k ≢ 0 → AllAlone k (machine_of old.plain) i (machine_of new.plain) → new.dots ≡ slice_set old.dots i 0 → i < length old.dots → RunLed true old new i (replicate k Step)
+some_led : (old new : Judge) (i k : ℕ) → k ≢ 0 → AllAlone k (machine_of old.plain) i (machine_of new.plain)
+    → new.dots ≡ slice_set old.dots i 0 → i < length old.dots → RunLed true old new i (replicate k Step)
 some_led old new i zero some s dots room b n ps = absurd (some refl)
 some_led old new i (suc k) some s dots room b n ps =
     all_paced (suc k) (machine_of old.plain) (machine_of new.plain) (dots_of old.dots) b n i ps s
     ∙ ap (λ (e : Dots). paced (walk_at (machine_of new.plain) e b n) i ps) (sym (ap dots_of dots ∙ set_cleared old.dots i room))
 
-pub units_some : (old new : Judge) (i k : ℕ) → k ≢ 0 → Series k (machine_of old.plain) i (machine_of new.plain) → new.dots ≡ slice_set old.dots i 0 → i < length old.dots → RunLed true old new i (replicate k Step)
+pub units_some : (old new : Judge) (i k : ℕ) → k ≢ 0 → Series k (machine_of old.plain) i (machine_of new.plain)
+    → new.dots ≡ slice_set old.dots i 0 → i < length old.dots → RunLed true old new i (replicate k Step)
 units_some old new i k some s dots room = some_led old new i k some (series_alone k (machine_of old.plain) (machine_of new.plain) i s) dots room
 
 -- if a unit was due, some were made
@@ -120,10 +129,12 @@ units_first old mid new i n j k none same most due less =
     absurd (false≢true (sym (most (omega (arith, none, less))) ∙ ap (λ p. unit_due (machine_of p) i) (same none) ∙ due))
 
 -- parts of a call
-pub parts_some : (old new : Judge) (i k : ℕ) → k ≢ 0 → InParts k (machine_of old.plain) i (machine_of new.plain) → new.dots ≡ slice_set old.dots i 0 → i < length old.dots → RunLed true old new i (replicate k Step)
+pub parts_some : (old new : Judge) (i k : ℕ) → k ≢ 0 → InParts k (machine_of old.plain) i (machine_of new.plain)
+    → new.dots ≡ slice_set old.dots i 0 → i < length old.dots → RunLed true old new i (replicate k Step)
 parts_some old new i k some s dots room = some_led old new i k some (parts_alone k (machine_of old.plain) (machine_of new.plain) i s) dots room
 
-pub parts_none : (old new : Judge) (i k : ℕ) → k ≡ 0 → InParts k (machine_of old.plain) i (machine_of new.plain) → new.dots ≡ old.dots → RunLed true old new i (replicate k Step)
+pub parts_none : (old new : Judge) (i k : ℕ) → k ≡ 0 → InParts k (machine_of old.plain) i (machine_of new.plain) → new.dots ≡ old.dots
+    → RunLed true old new i (replicate k Step)
 parts_none old new i k none s dots b n ps =
     ap (λ (j : ℕ). paced (walk_of old b n) i (replicate j Step ++ ps)) none
     ∙ (λ t. paced (walk_at (sym (subst (λ (j : ℕ). InParts j (machine_of old.plain) i (machine_of new.plain)) none s) t) (dots_of (sym dots t)) b n) i ps)

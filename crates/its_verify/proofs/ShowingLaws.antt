@@ -1,50 +1,30 @@
 -- Lines that an event shows, which are printed and then expected.
-use Rattle.std.proofs.Common.{◌≡◌, ◌<◌, ◌≤◌, ◌+◌, ◌*◌, ◌/◌, ◌%◌, ◌-◌, ℕ, suc, Option, Some, None, Result, Ok, Err, IsOk, IfOk, List, [], ◌∷◌, length, map, take, drop, min, slice_index_or, refl, add-one, sym, ap, subst, ◌∙◌, inl, inr, arith}
+use Rattle.std.proofs.Common.{◌≡◌, ◌<◌, ◌≤◌, ◌+◌, ◌*◌, ◌/◌, ◌%◌, ◌-◌, ℕ, suc, Option, Some, None, Result, Ok, Err, List, [], ◌∷◌, length, map, take, drop, min, slice_index_or, refl, add-one, sym, ap, subst, ◌∙◌, inl, inr, arith}
 use Rattle.std.proofs.Math.Seq.{drop-cons}
 use Rattle.std.proofs.Math.ListN.{drop_of_length-le}
-use Rattle.std.proofs.lemmas.Bool.{cases_eq, false≢true}
+use Rattle.std.proofs.lemmas.Bool.{cases_eq}
 use Rattle.std.proofs.Math.Nat.{min-eq_left}
 use Rattle.std.proofs.lemmas.List.{drop-drop, length-map}
 use Rattle.its_io.specs.declared.stream.Failed.{Failed}
-use Rattle.its_records.specs.declared.session.Reason.{Reason}
-use Rattle.its_files.specs.Files.{Store, file_at as file_of, words_at}
-use Rattle.its_print.specs.Printing.{Dir, Filed, Line, Listed, Row, State, listed, text_of_line}
+use Rattle.its_files.specs.Files.{Store, file_at as file_of}
+use Rattle.its_print.specs.Printing.{Dir, Filed, Line, Listed, Row, listed, text_of_line}
 use Rattle.its_records.specs.declared.show.FileShow.{FileShow}
-use Rattle.its_records.specs.declared.show.JobShow.{JobShow}
-use Rattle.its_plain.specs.Machine.{File, Machine, Names}
-use Rattle.its_plain.specs.CallFile.{file_named}
-use Rattle.its_plain.specs.Own.{names_of}
-use Rattle.its_plain.specs.OperatorFiles.{file_shown, filed_line, listing, rows, show_of, shown_by}
-use Rattle.its_plain.specs.OperatorLines.{in_a_line}
-use Rattle.its_direct.specs.Plain.{machine_of}
-use Rattle.its_direct.specs.declared.plain.Plain.{Plain}
+use Rattle.its_plain.specs.Machine.{File, Names}
+use Rattle.its_plain.specs.Operator.Files.{filed_line, listing, rows, show_of}
 use Rattle.its_verify.specs.TranscriptReader.{Forward, AtLine, Says, Stays, same_as}
 use Rattle.its_verify.proofs.TranscriptReaderLaws.{led_forward, nothing_on, says_then}
 use Rattle.its_verify.specs.Rulings.{Ruling, led, saying, expects}
-use Rattle.its_verify.specs.Showing.{LinesSo, names_line, shown_if, text_lines}
+use Rattle.its_verify.specs.Showing.{LinesSo, names_line, text_lines}
 use Rattle.its_verify.specs.declared.outcome.Outcome.{Outcome}
 use Rattle.its_verify.specs.declared.transcript_reader.TranscriptReader.{TranscriptReader}
 
 -- one line, whose text is expected
-pub reply_says : (l : Line) (o : Result (Option Outcome) Failed) (old new : TranscriptReader) (left rest : Option (List ℕ)) → saying l ≡ same_as (text_of_line l)
-    → ((next : Ruling) → Says o old new left rest (led (same_as (text_of_line l)) (λ t. next)) next) → (next : Ruling) → Says o old new left rest (expects (l ∷ []) next) next
-reply_says l o old new left rest same says next = subst (λ (f : List ℕ → Option (List ℕ)). Says o old new left rest (led f (λ t. next)) next) (sym same) (says next)
-
--- lines that show a value that is there
-pub shown_says : {X E : Type 0} (show : X → List Line) (r : Result X E) (x : X) (o : Result (Option Outcome) Failed) (old new : TranscriptReader) (left rest : Option (List ℕ)) → IsOk r → IfOk r (λ y. x ≡ y)
-    → ((next : Ruling) → Says o old new left rest (expects (show x) next) next) → (next : Ruling) → Says o old new left rest (expects (shown_if show r) next) next
-shown_says show (Ok y) x o old new left rest there is says next = subst (λ z. Says o old new left rest (expects (show z) next) next) is (says next)
-shown_says show (Err e) x o old new left rest there is says next = absurd (false≢true there)
-
-pub words_say : (s a : ℕ) (r : Result (List ℕ) Reason) (ws : List ℕ) (o : Result (Option Outcome) Failed) (old new : TranscriptReader) (left rest : Option (List ℕ)) → IsOk r → IfOk r (λ y. ws ≡ y)
-    → ((next : Ruling) → Says o old new left rest (expects (in_a_line s a ws) next) next)
-    → (next : Ruling) → Says o old new left rest (expects (shown_if (in_a_line s a) r) next) next
-words_say s a r ws o old new left rest there is says = shown_says (in_a_line s a) r ws o old new left rest there is says
-
-pub list_says : (s a : ℕ) (r : Result (List ℕ) Reason) (ws : List ℕ) (o : Result (Option Outcome) Failed) (old new : TranscriptReader) (left rest : Option (List ℕ)) → IsOk r → IfOk r (λ y. ws ≡ y)
-    → ((next : Ruling) → Says o old new left rest (expects (listed s a ws) next) next)
-    → (next : Ruling) → Says o old new left rest (expects (shown_if (listed s a) r) next) next
-list_says s a r ws o old new left rest there is says = shown_says (listed s a) r ws o old new left rest there is says
+pub reply_says : (l : Line) (o : Result (Option Outcome) Failed) (old new : TranscriptReader) (left rest : Option (List ℕ))
+    → saying l ≡ same_as (text_of_line l)
+    → ((next : Ruling) → Says o old new left rest (led (same_as (text_of_line l)) (λ t. next)) next) → (next : Ruling)
+    → Says o old new left rest (expects (l ∷ []) next) next
+reply_says l o old new left rest same says next = subst (λ (f : List ℕ → Option (List ℕ)). Says o old new left rest (led f (λ t. next))
+    next) (sym same) (says next)
 
 -- several lines
 pub lines_forward : (lines : List Line) (next : Ruling) → Forward next → Forward (expects lines next)
@@ -54,73 +34,81 @@ lines_forward (line ∷ lines) next h = led_forward (saying line) (λ text. expe
 pub lines_start : (h : TranscriptReader) (left : Option (List ℕ)) (lines : List Line) → LinesSo h h left left lines lines
 lines_start h left lines = record { passes = λ next. nothing_on h left (expects lines next) }
 
-lines_then : (r o : Result (Option Outcome) Failed) (old now new : TranscriptReader) (left mid rest : Option (List ℕ)) (lines rests more : List Line) (l : Line) → r ≡ o → rests ≡ l ∷ more → LinesSo old now left mid lines rests
-    → ((next : Ruling) → Says r now new mid rest (expects (l ∷ []) next) next) → (next : Ruling) → Says o old new left rest (expects lines next) (expects more next)
+lines_then : (r o : Result (Option Outcome) Failed) (old now new : TranscriptReader) (left mid rest : Option (List ℕ))
+    (lines rests more : List Line) (l : Line) → r ≡ o → rests ≡ l ∷ more → LinesSo old now left mid lines rests
+    → ((next : Ruling) → Says r now new mid rest (expects (l ∷ []) next) next) → (next : Ruling)
+    → Says o old new left rest (expects lines next) (expects more next)
 lines_then r o old now new left mid rest lines rests more l is split so says next =
-    says_then o old now new left mid rest (expects lines next) (expects (l ∷ more) next) (expects more next) ((subst (LinesSo old now left mid lines) split so).passes next)
+    says_then o old now new left mid rest (expects lines next) (expects (l ∷ more) next) (expects more next)
+    ((subst (LinesSo old now left mid lines) split so).passes next)
     (subst (λ q. Says q now new mid rest (expects (l ∷ []) (expects more next)) (expects more next)) is (says (expects more next)))
 
-pub lines_next : (r : Result (Option Outcome) Failed) (old now new : TranscriptReader) (left mid rest : Option (List ℕ)) (lines rests more : List Line) (l : Line) → r ≡ Ok None → rests ≡ l ∷ more → LinesSo old now left mid lines rests
+pub lines_next : (r : Result (Option Outcome) Failed) (old now new : TranscriptReader) (left mid rest : Option (List ℕ))
+    (lines rests more : List Line) (l : Line) → r ≡ Ok None → rests ≡ l ∷ more → LinesSo old now left mid lines rests
     → ((next : Ruling) → Says r now new mid rest (expects (l ∷ []) next) next) → LinesSo old new left rest lines more
-lines_next r old now new left mid rest lines rests more l is split so says = record { passes = λ next. lines_then r (Ok None) old now new left mid rest lines rests more l is split so says next }
+lines_next r old now new left mid rest lines rests more l is split so says =
+    record { passes = λ next. lines_then r (Ok None) old now new left mid rest lines rests more l is split so says next }
 
-pub lines_stop : (r : Result (Option Outcome) Failed) (f : Outcome) (old now new : TranscriptReader) (left mid rest : Option (List ℕ)) (lines rests more : List Line) (l : Line) → r ≡ Ok (Some f) → rests ≡ l ∷ more → LinesSo old now left mid lines rests
-    → ((next : Ruling) → Says r now new mid rest (expects (l ∷ []) next) next) → (next : Ruling) → Says (Ok (Some f)) old new left rest (expects lines next) next
-lines_stop r f old now new left mid rest lines rests more l is split so says next = lines_then r (Ok (Some f)) old now new left mid rest lines rests more l is split so says next
+pub lines_stop : (r : Result (Option Outcome) Failed) (f : Outcome) (old now new : TranscriptReader) (left mid rest : Option (List ℕ))
+    (lines rests more : List Line) (l : Line) → r ≡ Ok (Some f) → rests ≡ l ∷ more → LinesSo old now left mid lines rests
+    → ((next : Ruling) → Says r now new mid rest (expects (l ∷ []) next) next) → (next : Ruling)
+    → Says (Ok (Some f)) old new left rest (expects lines next) next
+lines_stop r f old now new left mid rest lines rests more l is split so says next =
+    lines_then r (Ok (Some f)) old now new left mid rest lines rests more l is split so says next
 
-pub lines_fail : (r : Result (Option Outcome) Failed) (e : Failed) (old now new : TranscriptReader) (left mid rest : Option (List ℕ)) (lines rests more : List Line) (l : Line) → r ≡ Err e → rests ≡ l ∷ more → LinesSo old now left mid lines rests
+pub lines_fail : (r : Result (Option Outcome) Failed) (e : Failed) (old now new : TranscriptReader) (left mid rest : Option (List ℕ))
+    (lines rests more : List Line) (l : Line) → r ≡ Err e → rests ≡ l ∷ more → LinesSo old now left mid lines rests
     → ((next : Ruling) → Says r now new mid rest (expects (l ∷ []) next) next) → (next : Ruling) → Says (Err e) old new left rest (expects lines next) next
 lines_fail r e old now new left mid rest lines rests more l is split so says next forward =
     lines_then r (Err e) old now new left mid rest lines rests more l is split so says next (lines_forward more next forward)
 
-pub lines_end : (old now : TranscriptReader) (left rest : Option (List ℕ)) (lines more : List Line) → more ≡ [] → LinesSo old now left rest lines more → (next : Ruling) → Says (Ok None) old now left rest (expects lines next) next
+pub lines_end : (old now : TranscriptReader) (left rest : Option (List ℕ)) (lines more : List Line) → more ≡ []
+    → LinesSo old now left rest lines more → (next : Ruling) → Says (Ok None) old now left rest (expects lines next) next
 lines_end old now left rest lines more none so next = (subst (LinesSo old now left rest lines) none so).passes next
 
 pub at_line_by : (r : Result (Option Outcome) Failed) (new : TranscriptReader) (rest : Option (List ℕ)) → r ≡ Ok None → Stays r new rest → AtLine new rest
 at_line_by r new rest is h = subst (λ q. Stays q new rest) is h
 
 -- a line for each of some words
-pub listed_more : (s p k : ℕ) (ws : List ℕ) (w : ℕ) → k < length ws → w ≡ slice_index_or ws k w → listed s p (drop k ws) ≡ Listed s p w ∷ listed s (p + 1) (drop (k + 1) ws)
+pub listed_more : (s p k : ℕ) (ws : List ℕ) (w : ℕ) → k < length ws → w ≡ slice_index_or ws k w → listed s p (drop k ws) ≡ Listed s p w
+    ∷ listed s (p + 1) (drop (k + 1) ws)
 listed_more s p k ws w below at = rw (drop-cons ws k w below, add-one k, sym at) refl
 
--- a job
-pub state_says : (v w s : ℕ) (r : Result JobShow Reason) (x : JobShow) (o : Result (Option Outcome) Failed) (old new : TranscriptReader) (left rest : Option (List ℕ)) → IsOk r → IfOk r (λ y. Some x ≡ Some y) → w ≡ v
-    → ((next : Ruling) → Says o old new left rest (expects (State w s x ∷ []) next) next)
-    → (next : Ruling) → Says o old new left rest (expects (shown_if (λ show. State v s show ∷ []) r) next) next
-state_says v w s (Ok y) x o old new left rest there is same says next =
-    let here : x ≡ y = cc in
-    subst (λ z. Says o old new left rest (expects (State v s z ∷ []) next) next) here (subst (λ n. Says o old new left rest (expects (State n s x ∷ []) next) next) same (says next))
-state_says v w s (Err e) x o old new left rest there is same says next = absurd (false≢true there)
-
-pub version_is : (p : Plain) → p.version ≡ (machine_of p).version
-unfolding machine_of
-version_is p = refl
-
 -- files
-pub filed_says : (f : File) (show : FileShow) (o : Result (Option Outcome) Failed) (old new : TranscriptReader) (left rest : Option (List ℕ)) → show ≡ show_of f
-    → ((next : Ruling) → Says o old new left rest (expects (Filed show ∷ []) next) next) → (next : Ruling) → Says o old new left rest (expects (filed_line f ∷ []) next) next
+pub filed_says : (f : File) (show : FileShow) (o : Result (Option Outcome) Failed) (old new : TranscriptReader)
+    (left rest : Option (List ℕ)) → show ≡ show_of f
+    → ((next : Ruling) → Says o old new left rest (expects (Filed show ∷ []) next) next) → (next : Ruling)
+    → Says o old new left rest (expects (filed_line f ∷ []) next) next
 filed_says f show o old new left rest is says next = subst (λ (x : FileShow). Says o old new left rest (expects (Filed x ∷ []) next) next) is (says next)
 
 pub row_says : (ws row : List ℕ) (o : Result (Option Outcome) Failed) (old new : TranscriptReader) (left rest : Option (List ℕ)) → row ≡ ws
-    → ((next : Ruling) → Says o old new left rest (expects (Row row ∷ []) next) next) → (next : Ruling) → Says o old new left rest (expects (Row ws ∷ []) next) next
+    → ((next : Ruling) → Says o old new left rest (expects (Row row ∷ []) next) next) → (next : Ruling)
+    → Says o old new left rest (expects (Row ws ∷ []) next) next
 row_says ws row o old new left rest is says next = subst (λ (x : List ℕ). Says o old new left rest (expects (Row x ∷ []) next) next) is (says next)
 
 -- two parts of what is shown
-pub then_says : (r o : Result (Option Outcome) Failed) (old mid new : TranscriptReader) (left between rest : Option (List ℕ)) (l : Line) (lines : List Line) → r ≡ Ok None
+pub then_says : (r o : Result (Option Outcome) Failed) (old mid new : TranscriptReader) (left between rest : Option (List ℕ)) (l : Line)
+    (lines : List Line) → r ≡ Ok None
     → ((next : Ruling) → Says r old mid left between (expects (l ∷ []) next) next) → ((next : Ruling) → Says o mid new between rest (expects lines next) next)
     → (next : Ruling) → Says o old new left rest (expects (l ∷ lines) next) next
 then_says r o old mid new left between rest l lines is first more next =
     says_then o old mid new left between rest (expects (l ∷ lines) next) (expects lines next) next
     (subst (λ q. Says q old mid left between (expects (l ∷ []) (expects lines next)) (expects lines next)) is (first (expects lines next))) (more next)
 
-pub stop_says : (r : Result (Option Outcome) Failed) (f : Outcome) (old new : TranscriptReader) (left rest : Option (List ℕ)) (l : Line) (lines : List Line) → r ≡ Ok (Some f)
-    → ((next : Ruling) → Says r old new left rest (expects (l ∷ []) next) next) → (next : Ruling) → Says (Ok (Some f)) old new left rest (expects (l ∷ lines) next) next
-stop_says r f old new left rest l lines is first next = subst (λ q. Says q old new left rest (expects (l ∷ []) (expects lines next)) (expects lines next)) is (first (expects lines next))
+pub stop_says : (r : Result (Option Outcome) Failed) (f : Outcome) (old new : TranscriptReader) (left rest : Option (List ℕ)) (l : Line)
+    (lines : List Line) → r ≡ Ok (Some f)
+    → ((next : Ruling) → Says r old new left rest (expects (l ∷ []) next) next) → (next : Ruling)
+    → Says (Ok (Some f)) old new left rest (expects (l ∷ lines) next) next
+stop_says r f old new left rest l lines is first next = subst
+    (λ q. Says q old new left rest (expects (l ∷ []) (expects lines next)) (expects lines next)) is (first (expects lines next))
 
-pub fail_says : (r : Result (Option Outcome) Failed) (e : Failed) (old new : TranscriptReader) (left rest : Option (List ℕ)) (l : Line) (lines : List Line) → r ≡ Err e
-    → ((next : Ruling) → Says r old new left rest (expects (l ∷ []) next) next) → (next : Ruling) → Says (Err e) old new left rest (expects (l ∷ lines) next) next
+pub fail_says : (r : Result (Option Outcome) Failed) (e : Failed) (old new : TranscriptReader) (left rest : Option (List ℕ)) (l : Line)
+    (lines : List Line) → r ≡ Err e
+    → ((next : Ruling) → Says r old new left rest (expects (l ∷ []) next) next) → (next : Ruling)
+    → Says (Err e) old new left rest (expects (l ∷ lines) next) next
 fail_says r e old new left rest l lines is first next forward =
-    subst (λ q. Says q old new left rest (expects (l ∷ []) (expects lines next)) (expects lines next)) is (first (expects lines next)) (lines_forward lines next forward)
+    subst (λ q. Says q old new left rest (expects (l ∷ []) (expects lines next)) (expects lines next)) is (first (expects lines next))
+    (lines_forward lines next forward)
 
 pub same_says : (o : Result (Option Outcome) Failed) (old new : TranscriptReader) (left rest : Option (List ℕ)) (lines more : List Line) → lines ≡ more
     → ((next : Ruling) → Says o old new left rest (expects lines next) next) → (next : Ruling) → Says o old new left rest (expects more next) next
@@ -128,7 +116,8 @@ same_says o old new left rest lines more is says next = subst (λ (ls : List Lin
 
 -- a line for each of some files
 pub filed_more : (files : Store) (ids : List ℕ) (k d : ℕ) → k < length ids
-    → map filed_line (map (file_of files) (drop k ids)) ≡ filed_line (file_of files (slice_index_or ids k d)) ∷ map filed_line (map (file_of files) (drop (k + 1) ids))
+    → map filed_line (map (file_of files) (drop k ids)) ≡ filed_line (file_of files (slice_index_or ids k d))
+    ∷ map filed_line (map (file_of files) (drop (k + 1) ids))
 filed_more files ids k d below = rw (drop-cons ids k d below, add-one k) refl
 
 pub filed_end : (files : Store) (ids : List ℕ) (k : ℕ) → length ids ≤ k → map filed_line (map (file_of files) (drop k ids)) ≡ []
@@ -155,21 +144,10 @@ pub listed_end : (s p k : ℕ) (ws : List ℕ) → length ws ≤ k → listed s 
 listed_end s p k ws past = rw (drop_of_length-le ws past) refl
 
 -- all lines of DIR and of SHOW
-pub listing_is : (files : Store) (d n : ℕ) (ids : List ℕ) (fs : List File) → map (file_of files) ids ≡ fs → n ≡ length ids → (Dir d n ∷ map filed_line (map (file_of files) ids)) ≡ listing d fs
+pub listing_is : (files : Store) (d n : ℕ) (ids : List ℕ) (fs : List File) → map (file_of files) ids ≡ fs → n ≡ length ids
+    → (Dir d n ∷ map filed_line (map (file_of files) ids)) ≡ listing d fs
 listing_is files d n ids fs is count =
     ap (λ (k : ℕ). Dir d k ∷ map filed_line (map (file_of files) ids)) (count ∙ sym (length-map ids (file_of files))) ∙ ap (listing d) is
 
 pub text_is : (names : Names) (n : ℕ) (ws : List ℕ) → n ≡ length ws → (names_line names n ∷ rows ((n + 7) / 8) ws) ≡ text_lines names ws
 text_is names n ws is = ap (λ (k : ℕ). names_line names k ∷ rows ((k + 7) / 8) ws) is
-
-pub file_is : (m : Machine) (files : Store) (d x y id : ℕ) → Some (file_of files id) ≡ file_named (names_of d x y) m.files
-    → text_lines (d ∷ x ∷ y ∷ []) (words_at files id) ≡ shown_if (λ out. out) (file_shown m d x y)
-unfolding file_shown
-file_is m files d x y id is = ap (λ (o : Option File). shown_if (λ out. out) (shown_by d x y o)) is
-
-pub no_file_is : (m : Machine) (d x y : ℕ) → None ≡ file_named (names_of d x y) m.files → [] ≡ shown_if (λ out. out) (file_shown m d x y)
-unfolding file_shown
-no_file_is m d x y is = ap (λ (o : Option File). shown_if (λ out. out) (shown_by d x y o)) is
-
-pub nothing_says : (h : TranscriptReader) (left : Option (List ℕ)) (lines : List Line) → [] ≡ lines → (next : Ruling) → Says (Ok None) h h left left (expects lines next) next
-nothing_says h left lines is next = subst (λ (ls : List Line). Says (Ok None) h h left left (expects ls next) next) is (nothing_on h left next)

@@ -1,7 +1,7 @@
 -- What a source has left, if its bytes are known.
-use Rattle.std.proofs.Common.{◌≡◌, ◌≤◌, ◌==◌, ◌+◌, ℕ, Bool, true, false, Option, Some, None, Err, List, [], ◌∷◌, ◌++◌, length, refl, sym, ap, subst, ◌∙◌, arith, append_assoc, append-nil, length-append}
+use Rattle.std.proofs.Common.{◌≡◌, ◌≤◌, ◌==◌, ◌+◌, ℕ, Bool, true, false, Option, Some, None, Err, List, [], ◌∷◌, ◌++◌, length, refl, sym, ap, subst, ◌∙◌, inl, inr, arith, append_assoc, append-nil, length-append}
 use Rattle.std.specs.List.{concat, list_all}
-use Rattle.std.proofs.lemmas.Bool.{and_parts, false≢true, not-true}
+use Rattle.std.proofs.lemmas.Bool.{and_parts, cases_Bool, false≢true, not-true}
 use Rattle.std.proofs.lemmas.List.Folds.{concat-append, list_all-append}
 use Rattle.its_io.specs.declared.stream.Failed.{Failed}
 use Rattle.its_session.specs.Events.{most_lines}
@@ -11,6 +11,7 @@ use Rattle.its_reader.specs.declared.lines.Next.TheVariants as nexts
 use Rattle.std.proofs.Common.{Ok}
 use Rattle.its_reader.specs.declared.texts.Texts.{Texts}
 use Rattle.its_reader.specs.Lines.{Facing}
+use Rattle.its_reader.specs.TextLines.{lines_in}
 use Rattle.its_reader.specs.Texts.{Ends, OpenedText, ReadsText, ReadyTexts, is_inside, texts_ahead}
 use Rattle.its_verify.specs.Lines.{is_whole}
 use Rattle.its_verify.specs.Sources.{IsTold, bytes_of, texts_of}
@@ -48,10 +49,22 @@ line_told old new left rest r ready t =
       told.told,
     )
 
-pub end_told : (old new : Texts) (left rest : Option (List ℕ)) → ReadsText (Ok nexts.End) old new left rest → ReadyTexts new rest → IsTold left → (texts_of old left ≡ []) × IsTold rest
+pub end_told : (old new : Texts) (left rest : Option (List ℕ)) → ReadsText (Ok nexts.End) old new left rest → ReadyTexts new rest
+    → IsTold left → (texts_of old left ≡ []) × IsTold rest
 end_told old new left rest r ready t =
     let told = told_on left rest r.read t r.consumed in
     (ap (texts_ahead old) (told.bytes ∙ ap (λ (xs : List ℕ). r.read ++ xs) (over new rest ready r.next.0) ∙ append-nil r.read) ∙ r.next.1, told.told)
+
+-- a source that has a line left has not ended
+pub not_over : (r : Texts) (left : Option (List ℕ)) (line : List ℕ) (lines : List (List ℕ)) → ReadyTexts r left → texts_of r left ≡ line
+    ∷ lines → r.ended ≡ false
+unfolding lines_in
+not_over r left line lines ready is =
+    elim (cases_Bool r.ended) [
+      | inl e ↦ absurd (let none : [] ≡ line ∷ lines = sym (ap (λ (xs : List ℕ). lines_in (xs ++ bytes_of left)) (ready.over e).0
+          ∙ ap lines_in (over r left ready e)) ∙ is in cc)
+      | inr e ↦ e
+    ]
 
 -- what was read is the lines that were given, and what is pending
 whole_by : (before : List ℕ) → list_all is_inside before ≡ true → is_whole (before ++ 10 ∷ []) ≡ true
@@ -66,7 +79,8 @@ one_whole text e =
     let here : is_whole text ≡ true = ap is_whole e.is ∙ whole_by e.before e.inside in
     rw here refl
 
-pub went_line : (old new : Texts) (left rest : Option (List ℕ)) → ReadsText (Ok nexts.Line) old new left rest → ReadyTexts new rest → new.number ≡ old.number + 1 → IsTold left
+pub went_line : (old new : Texts) (left rest : Option (List ℕ)) → ReadsText (Ok nexts.Line) old new left rest → ReadyTexts new rest
+    → new.number ≡ old.number + 1 → IsTold left
     → Went (new.text.items ∷ []) old new left rest
 went_line old new left rest r ready number t = record {
   bytes =
@@ -85,7 +99,8 @@ pub still_open : (b c : Bool) → (b ≡ true → c ≡ true) → c ≡ false �
 still_open true c over on = absurd (false≢true (sym on ∙ over refl))
 still_open false c over on = refl
 
-pub went_then : (a b : List (List ℕ)) (old mid new : Texts) (left between rest : Option (List ℕ)) → Went a old mid left between → Went b mid new between rest → Went (a ++ b) old new left rest
+pub went_then : (a b : List (List ℕ)) (old mid new : Texts) (left between rest : Option (List ℕ)) → Went a old mid left between
+    → Went b mid new between rest → Went (a ++ b) old new left rest
 went_then a b old mid new left between rest p q =
     let behind = pending new.buffer ++ bytes_of rest in
     record {
@@ -98,7 +113,8 @@ went_then a b old mid new left between rest p q =
     }
 
 -- the source failed
-pub fell_by : (e : Failed) (old new : Texts) (left rest : Option (List ℕ)) (most : ℕ) → ReadsText (Err e) old new left rest → new.number ≡ old.number + 1 → new.most ≡ most → old.number ≤ most_lines
+pub fell_by : (e : Failed) (old new : Texts) (left rest : Option (List ℕ)) (most : ℕ) → ReadsText (Err e) old new left rest
+    → new.number ≡ old.number + 1 → new.most ≡ most → old.number ≤ most_lines
     → IsTold left → Fell most old left rest
 fell_by e old new left rest most r number same within t = go (texts_ahead old r.read) refl r.next.1
   where

@@ -41,14 +41,16 @@ stars_on old now new i m k t some few so led b n ps =
     ∙ ap (λ (j : ℕ). paced (walk_of new b n) i (replicate j Step ++ ps)) left
 
 -- none at once, and then one or none
-pub stars_none : (old mid new : Judge) (i j m : ℕ) (licensed : Bool) → j ≡ 0 → RunLed true old mid i (replicate j Step) → licensed ≡ false → LedIf licensed mid new i Step
+pub stars_none : (old mid new : Judge) (i j m : ℕ) (licensed : Bool) → j ≡ 0 → RunLed true old mid i (replicate j Step) → licensed ≡ false
+    → LedIf licensed mid new i Step
     → RunLed false old new i (Step ∷ replicate m Step)
 stars_none old mid new i j m false none first is led b n ps =
     ap (λ (k : ℕ). paced (walk_of old b n) i (replicate k Step ++ (all_of m ++ ps))) (sym none) ∙ first b n (all_of m ++ ps)
     ∙ letter_stops mid i Step (replicate m Step ++ ps) b n (led b n)
 stars_none old mid new i j m true none first is led b n ps = absurd (false≢true (sym is))
 
-pub star_one : (old mid new : Judge) (i j : ℕ) (licensed : Bool) → j ≡ 0 → RunLed true old mid i (replicate j Step) → licensed ≡ true → LedIf licensed mid new i Step
+pub star_one : (old mid new : Judge) (i j : ℕ) (licensed : Bool) → j ≡ 0 → RunLed true old mid i (replicate j Step) → licensed ≡ true
+    → LedIf licensed mid new i Step
     → RunLed true old new i (replicate 1 Step)
 star_one old mid new i j true none first is led b n ps =
     ap (λ (k : ℕ). paced (walk_of old b n) i (replicate k Step ++ (Step ∷ ps))) (sym none) ∙ first b n (Step ∷ ps)
@@ -56,11 +58,13 @@ star_one old mid new i j true none first is led b n ps =
 star_one old mid new i j false none first is led b n ps = absurd (false≢true is)
 
 -- a run of them
-pub of_stars : (old new : Judge) (i m : ℕ) (p : Pace) (licensed : Bool) → p ≡ Step → RunLed licensed old new i (Step ∷ replicate m Step) → RunLed licensed old new i (p ∷ replicate m p)
+pub of_stars : (old new : Judge) (i m : ℕ) (p : Pace) (licensed : Bool) → p ≡ Step → RunLed licensed old new i (Step ∷ replicate m Step)
+    → RunLed licensed old new i (p ∷ replicate m p)
 of_stars old new i m p licensed is led = subst (λ (q : Pace). RunLed licensed old new i (q ∷ replicate m q)) (sym is) led
 
 -- letters that are all alike
-pub alike_read : (i k : ℕ) (line : List ℕ) (rs : List Run) → length (paces_in rs) ≡ k → bytes_eq line (text_of_line (Ticks i (paces_in rs))) ≡ true → ticks_in i k line ≡ Some (paces_in rs)
+pub alike_read : (i k : ℕ) (line : List ℕ) (rs : List Run) → length (paces_in rs) ≡ k
+    → bytes_eq line (text_of_line (Ticks i (paces_in rs))) ≡ true → ticks_in i k line ≡ Some (paces_in rs)
 alike_read i k line rs many said = ticks_said i k line (paces_in rs) many said
 
 pub alike_said : (i k : ℕ) (line : List ℕ) (ps : List Pace) (p : Pace) (b : Bool) → length line ≤ most_alike → last_letter line ≡ Some p → ps ≡ replicate k p

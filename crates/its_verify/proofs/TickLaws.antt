@@ -16,7 +16,8 @@ paces_behind : (rs : List Run) (r : Run) → paces_in (rs ++ r ∷ []) ≡ paces
 paces_behind [] r = ap (λ (ps : List Pace). r.pace ∷ ps) (append-nil (replicate r.more r.pace))
 paces_behind (q ∷ rs) r =
     ap (λ (ps : List Pace). q.pace ∷ ps)
-    (ap (λ (ps : List Pace). replicate q.more q.pace ++ ps) (paces_behind rs r) ∙ sym (append_assoc (replicate q.more q.pace) (paces_in rs) (replicate (suc r.more) r.pace)))
+    (ap (λ (ps : List Pace). replicate q.more q.pace ++ ps) (paces_behind rs r)
+    ∙ sym (append_assoc (replicate q.more q.pace) (paces_in rs) (replicate (suc r.more) r.pace)))
 
 pub run_added : (rs : List Run) (p : Pace) (n k : ℕ) → k + 1 ≡ n → paces_in (rs ++ record { pace = p; more = k } ∷ []) ≡ paces_in rs ++ replicate n p
 run_added rs p n k is =
@@ -39,7 +40,8 @@ pub at_letter : (most n : ℕ) (all ps : List Pace) (line : List ℕ) (i d : ℕ
 at_letter most n all ps line i d p below is told =
     let step : paces_from most n (drop i line) ≡ replicate n p ++ paces_from most (counted most n (get_or line i d)) (drop (i + 1) line) =
     byte_at most n line i d below ∙ rw is refl in
-    told ∙ ap (λ (qs : List Pace). ps ++ qs) step ∙ sym (append_assoc ps (replicate n p) (paces_from most (counted most n (get_or line i d)) (drop (i + 1) line)))
+    told ∙ ap (λ (qs : List Pace). ps ++ qs) step ∙ sym (append_assoc ps (replicate n p)
+    (paces_from most (counted most n (get_or line i d)) (drop (i + 1) line)))
 
 pub at_other : (most n : ℕ) (all ps : List Pace) (line : List ℕ) (i d : ℕ) → i < length line → letter_at (get_or line i d) ≡ None
     → all ≡ ps ++ paces_from most n (drop i line) → all ≡ ps ++ paces_from most (counted most n (get_or line i d)) (drop (i + 1) line)
@@ -63,17 +65,20 @@ at_last most n all ps line i past told =
     let none : drop i line ≡ [] = drop_of_length-le line past in
     told ∙ rw none (append-nil ps)
 
-pub last_other : (most n t k : ℕ) (all ps : List Pace) (line : List ℕ) (i : ℕ) → length line ≤ i → all ≡ ps ++ paces_from most n (drop i line) → length ps ≡ t → t ≢ k
+pub last_other : (most n t k : ℕ) (all ps : List Pace) (line : List ℕ) (i : ℕ) → length line ≤ i
+    → all ≡ ps ++ paces_from most n (drop i line) → length ps ≡ t → t ≢ k
     → length all ≢ k
 last_other most n t k all ps line i past told many other = λ e.
     (let long : length all ≡ length ps = ap length (at_last most n all ps line i past told) in other (sym many ∙ sym long ∙ e))
 
 -- the letters of a line
-pub ticks_read : (i k : ℕ) (line : List ℕ) (ps : List Pace) → paces_from k 0 line ≡ ps → length ps ≡ k → bytes_eq line (text_of_line (Ticks i ps)) ≡ true → ticks_in i k line ≡ Some ps
+pub ticks_read : (i k : ℕ) (line : List ℕ) (ps : List Pace) → paces_from k 0 line ≡ ps → length ps ≡ k
+    → bytes_eq line (text_of_line (Ticks i ps)) ≡ true → ticks_in i k line ≡ Some ps
 unfolding ticks_in
 ticks_read i k line ps read many said = rw (read, eq-eqb (length ps) k many, said) refl
 
-pub ticks_other : (i k : ℕ) (line : List ℕ) (ps : List Pace) → paces_from k 0 line ≡ ps → bytes_eq line (text_of_line (Ticks i ps)) ≡ false → ticks_in i k line ≡ None
+pub ticks_other : (i k : ℕ) (line : List ℕ) (ps : List Pace) → paces_from k 0 line ≡ ps → bytes_eq line (text_of_line (Ticks i ps)) ≡ false
+    → ticks_in i k line ≡ None
 unfolding ticks_in
 ticks_other i k line ps read other = rw (read, other, and_right (length ps == k) false refl) refl
 

@@ -7,7 +7,7 @@ use Rattle.its_reader.specs.declared.buffer.Buffer.{Buffer}
 use Rattle.its_reader.specs.declared.lines.Next.TheVariants as nexts
 use Rattle.its_reader.specs.declared.texts.Texts.{Texts}
 use Rattle.its_reader.specs.Lines.{SomeLine}
-use Rattle.its_reader.specs.Bytes.{pending}
+use Rattle.its_reader.specs.Bytes.{pending, Onward}
 use Rattle.its_reader.specs.TextLines.{before_lf, lines_in}
 use Rattle.its_reader.specs.Texts.{ReadsText, ReadyTexts, texts_ahead}
 use Rattle.std.specs.Prelude.{bytes_eq}
@@ -36,8 +36,10 @@ use Rattle.its_verify.specs.declared.transcript_reader.TranscriptReader.{Transcr
 pub number_few : (h : TranscriptReader) (left : Option (List ℕ)) → AtLine h left → h.texts.number ≤ most_lines
 number_few h left at_line = (let c = at_line.count in let f = at_line.few in omega arith)
 
-pub read_line : (old new : TranscriptReader) (left rest : Option (List ℕ)) → ReadsText (Ok nexts.Line) old.texts new.texts left rest → ReadyTexts new.texts rest
-    → new.texts.number ≡ old.texts.number + 1 → new.texts.number ≤ most_lines → new.texts.most ≡ old.texts.most → new.passed ≡ old.passed → new.room ≡ old.room
+pub read_line : (old new : TranscriptReader) (left rest : Option (List ℕ)) → ReadsText (Ok nexts.Line) old.texts new.texts left rest
+    → ReadyTexts new.texts rest
+    → new.texts.number ≡ old.texts.number + 1 → new.texts.number ≤ most_lines → new.texts.most ≡ old.texts.most → new.passed ≡ old.passed
+    → new.room ≡ old.room
     → AtLine old left → ReadsOn (Ok None) old new left rest
 read_line old new left rest r ready number few most passed room at_line = (
   record {
@@ -51,14 +53,16 @@ read_line old new left rest r ready number few most passed room at_line = (
 )
 
 -- the source failed
-pub read_fails : (e : Failed) (old : TranscriptReader) (new : Texts) (left rest : Option (List ℕ)) → ReadsText (Err e) old.texts new left rest → new.number ≡ old.texts.number + 1 → new.most ≡ old.texts.most
+pub read_fails : (e : Failed) (old : TranscriptReader) (new : Texts) (left rest : Option (List ℕ))
+    → ReadsText (Err e) old.texts new left rest → new.number ≡ old.texts.number + 1 → new.most ≡ old.texts.most
     → AtLine old left → IsTold left → Fell most_bytes old.texts left rest
 read_fails e old new left rest r number same at_line t =
     fell_by e old.texts new left rest most_bytes r number (same ∙ at_line.most) (number_few old left at_line) t
 
 -- one that lacks
 pub read_long : (old new : TranscriptReader) (left rest : Option (List ℕ)) (k : ℕ) → ReadsText (Ok nexts.Long) old.texts new.texts left rest
-    → new.texts.most ≡ old.texts.most → new.texts.number ≡ old.texts.number + 1 → k ≡ old.passed + 1 → AtLine old left → ReadsOn (Ok (Some (outcomes.No k))) old new left rest
+    → new.texts.most ≡ old.texts.most → new.texts.number ≡ old.texts.number + 1 → k ≡ old.passed + 1 → AtLine old left
+    → ReadsOn (Ok (Some (outcomes.No k))) old new left rest
 read_long old new left rest k r most number is at_line = λ t.
     (let told = told_on left rest r.read t r.consumed in
     let long = r.next.1 (bytes_of rest) in (
@@ -74,11 +78,15 @@ read_long old new left rest k r most number is at_line = λ t.
       ),
     ))
 
-pub read_end : (old new : TranscriptReader) (left rest : Option (List ℕ)) (k : ℕ) → ReadsText (Ok nexts.End) old.texts new.texts left rest → ReadyTexts new.texts rest
+pub read_end : (old new : TranscriptReader) (left rest : Option (List ℕ)) (k : ℕ) → ReadsText (Ok nexts.End) old.texts new.texts left rest
+    → ReadyTexts new.texts rest
     → k ≡ old.passed + 1 → ReadsOn (Ok (Some (outcomes.No k))) old new left rest
 read_end old new left rest k r ready is = λ t.
-    (let told = told_on left rest r.read t r.consumed in
-    (is, inl (ap (texts_ahead old.texts) (told.bytes ∙ ap (λ (xs : List ℕ). r.read ++ xs) (over new.texts rest ready r.next.0) ∙ append-nil r.read) ∙ r.next.1)))
+    (let told = told_on left rest r.read t r.consumed in (
+      is,
+      inl (ap (texts_ahead old.texts) (told.bytes ∙ ap (λ (xs : List ℕ). r.read ++ xs) (over new.texts rest ready r.next.0)
+          ∙ append-nil r.read) ∙ r.next.1),
+    ))
 
 pub read_beyond : (old new : TranscriptReader) (left rest : Option (List ℕ)) → ReadsText (Ok nexts.Beyond) old.texts new.texts left rest
     → new.texts.number ≡ old.texts.number + 1 → AtLine old left → ReadsOn (Ok (Some outcomes.TooLong)) old new left rest
@@ -93,7 +101,8 @@ read_beyond old new left rest r number at_line = λ t.
 passed_none : (h : TranscriptReader) (left : Option (List ℕ)) (ruling : Ruling) → Passed h h left left ruling ruling
 passed_none h left ruling = record { lines = []; went = went_none h.texts left; passed = omega arith; texts = refl; leads = λ more. refl }
 
-passed_then : (old mid new : TranscriptReader) (left between rest : Option (List ℕ)) (ruling next last : Ruling) → Passed old mid left between ruling next → Passed mid new between rest next last → Passed old new left rest ruling last
+passed_then : (old mid new : TranscriptReader) (left between rest : Option (List ℕ)) (ruling next last : Ruling)
+    → Passed old mid left between ruling next → Passed mid new between rest next last → Passed old new left rest ruling last
 passed_then old mid new left between rest ruling next last p q = record {
   lines = p.lines ++ q.lines;
   went = went_then p.lines q.lines old.texts mid.texts new.texts left between rest p.went q.went;
@@ -153,11 +162,13 @@ led_more : {X : Type 0} (room n : ℕ) (reads : List ℕ → Option X) (next : X
 led_more room n reads next said =
     elim (cases_Bool (leb (n + length {A = List ℕ} []) room)) [
       | inl fit ↦ (let bad : ⊥ = rw fit at said in bad)
-      | inr past ↦ (let bad : IsYes (within room (led reads next n (take (room - n) []))) = rw past at said in within_no room (led reads next n (take (room - n) [])) bad)
+      | inr past ↦ (let bad : IsYes (within room (led reads next n (take (room - n) []))) = rw past at said in within_no room
+          (led reads next n (take (room - n) [])) bad)
     ]
 
 -- the source failed when a line was asked for
-pub fails_here : {X : Type 0} (old : TranscriptReader) (left rest : Option (List ℕ)) (reads : List ℕ → Option X) (next : X → Ruling) → (IsTold left → Fell most_bytes old.texts left rest)
+pub fails_here : {X : Type 0} (old : TranscriptReader) (left rest : Option (List ℕ)) (reads : List ℕ → Option X) (next : X → Ruling)
+    → (IsTold left → Fell most_bytes old.texts left rest)
     → ((x : X) → Forward (next x)) → IsTold left → Failing old left rest (led reads next)
 fails_here old left rest reads next h f t = record {
   at = old;
@@ -170,7 +181,8 @@ fails_here old left rest reads next h f t = record {
 }
 
 -- or after lines that were passed
-fails_then : (old mid : TranscriptReader) (left between rest : Option (List ℕ)) (ruling next : Ruling) → Passed old mid left between ruling next → Failing mid between rest next → Failing old left rest ruling
+fails_then : (old mid : TranscriptReader) (left between rest : Option (List ℕ)) (ruling next : Ruling)
+    → Passed old mid left between ruling next → Failing mid between rest next → Failing old left rest ruling
 fails_then old mid left between rest ruling next p f = record {
   at = f.at;
   mid = f.mid;
@@ -182,7 +194,8 @@ fails_then old mid left between rest ruling next p f = record {
 }
 
 -- what is said after lines that were passed is said of them all
-pub says_then : (r : Result (Option Outcome) Failed) (old mid new : TranscriptReader) (left between rest : Option (List ℕ)) (ruling next last : Ruling) → PassesOn old mid left between ruling next
+pub says_then : (r : Result (Option Outcome) Failed) (old mid new : TranscriptReader) (left between rest : Option (List ℕ))
+    (ruling next last : Ruling) → PassesOn old mid left between ruling next
     → Says r mid new between rest next last → Says r old new left rest ruling last
 says_then (Ok None) old mid new left between rest ruling next last on says = λ t.
     (let here = on t in
@@ -195,7 +208,8 @@ says_then (Err e) old mid new left between rest ruling next last on says = λ fo
     (let here = on t in
     fails_then old mid left between rest ruling next here.1 (says forward here.0))
 
-pub concludes_then : (r : Result Outcome Failed) (old mid : TranscriptReader) (left between rest : Option (List ℕ)) (ruling next : Ruling) → PassesOn old mid left between ruling next
+pub concludes_then : (r : Result Outcome Failed) (old mid : TranscriptReader) (left between rest : Option (List ℕ)) (ruling next : Ruling)
+    → PassesOn old mid left between ruling next
     → Concludes r mid between rest next → Concludes r old left rest ruling
 concludes_then (Ok f) old mid left between rest ruling next on ends = λ t.
     (let here = on t in
@@ -222,17 +236,20 @@ cut_on room n ruling next t ts few h =
     let less : room - n ≡ suc (room - (n + 1)) = omega arith in
     elim (cases_Bool (leb (n + 1 + length ts) room)) [
       | inl fit ↦
-          (let same : leb (n + length (t ∷ ts)) room ≡ true = le-leb (n + length (t ∷ ts)) room (let f = leb-true (n + 1 + length ts) room fit in omega arith) in
+          (let same : leb (n + length (t ∷ ts)) room ≡ true = le-leb (n + length (t ∷ ts)) room
+          (let f = leb-true (n + 1 + length ts) room fit in omega arith) in
           rw (same, fit) (ap Judged (h ts)))
       | inr past ↦
-          (let same : leb (n + length (t ∷ ts)) room ≡ false = lt-leb (n + length (t ∷ ts)) room (let f = leb_past (n + 1 + length ts) room past in omega arith) in
+          (let same : leb (n + length (t ∷ ts)) room ≡ false = lt-leb (n + length (t ∷ ts)) room
+          (let f = leb_past (n + 1 + length ts) room past in omega arith) in
           rw (same, past, less) (ap (within room) (h (take (room - (n + 1)) ts))))
     ]
   where
     leb_past : (a b : ℕ) → leb a b ≡ false → b < a
     leb_past a b e = elim (cases_lt b a) [ inl less ↦ less | inr most ↦ absurd (false≢true (sym e ∙ le-leb a b most)) ]
 
-cut_no : (room n : ℕ) (ruling : Ruling) (t : List ℕ) (ts : List (List ℕ)) → n < room → ((us : List (List ℕ)) → ruling n (t ∷ us) ≡ No (n + 1)) → cut room n ruling (t ∷ ts) ≡ Judged (No (n + 1))
+cut_no : (room n : ℕ) (ruling : Ruling) (t : List ℕ) (ts : List (List ℕ)) → n < room
+    → ((us : List (List ℕ)) → ruling n (t ∷ us) ≡ No (n + 1)) → cut room n ruling (t ∷ ts) ≡ Judged (No (n + 1))
 cut_no room n ruling t ts few h =
     let less : room - n ≡ suc (room - (n + 1)) = omega arith in
     let there : leb (n + 1) room ≡ true = le-leb (n + 1) room (omega arith) in
@@ -247,7 +264,8 @@ cut_end room n ruling few =
     rw fit refl
 
 -- no room is left
-cut_full : (room n : ℕ) (ruling : Ruling) (t : List ℕ) (ts : List (List ℕ)) → n ≤ room → room ≤ n → within room (ruling n []) ≡ TooLong → cut room n ruling (t ∷ ts) ≡ TooLong
+cut_full : (room n : ℕ) (ruling : Ruling) (t : List ℕ) (ts : List (List ℕ)) → n ≤ room → room ≤ n → within room (ruling n []) ≡ TooLong
+    → cut room n ruling (t ∷ ts) ≡ TooLong
 cut_full room n ruling t ts few full h =
     let past : leb (n + length (t ∷ ts)) room ≡ false = lt-leb (n + length (t ∷ ts)) room (omega arith) in
     let none : room - n ≡ 0 = omega arith in
@@ -268,16 +286,21 @@ led_lacks reads next (outcomes.No k) room n texts strict few h =
           (let first = strict long.1.first long.1.holds in
           rw long.1.is (cut_no room n (led reads next) long.1.first long.1.behind long.0 (λ us. rw first refl) ∙ ap (λ (m : ℕ). Judged (No m)) (sym h.0)))
     ]
-led_lacks reads next outcomes.TooLong room n texts strict few h = rw h.1.is (cut_full room n (led reads next) h.1.first h.1.behind few h.0 (no_past room n h.0))
+led_lacks reads next outcomes.TooLong room n texts strict few h =
+    rw h.1.is (cut_full room n (led reads next) h.1.first h.1.behind few h.0 (no_past room n h.0))
 led_lacks reads next _ room n texts strict few h = absurd h
 
-pub lacks_says : {X : Type 0} (reads : List ℕ → Option X) (next : X → Ruling) (last : Ruling) (f : Outcome) (old new : TranscriptReader) (left rest : Option (List ℕ)) → Strict reads → AtLine old left
+pub lacks_says : {X : Type 0} (reads : List ℕ → Option X) (next : X → Ruling) (last : Ruling) (f : Outcome) (old new : TranscriptReader)
+    (left rest : Option (List ℕ)) → Strict reads → AtLine old left
     → ReadsOn (Ok (Some f)) old new left rest → Says (Ok (Some f)) old new left rest (led reads next) last
-lacks_says reads next last f old new left rest strict at_line h = λ t. led_lacks reads next f old.room old.passed (texts_of old.texts left) strict at_line.few (h t)
+lacks_says reads next last f old new left rest strict at_line h =
+    λ t. led_lacks reads next f old.room old.passed (texts_of old.texts left) strict at_line.few (h t)
 
 -- if one was read
-pub read_says : {X : Type 0} (reads : List ℕ → Option X) (next : X → Ruling) (x : X) (old mid new : TranscriptReader) (left rest : Option (List ℕ)) → ReadsOn (Ok None) old mid left rest → Beside old mid
-    → reads mid.texts.text.items ≡ Some x → new.texts ≡ mid.texts → new.room ≡ mid.room → new.passed ≡ mid.passed + 1 → PassesOn old new left rest (led reads next) (next x)
+pub read_says : {X : Type 0} (reads : List ℕ → Option X) (next : X → Ruling) (x : X) (old mid new : TranscriptReader)
+    (left rest : Option (List ℕ)) → ReadsOn (Ok None) old mid left rest → Beside old mid
+    → reads mid.texts.text.items ≡ Some x → new.texts ≡ mid.texts → new.room ≡ mid.room → new.passed ≡ mid.passed + 1
+    → PassesOn old new left rest (led reads next) (next x)
 read_says reads next x old mid new left rest h beside is texts room passed = λ t.
     (let few : old.passed < old.room = (let f = h.0.few in omega (arith, f, beside.passed, beside.room)) in
     let at = h.1 t in (
@@ -294,7 +317,8 @@ read_says reads next x old mid new left rest h beside is texts room passed = λ 
       },
     ))
 
-pub read_no : {X : Type 0} (reads : List ℕ → Option X) (next : X → Ruling) (last : Ruling) (f : Outcome) (old mid new : TranscriptReader) (left rest : Option (List ℕ)) → ReadsOn (Ok None) old mid left rest → Beside old mid
+pub read_no : {X : Type 0} (reads : List ℕ → Option X) (next : X → Ruling) (last : Ruling) (f : Outcome) (old mid new : TranscriptReader)
+    (left rest : Option (List ℕ)) → ReadsOn (Ok None) old mid left rest → Beside old mid
     → reads mid.texts.text.items ≡ None → f ≡ outcomes.No (mid.passed + 1) → Says (Ok (Some f)) old new left rest (led reads next) last
 read_no reads next last f old mid new left rest h beside is no_line = λ t.
     (let few : old.passed < old.room = (let g = h.0.few in omega (arith, g, beside.passed, beside.room)) in
@@ -332,11 +356,13 @@ strict_same line short text long =
       | inr other ↦ rw other refl
     ]
 
-pub same_lacks : (line : List ℕ) (f : Outcome) (old new : TranscriptReader) (left rest : Option (List ℕ)) → length line ≤ most_bytes → AtLine old left → ReadsOn (Ok (Some f)) old new left rest
+pub same_lacks : (line : List ℕ) (f : Outcome) (old new : TranscriptReader) (left rest : Option (List ℕ)) → length line ≤ most_bytes
+    → AtLine old left → ReadsOn (Ok (Some f)) old new left rest
     → (next : Ruling) → Says (Ok (Some f)) old new left rest (led (same_as line) (λ t. next)) next
 same_lacks line f old new left rest short at_line h next = lacks_says (same_as line) (λ t. next) next f old new left rest (strict_same line short) at_line h
 
-pub same_passed : (line : List ℕ) (o : Option Outcome) (b : Bool) (old mid new : TranscriptReader) (left rest : Option (List ℕ)) → ReadsOn (Ok None) old mid left rest → Beside old mid
+pub same_passed : (line : List ℕ) (o : Option Outcome) (b : Bool) (old mid new : TranscriptReader) (left rest : Option (List ℕ))
+    → ReadsOn (Ok None) old mid left rest → Beside old mid
     → b ≡ bytes_eq mid.texts.text.items line → PassedIf o b mid new → (next : Ruling) → Says (Ok o) old new left rest (led (same_as line) (λ t. next)) next
 same_passed line None b old mid new left rest h beside test r next =
     read_says (same_as line) (λ t. next) mid.texts.text.items old mid new left rest h beside (rw (sym test ∙ r.0) refl)
@@ -344,9 +370,15 @@ same_passed line None b old mid new left rest h beside test r next =
 same_passed line (Some f) b old mid new left rest h beside test r next =
     read_no (same_as line) (λ t. next) next f old mid new left rest h beside (rw (sym test ∙ r.0) refl) r.1
 
-pub passed_stays : (o : Option Outcome) (b : Bool) (mid new : TranscriptReader) (rest : Option (List ℕ)) → Reads mid rest → PassedIf o b mid new → Stays (Ok o) new rest
+pub passed_stays : (o : Option Outcome) (b : Bool) (mid new : TranscriptReader) (rest : Option (List ℕ)) → Reads mid rest
+    → PassedIf o b mid new → Stays (Ok o) new rest
 passed_stays None b mid new rest h r = at_line_on mid new rest h r.1
 passed_stays (Some f) b mid new rest h r = tt
+
+pub passed_onward : (o : Option Outcome) (b readable : Bool) (mid new : TranscriptReader) → PassedIf o b mid new
+    → Onward mid.texts.ended readable → o ≡ None → Onward new.texts.ended readable
+passed_onward None b readable mid new r before is = subst (λ (h : TranscriptReader). Onward h.texts.ended readable) (sym r.1) before
+passed_onward (Some f) b readable mid new r before is = cc
 
 -- a line of PEEK
 whole_before : (bs : List ℕ) → is_whole bs ≡ true → length (before_lf bs) + 1 ≡ length bs
@@ -377,7 +409,8 @@ pub peek_lacks : (f : Outcome) (old new : TranscriptReader) (left rest : Option 
     → (next : Ruling) → Says (Ok (Some f)) old new left rest (led peeking (λ t. next)) next
 peek_lacks f old new left rest at_line h next = lacks_says peeking (λ t. next) next f old new left rest strict_peek at_line h
 
-pub peek_passed : (o : Option Outcome) (b : Bool) (old mid new : TranscriptReader) (left rest : Option (List ℕ)) → ReadsOn (Ok None) old mid left rest → Beside old mid
+pub peek_passed : (o : Option Outcome) (b : Bool) (old mid new : TranscriptReader) (left rest : Option (List ℕ))
+    → ReadsOn (Ok None) old mid left rest → Beside old mid
     → b ≡ is_peek mid.texts.text.items → PassedIf o b mid new → (next : Ruling) → Says (Ok o) old new left rest (led peeking (λ t. next)) next
 peek_passed None b old mid new left rest h beside test r next =
     read_says peeking (λ t. next) mid.texts.text.items old mid new left rest h beside (rw (sym test ∙ r.0) refl)
@@ -403,24 +436,28 @@ strict_ticks v i k slot few text long = go (ticks_in i k text) refl
 same_lines : (h : TranscriptReader) (was : Texts) (left : Option (List ℕ)) → was.buffer ≡ h.texts.buffer → texts_of h.texts left ≡ texts_of was left
 same_lines h was left same = ap (λ (b : Buffer). lines_in (pending b ++ bytes_of left)) (sym same)
 
-pub finish_end : (h : TranscriptReader) (was new : Texts) (left rest : Option (List ℕ)) → was.buffer ≡ h.texts.buffer → ReadsText (Ok nexts.End) was new left rest → ReadyTexts new rest → AtLine h left
+pub finish_end : (h : TranscriptReader) (was new : Texts) (left rest : Option (List ℕ)) → was.buffer ≡ h.texts.buffer
+    → ReadsText (Ok nexts.End) was new left rest → ReadyTexts new rest → AtLine h left
     → Concludes (Ok (outcomes.Yes h.passed)) h left rest at_end
 finish_end h was new left rest same r ready at_line = λ t.
     (let none : texts_of h.texts left ≡ [] = same_lines h was left same ∙ (end_told was new left rest r ready t).0 in
     rw none (cut_end h.room h.passed at_end at_line.few))
 
-more_lines : (h : TranscriptReader) (left : Option (List ℕ)) (k : ℕ) → k ≡ h.passed + 1 → h.passed < h.room → SomeLine (texts_of h.texts left) (λ line. Unit {0})
+more_lines : (h : TranscriptReader) (left : Option (List ℕ)) (k : ℕ) → k ≡ h.passed + 1 → h.passed < h.room
+    → SomeLine (texts_of h.texts left) (λ line. Unit {0})
     → cut h.room h.passed at_end (texts_of h.texts left) ≡ answer_of (outcomes.No k)
 more_lines h left k is few some = rw some.is (cut_no h.room h.passed at_end some.first some.behind few (λ us. refl) ∙ ap (λ (m : ℕ). Judged (No m)) (sym is))
 
-pub finish_line : (h : TranscriptReader) (was new : Texts) (left rest : Option (List ℕ)) (k : ℕ) → was.buffer ≡ h.texts.buffer → ReadsText (Ok nexts.Line) was new left rest → ReadyTexts new rest
+pub finish_line : (h : TranscriptReader) (was new : Texts) (left rest : Option (List ℕ)) (k : ℕ) → was.buffer ≡ h.texts.buffer
+    → ReadsText (Ok nexts.Line) was new left rest → ReadyTexts new rest
     → new.number ≡ h.texts.number + 1 → new.number ≤ most_lines → k ≡ h.passed + 1 → AtLine h left → Concludes (Ok (outcomes.No k)) h left rest at_end
 finish_line h was new left rest k same r ready number few is at_line = λ t.
     (let at = same_lines h was left same ∙ (line_told was new left rest r ready t).0 in
     let c = at_line.count in
     more_lines h left k is (omega (arith, c, number, few)) (record { first = new.text.items; behind = texts_of new rest; is = at; holds = tt }))
 
-pub finish_long : (h : TranscriptReader) (was new : Texts) (left rest : Option (List ℕ)) (k : ℕ) → was.buffer ≡ h.texts.buffer → ReadsText (Ok nexts.Long) was new left rest
+pub finish_long : (h : TranscriptReader) (was new : Texts) (left rest : Option (List ℕ)) (k : ℕ) → was.buffer ≡ h.texts.buffer
+    → ReadsText (Ok nexts.Long) was new left rest
     → new.number ≡ h.texts.number + 1 → k ≡ h.passed + 1 → AtLine h left → Concludes (Ok (outcomes.No k)) h left rest at_end
 finish_long h was new left rest k same r number is at_line = λ t.
     (let told = told_on left rest r.read t r.consumed in
@@ -430,7 +467,8 @@ finish_long h was new left rest k same r number is at_line = λ t.
     let at = same_lines h was left same ∙ ap (texts_ahead was) told.bytes ∙ some.is in
     more_lines h left k is (omega (arith, c, number, few)) (record { first = some.first; behind = some.behind; is = at; holds = tt }))
 
-pub finish_beyond : (h : TranscriptReader) (was new : Texts) (left rest : Option (List ℕ)) → was.buffer ≡ h.texts.buffer → ReadsText (Ok nexts.Beyond) was new left rest
+pub finish_beyond : (h : TranscriptReader) (was new : Texts) (left rest : Option (List ℕ)) → was.buffer ≡ h.texts.buffer
+    → ReadsText (Ok nexts.Beyond) was new left rest
     → new.number ≡ h.texts.number + 1 → AtLine h left → Concludes (Ok outcomes.TooLong) h left rest at_end
 finish_beyond h was new left rest same r number at_line = λ t.
     (let told = told_on left rest r.read t r.consumed in
@@ -441,7 +479,8 @@ finish_beyond h was new left rest same r number at_line = λ t.
     rw at (cut_full h.room h.passed at_end some.first some.behind at_line.few (omega (arith, past, c, number)) refl))
 
 -- if no byte may come before an LF, none was read
-pub finish_fails : (e : Failed) (h : TranscriptReader) (was new : Texts) (left rest : Option (List ℕ)) → was.buffer ≡ h.texts.buffer → was.number ≡ h.texts.number → was.ended ≡ h.texts.ended → was.most ≡ 0
+pub finish_fails : (e : Failed) (h : TranscriptReader) (was new : Texts) (left rest : Option (List ℕ)) → was.buffer ≡ h.texts.buffer
+    → was.number ≡ h.texts.number → was.ended ≡ h.texts.ended → was.most ≡ 0
     → ReadsText (Err e) was new left rest → new.number ≡ was.number + 1 → new.most ≡ was.most → AtLine h left → Concludes (Err e) h left rest at_end
 finish_fails e h was new left rest buffer count ended none r number most at_line t =
     let few = number_few h left at_line in
@@ -467,13 +506,17 @@ finish_fails e h was new left rest buffer count ended none r number most at_line
 
 -- a `?` line, and then the end
 pub refused_ends : (n : ℕ) (r : Reason) (result : Result Outcome Failed) (old mid : TranscriptReader) (left between rest : Option (List ℕ))
-    → ((next : Ruling) → Says (Ok None) old mid left between (expects (Refused n r ∷ []) next) next) → Concludes result mid between rest at_end → Concludes result old left rest (expects (Refused n r ∷ []) at_end)
-refused_ends n r result old mid left between rest says ends = concludes_then result old mid left between rest (expects (Refused n r ∷ []) at_end) at_end (says at_end) ends
+    → ((next : Ruling) → Says (Ok None) old mid left between (expects (Refused n r ∷ []) next) next)
+    → Concludes result mid between rest at_end → Concludes result old left rest (expects (Refused n r ∷ []) at_end)
+refused_ends n r result old mid left between rest says ends =
+    concludes_then result old mid left between rest (expects (Refused n r ∷ []) at_end) at_end (says at_end) ends
 
 pub refused_fails : (n : ℕ) (r : Reason) (e : Failed) (old mid : TranscriptReader) (left rest : Option (List ℕ))
-    → ((next : Ruling) → Says (Err e) old mid left rest (expects (Refused n r ∷ []) next) next) → Concludes (Err e) old left rest (expects (Refused n r ∷ []) at_end)
+    → ((next : Ruling) → Says (Err e) old mid left rest (expects (Refused n r ∷ []) next) next)
+    → Concludes (Err e) old left rest (expects (Refused n r ∷ []) at_end)
 refused_fails n r e old mid left rest says = says at_end end_forward
 
 pub refused_lacks : (n : ℕ) (r : Reason) (f : Outcome) (old mid : TranscriptReader) (left rest : Option (List ℕ))
-    → ((next : Ruling) → Says (Ok (Some f)) old mid left rest (expects (Refused n r ∷ []) next) next) → Concludes (Ok f) old left rest (expects (Refused n r ∷ []) at_end)
+    → ((next : Ruling) → Says (Ok (Some f)) old mid left rest (expects (Refused n r ∷ []) next) next)
+    → Concludes (Ok f) old left rest (expects (Refused n r ∷ []) at_end)
 refused_lacks n r f old mid left rest says = says at_end

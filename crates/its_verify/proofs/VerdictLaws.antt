@@ -1,4 +1,5 @@
--- The judge says Yes exactly if the bytes are accepted, and else gives the first line that is not licensed.
+-- The judge says Yes exactly if the bytes are accepted, and else gives the first line that is not
+-- licensed.
 use Rattle.std.proofs.Common.{◌≡◌, ◌≤◌, ℕ, suc, List, ◌++◌, length, take, drop, refl, sym, ap, subst, ◌∙◌, inl, inr, arith, append_assoc, ◌<◌, take-append-drop, take-take}
 use Rattle.std.specs.List.{AllByRecursion}
 use Rattle.its_records.specs.Item.{Item}
@@ -6,7 +7,7 @@ use Rattle.its_print.specs.Printing.{Line, text}
 use Rattle.its_print.specs.Sizes.{IsPrinted}
 use Rattle.std.proofs.lemmas.Bool.{cases_order}
 use Rattle.its_plain.specs.Transcript.{Fate, Transcript, at_start}
-use Rattle.its_plain.specs.Turns.{highest}
+use Rattle.its_plain.specs.Transcript.Turns.{highest}
 use Rattle.its_plain.proofs.RunLaws.{run_shows, shows_run}
 use Rattle.its_reader.specs.TextLines.{lines_in}
 use Rattle.its_verify.specs.Accepted.{Accepted, AcceptedLines, BeginsTranscript, IsFirst}
@@ -45,7 +46,8 @@ yes_lines es texts k is =
     let d = subst (Decided (From at_start highest es) 0 texts) is (decided es texts) in
     (omega (arith, d.0), from_lines es texts d.1)
 
-by_decided : (es : List Item) (texts : List (List ℕ)) (v : Verdict) → Decided (From at_start highest es) 0 texts v → From at_start highest es texts → v ≡ Yes (length texts)
+by_decided : (es : List Item) (texts : List (List ℕ)) (v : Verdict) → Decided (From at_start highest es) 0 texts v
+    → From at_start highest es texts → v ≡ Yes (length texts)
 by_decided es texts (Yes k) d h = ap Yes (omega (arith, d.0))
 by_decided es texts (No k) d h = absurd (d.1 h)
 
@@ -78,8 +80,8 @@ no_lines es texts k is =
     let d = subst (Decided (From at_start highest es) 0 texts) is (decided es texts) in
     first es texts k d.0
 
--- Yes exactly if the bytes are a transcript of the events, with their number of lines; No with the first line that is
--- not licensed
+-- Yes exactly if the bytes are a transcript of the events, with their number of lines; No with the
+-- first line that is not licensed
 pub yes_accepted : (es : List Item) (bytes : List ℕ) (k : ℕ) → verdict es bytes ≡ Yes k → Accepted es bytes
 unfolding verdict
 yes_accepted es bytes k is = accepted_lines es bytes (yes_lines es (lines_in bytes) k is).1
@@ -93,13 +95,16 @@ unfolding verdict
 no_first es bytes n is = no_lines es (lines_in bytes) n is
 
 -- a transcript that is printed is accepted
-pub written_accepted : (es : List Item) (lines : List Line) (fate : Fate) → AllByRecursion IsPrinted lines → Transcript es lines fate → Accepted es (text lines)
+pub written_accepted : (es : List Item) (lines : List Line) (fate : Fate) → AllByRecursion IsPrinted lines → Transcript es lines fate
+    → Accepted es (text lines)
 written_accepted es lines fate printed h = record { lines = lines; fate = fate; transcript = h; text = tells_text lines printed }
 
--- there is one first line that is not licensed: the judge says No with it exactly if it is this line
+-- there is one first line that is not licensed: the judge says No with it exactly if it is this
+-- line
 less_begins : (es : List Item) (texts : List (List ℕ)) (k m : ℕ) → k ≤ m → BeginsTranscript es (take m texts) → BeginsTranscript es (take k texts)
 less_begins es texts k m less b =
-    let two : take k texts ++ drop k (take m texts) ≡ take m texts = ap (λ (t : List (List ℕ)). t ++ drop k (take m texts)) (sym (take-take k m texts less)) ∙ take-append-drop k (take m texts) in
+    let two : take k texts ++ drop k (take m texts) ≡ take m texts =
+    ap (λ (t : List (List ℕ)). t ++ drop k (take m texts)) (sym (take-take k m texts less)) ∙ take-append-drop k (take m texts) in
     record {
       more = drop k (take m texts) ++ b.more;
       accepted = rw (← append_assoc (take k texts) (drop k (take m texts)) b.more, two) b.accepted;

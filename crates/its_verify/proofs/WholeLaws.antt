@@ -3,12 +3,13 @@ use Rattle.std.proofs.Common.{◌≡◌, ◌+◌, ◌-◌, ℕ, List, [], length
 use Rattle.its_session.specs.Events.{events_of, most_lines}
 use Rattle.its_reader.specs.TextLines.{lines_in}
 use Rattle.its_plain.specs.Transcript.{at_start}
-use Rattle.its_plain.specs.Turns.{highest}
+use Rattle.its_plain.specs.Transcript.Turns.{highest}
 use Rattle.its_verify.specs.TranscriptReader.{cut}
 use Rattle.its_verify.specs.Rulings.{Ruling, judged}
 use Rattle.its_verify.specs.Verified.{Both, LongLine, NoEnd, TooMany, Judged, Long, Cut, TooLong, bounded, within, by_parts, parts_from, verified}
 
-cut_first : (room : ℕ) (ruling : Ruling) (texts : List (List ℕ)) → (if leb (length texts) room then Judged (ruling 0 texts) else within room (ruling 0 (take room texts))) ≡ cut room 0 ruling texts
+cut_first : (room : ℕ) (ruling : Ruling) (texts : List (List ℕ))
+    → (if leb (length texts) room then Judged (ruling 0 texts) else within room (ruling 0 (take room texts))) ≡ cut room 0 ruling texts
 cut_first room ruling texts =
     let all : 0 + length texts ≡ length texts = omega arith in
     let most : room - 0 ≡ room = omega arith in

@@ -1,4 +1,5 @@
--- Which bytes are a transcript of a session of some events, and which line is the first that is not licensed.
+-- Which bytes are a transcript of a session of some events, and which line is the first that is not
+-- licensed.
 -- A promise rests on this.
 use Rattle.std.specs.Prelude.{◌≡◌, ◌≤◌, ℕ, ◌+◌, ◌⊎◌, List, ◌++◌, length, take}
 use Rattle.its_records.specs.Item.{Item}
@@ -6,8 +7,8 @@ use Rattle.its_print.specs.Printing.{Line}
 use Rattle.its_plain.specs.Transcript.{Fate, Transcript}
 use Rattle.its_verify.specs.Lines.{Said, Tells}
 
--- there are lines that are a transcript of the events, and the bytes are their text; a `P` line may have any text that
--- may occur there
+-- there are lines that are a transcript of the events, and the bytes are their text; a `P` line may
+-- have any text that may occur there
 pub record Accepted (es : List Item) (bytes : List ℕ) : Type 0 where
   pub lines : List Line
   pub fate : Fate
@@ -26,8 +27,9 @@ pub record BeginsTranscript (es : List Item) (texts : List (List ℕ)) : Type 0 
   pub more : List (List ℕ)
   pub accepted : AcceptedLines es (texts ++ more)
 
--- line n is the first that is not licensed, or the first that is missing: the lines before it begin a transcript; they
--- with it do not, or it is one more than there are, and the transcript is not at its end
+-- line n is the first that is not licensed, or the first that is missing: the lines before it begin
+-- a transcript; they with it do not, or it is one more than there are, and the transcript is not at
+-- its end
 pub record IsFirst (es : List Item) (texts : List (List ℕ)) (n : ℕ) : Type 0 where
   pub before : ℕ
   pub next : n ≡ before + 1

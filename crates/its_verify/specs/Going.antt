@@ -13,7 +13,7 @@ use Rattle.its_reader.specs.declared.items.Found.TheVariants.{Line, Bad, Beyond,
 use Rattle.its_reader.specs.declared.items.Items.{Items}
 use Rattle.its_reader.specs.Items.{is_last}
 use Rattle.its_plain.specs.Operator.{Block}
-use Rattle.its_plain.specs.OperatorLines.{lined}
+use Rattle.its_plain.specs.Operator.Lines.{lined}
 use Rattle.its_plain.specs.Transcript.{Walk}
 use Rattle.its_direct.specs.Plain.{machine_of}
 use Rattle.its_direct.specs.Events.{MayStand, Speaks}
@@ -105,7 +105,8 @@ pub record GoneSo (old now : Verifier) (ruling : Ruling) (r : Items) (session le
   pub goes :
       PassesOn old.reader now.reader left rest ruling (judge_from now block (r.lines.number + 1) (items_of r session))
 
--- the items that are left, if this was found: it is the first one, and others come after it if it is not the last
+-- the items that are left, if this was found: it is the first one, and others come after it if it
+-- is not the last
 pub record Split (f : Found) (before : List Item) (after : List Item) : Type 0 where
   pub behind : List Item
   pub is : before ≡ items_by f behind

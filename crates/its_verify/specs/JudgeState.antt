@@ -3,7 +3,7 @@
 use Rattle.std.specs.Prelude.{◌≡◌, ◌&&◌, ℕ, Bool, true, false, Some, None, List, ◌++◌, nat_lt, slice_index_or}
 use Rattle.its_records.specs.declared.calls.Pace.{Pace}
 use Rattle.its_records.specs.declared.calls.Pace.TheVariants.{Wait, Off}
-use Rattle.its_plain.specs.Licence.{Dots, dots_after}
+use Rattle.its_plain.specs.Transcript.Licence.{Dots, dots_after}
 use Rattle.its_plain.specs.Operator.{Block}
 use Rattle.its_plain.specs.Transcript.{Walk}
 use Rattle.its_direct.specs.Plain.{machine_of, is_touched}
@@ -37,7 +37,8 @@ Forgets p old new = (k : ℕ) → dots_of new k ≡ forgotten (is_touched p k) (
 abbrev pub ForgetsBelow : ℕ → Plain → List ℕ → List ℕ → Type 0
 ForgetsBelow n p old new = (k : ℕ) → dots_of new k ≡ forgotten (nat_lt k n && is_touched p k) (dots_of old k)
 
--- a letter of slot i led the judge on: it is licensed, and these are the machine and the counts after it
+-- a letter of slot i led the judge on: it is licensed, and these are the machine and the counts
+-- after it
 pub record Led (old new : Judge) (i : ℕ) (p : Pace) : Type 0 where
   pub leads : (b : Block) (n : ℕ) → led_to (walk_of old b n) i p ≡ Some (machine_of new.plain)
   pub dots : dots_of new.dots ≡ dots_after (machine_of old.plain) (dots_of old.dots) i p
@@ -49,7 +50,8 @@ Again Wait j i = Led j j i Wait
 Again Off j i = Led j j i Off
 Again p j i = Unit {0}
 
--- of so many letters that are like the one before them, those that are taken at once: all, if they change nothing
+-- of so many letters that are like the one before them, those that are taken at once: all, if they
+-- change nothing
 abbrev pub at_once : Pace → ℕ → ℕ
 at_once Wait n = n
 at_once Off n = n

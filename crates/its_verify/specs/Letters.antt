@@ -5,11 +5,11 @@ use Rattle.its_word.specs.Text.{is_code}
 use Rattle.its_records.specs.declared.calls.Pace.{Pace}
 use Rattle.its_records.specs.declared.calls.Pace.TheVariants.{Step, Work, Wait, Off}
 use Rattle.its_print.specs.Printing.{Ticks, letter_of}
-use Rattle.its_plain.specs.CallStep.{step}
-use Rattle.its_plain.specs.Licence.{most_dots}
+use Rattle.its_plain.specs.Call.Step.{step}
+use Rattle.its_plain.specs.Transcript.Licence.{most_dots}
 use Rattle.its_plain.specs.Machine.{Machine}
 use Rattle.its_plain.specs.Transcript.{Walk, after_letter}
-use Rattle.its_plain.specs.Turns.{is_running}
+use Rattle.its_plain.specs.Transcript.Turns.{is_running}
 use Rattle.its_verify.specs.Lines.{says}
 
 -- the letter that a byte is, if it is one
@@ -21,7 +21,8 @@ letter_at c =
     else (if c == letter_of Off then Some Off
     else None)))
 
--- the number before a byte with the digit that the byte is, held below a bound; no number goes on after any other byte
+-- the number before a byte with the digit that the byte is, held below a bound; no number goes on
+-- after any other byte
 abbrev pub counted : ℕ → ℕ → ℕ → ℕ
 counted most n c = if is_code 48 55 c then min (n * 8 + (c - 48)) most else 0
 

@@ -1,4 +1,5 @@
--- The lines of a transcript's bytes, and which line of a transcript each of them says (docs/SESSION.md).
+-- The lines of a transcript's bytes, and which line of a transcript each of them says
+-- (docs/SESSION.md).
 -- A promise rests on this.
 use Rattle.std.specs.Prelude.{if◌then◌else◌, ◌≡◌, ◌==◌, ℕ, ◌+◌, Bool, true, false, ◌&&◌, List, [], ◌∷◌, length, nat_le, bytes_eq, codes}
 use Rattle.std.specs.List.{concat}

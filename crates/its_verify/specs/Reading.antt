@@ -32,6 +32,7 @@ abbrev pub says_alike : ℕ → ℕ → List ℕ → Option Pace → Bool
 says_alike i k line (Some p) = bytes_eq line (text_of_line (Ticks i (replicate k p)))
 says_alike i k line None = false
 
--- a line of at most so many bytes is the `T` line of slot i with k letters, all of them like its last one
+-- a line of at most so many bytes is the `T` line of slot i with k letters, all of them like its
+-- last one
 abbrev pub is_alike : ℕ → ℕ → List ℕ → Bool
 is_alike i k line = nat_le (length line) most_alike && says_alike i k line (last_letter line)

@@ -1,13 +1,14 @@
--- The judge: it follows the events and the lines together, and gives the first line that is not licensed. That it accepts exactly what
--- is a transcript by the rules of `Transcript`, and else gives the first line that is none of one, are laws (proofs/VerdictLaws).
+-- The judge: it follows the events and the lines together, and gives the first line that is not
+-- licensed. That it accepts exactly what is a transcript by the rules of `Transcript`, and else
+-- gives the first line that is none of one, are laws (proofs/VerdictLaws).
 -- A promise rests on this.
 use Rattle.std.specs.Prelude.{ℕ, zero, suc, ◌+◌, Option, Some, None, List, [], ◌∷◌}
 use Rattle.its_records.specs.Item.{Item, Read, Unread, Beyond}
 use Rattle.its_print.specs.Printing.{Line, Refused}
-use Rattle.its_plain.specs.OperatorLines.{Lined, Done, Peeks, lined}
+use Rattle.its_plain.specs.Operator.Lines.{Lined, Done, Peeks, lined}
 use Rattle.its_plain.specs.Operator.{Refuses, Does, Ticks, Quits}
 use Rattle.its_plain.specs.Transcript.{Walk, at_start, walk_after, next_line}
-use Rattle.its_plain.specs.Turns.{turn_after, highest, turns_asked, ticks_asked}
+use Rattle.its_plain.specs.Transcript.Turns.{turn_after, highest, turns_asked, ticks_asked}
 use Rattle.its_reader.specs.TextLines.{lines_in}
 use Rattle.its_verify.specs.Lines.{is_peek, says}
 use Rattle.its_verify.specs.Letters.{if_so, ticked}
@@ -62,7 +63,8 @@ abbrev pub turned_by : ℕ → Walk → Option ℕ → (Walk → ℕ → Ruling)
 turned_by q v (Some s) more done = led (ticked v s q) (λ w. more w s)
 turned_by q v None more done = done
 
--- up to n turns of q ticks, the first of them after a turn of the last slot, and how it goes on after them
+-- up to n turns of q ticks, the first of them after a turn of the last slot, and how it goes on
+-- after them
 abbrev pub turned : ℕ → ℕ → Walk → ℕ → (Walk → ℕ → Ruling) → Ruling
 turned zero q v last next = next v last
 turned (suc n) q v last next = turned_by q v (turn_after v.machine last) (λ w s. turned n q w s next) (next v last)

@@ -23,7 +23,8 @@ answer_of (outcomes.Long n) = Long n
 answer_of (outcomes.Cut n) = Cut n
 answer_of outcomes.TooLong = TooLong
 
--- what a judge says of the lines that are left after n that are licensed, if there is room for so many in all
+-- what a judge says of the lines that are left after n that are licensed, if there is room for so
+-- many in all
 abbrev pub cut : ℕ → ℕ → Ruling → List (List ℕ) → Answer
 cut room n ruling texts =
     if nat_le (n + length texts) room then Judged (ruling n texts)
@@ -58,13 +59,15 @@ pub record Beside (old new : TranscriptReader) : Type 0 where
   pub passed : new.passed ≡ old.passed
   pub room : new.room ≡ old.room
 
--- why no line is read if one is wanted: there is none, the next is too long, or there is no room for it
+-- why no line is read if one is wanted: there is none, the next is too long, or there is no room
+-- for it
 abbrev pub Lacks : Outcome → ℕ → ℕ → List (List ℕ) → Type 0
 Lacks (outcomes.No k) room n texts = (k ≡ n + 1) × ((texts ≡ []) ⊎ ((n < room) × SomeLine texts (λ line. most_bytes < length (before_lf line))))
 Lacks outcomes.TooLong room n texts = (room ≤ n) × SomeLine texts (λ line. Unit {0})
 Lacks _ room n texts = ⊥
 
--- some lines were read, and all are passed: what a judge says of them and any others is what the next says of the others
+-- some lines were read, and all are passed: what a judge says of them and any others is what the
+-- next says of the others
 pub record Passed (old new : TranscriptReader) (left rest : Option (List ℕ)) (ruling next : Ruling) : Type 0 where
   pub lines : List (List ℕ)
   pub went : Went lines old.texts new.texts left rest
@@ -87,8 +90,8 @@ SaidLater n (Cut k) = ⊥
 pub record Forward (ruling : Ruling) : Type 0 where
   pub later : (n : ℕ) (texts : List (List ℕ)) → Later n (ruling n texts)
 
--- the source failed after lines that are passed: the answer is about none of these lines. If they are all that the
--- session has, not a byte more was read
+-- the source failed after lines that are passed: the answer is about none of these lines. If they
+-- are all that the session has, not a byte more was read
 pub record Failing (old : TranscriptReader) (left rest : Option (List ℕ)) (ruling : Ruling) : Type 0 where
   pub at : TranscriptReader
   pub mid : Option (List ℕ)

@@ -15,8 +15,8 @@ count_in (LongLine n) = 0
 count_in (NoEnd n) = 0
 count_in TooMany = 0
 
--- the line of an input that an answer is about: the one that is not licensed or is too long, the first one past the
--- most, or the one that would be next at the end of the input
+-- the line of an input that an answer is about: the one that is not licensed or is too long, the
+-- first one past the most, or the one that would be next at the end of the input
 abbrev pub decisive : ℕ → Answer → ℕ
 decisive count (Judged (Yes n)) = count + (n + 1)
 decisive count (Judged (No n)) = count + n
@@ -29,9 +29,10 @@ abbrev pub most_behind : Bool → ℕ
 most_behind false = most_session_bytes
 most_behind true = most_bytes
 
--- of an input of these bytes, those that were read are some whole lines, and perhaps bytes of a line that had begun. The
--- line that the answer is about is none of the whole ones. The line that had begun is not too long, and not past the
--- most. If the whole lines are a session and all of its transcript, no line had begun: one byte more decides
+-- of an input of these bytes, those that were read are some whole lines, and perhaps bytes of a
+-- line that had begun. The line that the answer is about is none of the whole ones. The line that
+-- had begun is not too long, and not past the most. If the whole lines are a session and all of its
+-- transcript, no line had begun: one byte more decides
 pub record Undecided (bytes read : List ℕ) : Type 0 where
   pub lines : List (List ℕ)
   pub begun : List ℕ

@@ -1,5 +1,5 @@
--- What the judge of a session and a transcript in one input says. The session is all up to and with the first line
--- whose only word is END, and the transcript is the rest.
+-- What the judge of a session and a transcript in one input says. The session is all up to and with
+-- the first line whose only word is END, and the transcript is the rest.
 -- A promise rests on this.
 use Rattle.std.specs.Prelude.{if◌then◌else◌, ℕ, ◌+◌, ◌-◌, Bool, false, List, [], ◌∷◌, ◌++◌, length, take, nat_le, nat_lt, bytes_eq, codes}
 use Rattle.its_records.specs.Item.{Item}
@@ -8,7 +8,7 @@ use Rattle.its_records.specs.declared.session.Reason.TheVariants as reasons
 use Rattle.its_print.specs.Printing.{Refused, text_of_line}
 use Rattle.its_session.specs.Events.{events_of, most_lines}
 use Rattle.its_plain.specs.Transcript.{at_start}
-use Rattle.its_plain.specs.Turns.{highest}
+use Rattle.its_plain.specs.Transcript.Turns.{highest}
 use Rattle.its_reader.specs.TextLines.{before_lf, lines_in}
 use Rattle.its_verify.specs.Rulings.{Verdict, Yes, No, judged}
 
@@ -57,7 +57,8 @@ parts_from n session (line ∷ lines) =
     else (if is_end_line line then Both (session ++ line) n lines
     else parts_from (n + 1) (session ++ line) lines))
 
--- a verdict on the first lines of a transcript that has more: it counts only if it names one of them
+-- a verdict on the first lines of a transcript that has more: it counts only if it names one of
+-- them
 abbrev pub within : ℕ → Verdict → Answer
 within room (Yes n) = TooLong
 within room (No n) = if nat_le n room then Judged (No n) else TooLong

@@ -1,5 +1,5 @@
--- The bytes that a reader took from a source whose bytes are known: whole lines, and perhaps bytes of a line that had
--- begun.
+-- The bytes that a reader took from a source whose bytes are known: whole lines, and perhaps bytes
+-- of a line that had begun.
 -- No promise rests on this.
 use Rattle.std.specs.Prelude.{◌≡◌, ◌≤◌, ◌<◌, ℕ, ◌+◌, true, false, Option, List, ◌++◌, length}
 use Rattle.std.specs.List.{concat, list_all}

@@ -1,5 +1,5 @@
-//! Letters of a slot that are led together: runs of `*`, without the `.` between them. After a `*` up to 16 `.` are licensed if one more `*`
-//! is, and that one sets their count to 0.
+//! Letters of a slot that are led together: runs of `*`, without the `.` between them. After a `*`
+//! up to 16 `.` are licensed if one more `*` is, and that one sets their count to 0.
 ghost use Rattle.std.specs.Prelude.{◌≡◌, ◌≤◌, ◌+◌, length, true, false, not};
 
 use super::judge::{Judge, MOST_DOTS};
@@ -18,7 +18,8 @@ pub(crate) struct Gathered {
 impl Gathered {
     ghost use Rattle.its_verify.specs.Gathered.{Begins, dotted, gathered_by, joined, only_run, starred};
 
-    /// The letters of a run and of as many after it as may be led with it, and the runs that are left.
+    /// The letters of a run and of as many after it as may be led with it, and the runs that are
+    /// left.
     #[tactic(auto, using(crate::proofs::GatheredLaws::begins, crate::proofs::GatheredLaws::gathers_more, crate::proofs::GatheredLaws::gathers_stop, crate::proofs::GatheredLaws::gathers_end))]
     pub(crate) fn with_next(first: Run, behind: &[Run]) -> (Gathered, &[Run])
         ensures most { (result.0, result.1.now) ≡ gathered_by (only_run first) behind.now }
@@ -40,7 +41,8 @@ impl Gathered {
         (gathered, rest)
     }
 
-    /// These letters and a run after them, if that may be led with them: it is of `.` or of `*`, and these begin with `*`.
+    /// These letters and a run after them, if that may be led with them: it is of `.` or of `*`,
+    /// and these begin with `*`.
     fn with(&self, run: Run) -> Option<Gathered>
         ensures { result ≡ joined self.now run }
     {
@@ -51,7 +53,8 @@ impl Gathered {
         }
     }
 
-    /// The same of a run of `*`: the `.` before it are left out.
+    /// These letters and a run of `*` after them, if they may be led together: the `.` before it
+    /// are left out.
     #[tactic(auto, using(crate::proofs::GatheredLaws::stars_fit, crate::proofs::GatheredLaws::stars_past))]
     fn with_stars(&self, run: Run) -> Option<Gathered>
         ensures { result ≡ starred (self.now.run.more + run.more + 1) }
@@ -66,7 +69,7 @@ impl Gathered {
         })
     }
 
-    /// The same of a run of `.`: there may be as many as are licensed in a row.
+    /// These letters and a run of `.` after them, if so many `.` are licensed in a row.
     #[tactic(auto, using(crate::proofs::GatheredLaws::dots_fit, crate::proofs::GatheredLaws::dots_past))]
     fn with_dots(&self, run: Run) -> Option<Gathered>
         ensures { result ≡ dotted self.now.run (self.now.dots + run.more + 1) }

@@ -1,5 +1,5 @@
 //! The judge: the plain machine of a session, and how many `.` came for each slot.
-ghost use Rattle.std.specs.Prelude.{◌≡◌, ◌<◌, ◌≤◌, ◌∷◌, ◌-◌, replicate, true, false, not, Ok, IfOk, IfSome, OnOk, OnErr};
+ghost use Rattle.std.specs.Prelude.{◌≡◌, ◌<◌, ◌≤◌, ◌∷◌, replicate, true, false, not, Ok, IfOk, OnOk, OnErr};
 ghost use Rattle.its_word.specs.Limits.{slots};
 ghost use Rattle.its_session.specs.Events.{place_after};
 ghost use Rattle.its_session.specs.Fits.{EventFits};
@@ -8,8 +8,7 @@ ghost use Rattle.its_direct.specs.Plain.{machine_of};
 ghost use Rattle.its_direct.specs.Series.{unit_due};
 ghost use Rattle.its_direct.specs.Events.{IsTold, MayStand, Told, spot_place};
 ghost use Rattle.its_print.specs.Runs.{paces_in};
-ghost use Rattle.its_plain.specs.Turns.{is_running, runs, turn_after};
-ghost use Rattle.its_robin.specs.Robin.{first_running};
+ghost use Rattle.its_plain.specs.Transcript.Turns.{runs};
 ghost use Rattle.its_verify.specs.JudgeState.{Again, AllLed, at_once, dots_of, forgotten, Forgets, LedIf, RunLed, RunsLed, Sure};
 
 use super::gathered::Gathered;
@@ -18,14 +17,16 @@ use super::ticks::read_ticks;
 use its_direct::{Answer, NoMemory, Plain, Spot};
 use its_print::Run;
 use its_records::{Event, Pace, Refusal};
+use its_robin::Circle;
 use its_word::{SLOTS, Slot};
 use std::alloc::Global;
 
 /// No more `.` than this come in a row.
 pub(crate) const MOST_DOTS: u8 = 16;
 
-/// The plain machine as the lines of a session and the letters of a transcript lead it; for each slot how many `.` came since its last
-/// `*`, its last disturbance or its making; and whether a letter came that was not licensed.
+/// The plain machine as the lines of a session and the letters of a transcript lead it; for each
+/// slot how many `.` came since its last `*`, its last disturbance or its making; and whether a
+/// letter came that was not licensed.
 #[derive(Drop)]
 pub struct Judge {
     pub plain: Plain,
@@ -51,7 +52,8 @@ impl Judge {
         })
     }
 
-    /// The result of a line of a session other than TICK and END: what it shows, or why it is refused, and then nothing changes.
+    /// The result of a line of a session other than TICK and END: what it shows, or why it is
+    /// refused, and then nothing changes.
     #[tactic(auto, using(crate::proofs::JudgeStateLaws::sure_is))]
     pub fn event(&mut self, event: &Event) -> Result<Answer, Refusal>
         requires going { self.old.ended ≡ false }
@@ -71,7 +73,8 @@ impl Judge {
         Ok(answer)
     }
 
-    /// Whether a letter of a slot is licensed: the machine moves accordingly. If it is not, nothing more is to be asked.
+    /// Whether a letter of a slot is licensed: the machine moves accordingly. If it is not, nothing
+    /// more is to be asked.
     pub fn licensed(&mut self, slot: Slot, pace: Pace) -> bool
         requires going { self.old.ended ≡ false }
         requires outside { self.old.plain.place ≡ Spot.Plain }
@@ -86,7 +89,7 @@ impl Judge {
         licensed
     }
 
-    /// The same; whether it ended is not said.
+    /// Whether a letter of a slot is licensed, and the machine moves accordingly; `ended` stays.
     fn takes(&mut self, slot: Slot, pace: Pace) -> bool
         requires outside { self.old.plain.place ≡ Spot.Plain }
         requires sure { Sure self.old }
@@ -124,8 +127,9 @@ impl Judge {
         true
     }
 
-    /// The same of one run, when each letter after the first that is not taken at once is taken alone.
-    #[tactic(auto, using(crate::proofs::JudgeStateLaws::again, crate::proofs::LettersLaws::run_start, crate::proofs::LettersLaws::run_first_stops, crate::proofs::LettersLaws::run_on, crate::proofs::LettersLaws::run_stops, crate::proofs::LettersLaws::run_end))]
+    /// Whether the letters of one run of a slot are licensed. Each letter after the first that is
+    /// not taken at once is taken alone.
+    #[tactic(auto, using(crate::proofs::Groups::run_licensed_laws))]
     pub(crate) fn run_licensed(&mut self, slot: Slot, run: Run) -> bool
         requires going { self.old.ended ≡ false }
         requires outside { self.old.plain.place ≡ Spot.Plain }
@@ -147,7 +151,8 @@ impl Judge {
         true
     }
 
-    /// Takes at once, of the letters of a run after its first, which is licensed, all that change nothing; how many.
+    /// Takes at once, of the letters of a run after its first, which is licensed, all that change
+    /// nothing; how many.
     #[tactic(auto, using(crate::proofs::LettersLaws::waits_again, crate::proofs::LettersLaws::off_again))]
     fn taken(&mut self, slot: Slot, run: Run) -> u32
         requires going { self.old.ended ≡ false }
@@ -169,7 +174,8 @@ impl Judge {
         }
     }
 
-    /// Takes as many `*` as are units of a slot's job in a row, or if there is none some that are parts of its call, n at most; how many.
+    /// Takes as many `*` as are units of a slot's job in a row, or if there is none some that are
+    /// parts of its call, n at most; how many.
     #[tactic(auto, using(crate::proofs::LettersLaws::run_then, crate::proofs::SeriesLaws::units_first))]
     pub(crate) fn steps(&mut self, slot: Slot, n: u32) -> u32
         requires going { self.old.ended ≡ false }
@@ -189,7 +195,8 @@ impl Judge {
         made
     }
 
-    /// Takes some `*` that are parts of the call of a slot's job and disturb nobody, n at most; how many.
+    /// Takes some `*` that are parts of the call of a slot's job and disturb nobody, n at most; how
+    /// many.
     #[tactic(auto, using(crate::proofs::SeriesLaws::parts_none, crate::proofs::SeriesLaws::parts_some, crate::proofs::JudgeStateLaws::sure_is, crate::proofs::JudgeStateLaws::sure_still))]
     fn parts(&mut self, slot: Slot, n: u32) -> u32
         requires going { self.old.ended ≡ false }
@@ -247,34 +254,6 @@ impl Judge {
         self.runs_licensed(slot, &room.runs)
     }
 
-    /// The slot whose turn it is, after a turn of slot `last`; None if no job runs.
-    #[tactic(auto, using(its_robin::proofs::RobinLaws::turn_behind, its_robin::proofs::RobinLaws::turn_around))]
-    pub fn turn_after(&self, last: Slot) -> Option<Slot>
-        ensures turn { result ≡ turn_after (machine_of self.now.plain) last }
-    {
-        let next = last.number() + 1;
-        match self.first_running(next, SLOTS as u8) {
-            Some(slot) => Some(slot),
-            None => self.first_running(0, next),
-        }
-    }
-
-    /// The first slot whose job runs, of those from one on and before another.
-    #[tactic(auto, using(its_robin::proofs::RobinLaws::first_next, its_robin::proofs::RobinLaws::first_found, its_robin::proofs::RobinLaws::first_end))]
-    fn first_running(&self, from: u8, to: u8) -> Option<Slot>
-        requires order { from ≤ to }
-        requires within { to ≤ slots }
-        ensures first { result ≡ first_running (runs (machine_of self.now.plain)) (to - from) from }
-    {
-        for slot in from..to {
-            let slot = Slot::new(slot);
-            if self.runs(slot) {
-                return Some(slot);
-            }
-        }
-        None
-    }
-
     /// `*`: the step of a slot's job, if it has one.
     #[tactic(auto, using(crate::proofs::JudgeStateLaws::step_led, crate::proofs::JudgeStateLaws::step_not_led, crate::proofs::JudgeStateLaws::sure_is, crate::proofs::JudgeStateLaws::makes_place))]
     fn takes_step(&mut self, slot: Slot) -> bool
@@ -301,7 +280,7 @@ impl Judge {
         ensures place { self.new.plain.place ≡ self.old.plain.place }
     {
         let dots = self.dots[slot.index()];
-        if !self.runs(slot) {
+        if !self.running(slot) {
             return false;
         }
         if dots >= MOST_DOTS {
@@ -320,7 +299,7 @@ impl Judge {
         ensures sure { result ≡ true → Sure self.new }
         ensures place { self.new.plain.place ≡ self.old.plain.place }
     {
-        if !self.runs(slot) {
+        if !self.running(slot) {
             return false;
         }
         !self.plain.step(slot)
@@ -334,14 +313,7 @@ impl Judge {
         ensures sure { result ≡ true → Sure self.new }
         ensures place { self.new.plain.place ≡ self.old.plain.place }
     {
-        !self.runs(slot)
-    }
-
-    /// Whether the job of a slot runs.
-    fn runs(&self, slot: Slot) -> bool
-        ensures { result ≡ is_running ((machine_of self.now.plain).jobs slot) }
-    {
-        self.plain.runs(slot)
+        !self.running(slot)
     }
 
     /// No `.` came since for the slots that were touched.
@@ -362,4 +334,14 @@ fn forgotten(touched: bool, dots: u8) -> u8
     ensures { result ≡ forgotten touched dots }
 {
     if touched { 0 } else { dots }
+}
+
+impl Circle for Judge {
+    ghost who_runs = { λ j. runs (machine_of j.plain) };
+
+    fn running(&self, slot: Slot) -> bool
+        ensures runs { result ≡ runs (machine_of self.now.plain) slot }
+    {
+        self.plain.runs(slot)
+    }
 }

@@ -4,6 +4,7 @@ ghost use Rattle.std.specs.List.{list_all};
 ghost use Rattle.its_io.specs.Bytes.{next_fault};
 ghost use Rattle.its_session.specs.Events.{most_lines};
 ghost use Rattle.its_word.specs.Text.{words_of};
+ghost use Rattle.its_reader.specs.Bytes.{Onward};
 ghost use Rattle.its_reader.specs.Texts.{ReadyTexts};
 ghost use Rattle.its_verify.specs.Verified.{is_end_line, is_only};
 ghost use Rattle.its_verify.specs.Keeping.{Keeps};
@@ -44,7 +45,7 @@ pub fn is_end_line(line: &[u8]) -> bool
     }
 }
 
-/// The same of a line without its LF.
+/// Whether the only word of a line without its LF is END.
 #[tactic(auto, using(crate::proofs::EndLaws::end_first, crate::proofs::EndLaws::end_space, crate::proofs::EndLaws::end_none))]
 fn is_end(line: &[u8]) -> bool
     ensures { result ≡ is_only (codes "END") (words_of line.now) }
@@ -59,7 +60,8 @@ fn is_end(line: &[u8]) -> bool
     false
 }
 
-/// Whether these bytes, the first of which is no space, are the word END, with only spaces after it.
+/// Whether these bytes, the first of which is no space, are the word END, with only spaces after
+/// it.
 fn is_end_word(first: u8, after: &[u8]) -> bool
     ensures { result ≡ ((first == 69) && ends_with_d after.now) }
 {
@@ -83,19 +85,22 @@ fn is_blank(bytes: &[u8]) -> bool
     bytes.iter().all(|b| *b == b' ')
 }
 
-/// Reads a session, and adds its bytes to those that are kept. No line of it has more than 255 bytes before its LF.
-#[tactic(auto, using(crate::proofs::KeepLaws::kept_start, crate::proofs::KeepLaws::kept_on, crate::proofs::KeepLaws::keeps_session, crate::proofs::KeepLaws::keeps_long, crate::proofs::KeepLaws::keeps_cut, crate::proofs::KeepLaws::keeps_beyond, crate::proofs::KeepLaws::keeps_failed))]
+/// Reads a session, and adds its bytes to those that are kept. No line of it has more than 255
+/// bytes before its LF.
+#[tactic(auto, using(crate::proofs::Groups::keep_laws))]
 pub fn keep<S: Source>(
     texts: &mut Texts,
     src: &mut S,
     session: &mut Vec<u8>,
 ) -> Result<Part, Broken>
     requires ready { ReadyTexts texts.old (S.left src.old) }
+    requires onward { Onward texts.old.ended (S.readable src.old) }
     requires first { texts.old.number ≡ 0 }
     requires most { texts.old.most ≡ 255 }
     requires empty { session.old.items ≡ [] }
     ensures keeps { Keeps result texts.old texts.new session.new.items (S.left src.old) (S.left src.new) }
     ensures ready { result ≡ Ok Part.Session → ReadyTexts texts.new (S.left src.new) }
+    ensures onward { result ≡ Ok Part.Session → Onward texts.new.ended (S.readable src.new) }
     ensures some { result ≡ Ok Part.Session → 1 ≤ texts.new.number }
     ensures few { result ≡ Ok Part.Session → texts.new.number ≤ most_lines }
     ensures unfailed { result ≢ Err Broken.Source → S.faults src.new ≡ S.faults src.old }

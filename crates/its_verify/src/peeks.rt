@@ -5,10 +5,10 @@ ghost use Rattle.its_verify.specs.Lines.{begins_with, is_peek};
 ghost use Rattle.its_verify.specs.Reading.{ends_word};
 
 /// The most bytes of a line of a transcript before its LF.
-const MOST_BYTES: usize = 1543;
+pub(crate) const MOST_BYTES: usize = 1543;
 
-/// Whether a line, which has its LF, may occur when PEEK shows a job: its first word is `P`, and no more than 1543 bytes are before the
-/// LF, which is nowhere else.
+/// Whether a line, which has its LF, may occur when PEEK shows a job: its first word is `P`, and no
+/// more than 1543 bytes are before the LF, which is nowhere else.
 #[tactic(auto, using(crate::proofs::PeekLaws::no_end, crate::proofs::PeekLaws::at_end, crate::proofs::PeekLaws::before_end, crate::proofs::PeekLaws::past_end))]
 pub fn is_peek(line: &[u8]) -> bool
     ensures { result ≡ is_peek line.now }

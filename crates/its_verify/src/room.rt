@@ -1,4 +1,5 @@
-//! Room for what a line of a transcript has to say, which a judge makes once: to make it costs more than a line.
+//! Room for what a line of a transcript has to say, which a judge makes once: to make it costs more
+//! than a line.
 ghost use Rattle.std.specs.Prelude.{◌≡◌, []};
 
 use arrayvec::ArrayVec;

@@ -1,178 +1,63 @@
-//! The lines that an event shows, one after another.
-ghost use Rattle.std.specs.Prelude.{◌≡◌, ◌≤◌, ◌<◌, ◌+◌, ◌*◌, ◌/◌, ◌^◌, true, [], ◌∷◌, IsOk, length, map, take, drop};
+//! The lines that an event shows which was obeyed, one after another.
+ghost use Rattle.std.specs.Prelude.{◌≡◌, ◌≤◌, ◌<◌, ◌+◌, ◌*◌, ◌/◌, ◌^◌, true, [], ◌∷◌, None, Ok, length, map, take, drop};
 ghost use Rattle.std.specs.List.{list_all};
 ghost use Rattle.its_io.specs.Bytes.{HasCause};
 ghost use Rattle.its_files.specs.Files.{entry_at, is_file, file_at as file_of, words_at};
-ghost use Rattle.its_print.specs.Printing.{Dir, Drained, Filed, Row, State, listed};
-ghost use Rattle.its_session.specs.Fits.{EventFits};
-ghost use Rattle.its_plain.specs.OperatorFiles.{files_in, file_shown, filed_line, listing, rows};
-ghost use Rattle.its_plain.specs.OperatorJobs.{examined, state_shown};
-ghost use Rattle.its_plain.specs.OperatorLines.{in_a_line};
+ghost use Rattle.its_print.specs.Printing.{Dir, Filed, Row, listed};
+ghost use Rattle.its_reader.specs.Bytes.{Onward};
+ghost use Rattle.its_plain.specs.Operator.Files.{files_in, filed_line, listing, rows};
 ghost use Rattle.its_direct.specs.Plain.{machine_of};
+ghost use Rattle.its_direct.specs.Events.{CanShow};
 ghost use Rattle.its_verify.specs.TranscriptReader.{AtLine, Says, Stays};
 ghost use Rattle.its_verify.specs.Rulings.{Ruling, expects};
-ghost use Rattle.its_verify.specs.Showing.{IsThere, drained_lines, lines_of, loaded_lines, names_line, shown_if, text_lines, typed_lines};
+ghost use Rattle.its_verify.specs.Showing.{names_line, shown_ruling, text_lines};
 
 use super::outcome::Outcome;
 use super::room::Bytes;
 use super::transcript_reader::TranscriptReader;
 use its_direct::{Answer, Plain};
 use its_io::{Failed, Source};
-use its_print::Reply;
-use its_records::Event;
-use its_word::{ConsoleNumber, Slot, Word};
+use its_print::{ROW_WORDS, Reply};
+use its_word::{Slot, Word};
 
-/// How many words a line of SHOW has.
-const ROW_WORDS: u32 = 8;
-
-/// The lines that an event shows which was obeyed with this answer are next; what EXAM, LIST, STATE, DIR and SHOW show is read
-/// from the machine.
-#[tactic(auto, using(crate::proofs::ShowingLaws::nothing_says))]
-pub(crate) fn show_event<S: Source>(
+/// The lines that an answer shows are next; files are read from the machine.
+#[tactic(auto, using(crate::proofs::ShowingLaws::reply_says, crate::proofs::TranscriptReaderLaws::nothing_on))]
+pub(crate) fn show_answer<S: Source>(
     reader: &mut TranscriptReader,
     src: &mut S,
     plain: &Plain,
-    event: &Event,
     answer: &Answer,
     line: &mut Bytes,
 ) -> Result<Option<Outcome>, Failed>
-    requires fits { EventFits 2 event.now }
-    requires there { IsThere event.now (machine_of plain.now) }
+    requires can { CanShow answer.now plain.now }
     requires at_line { AtLine reader.old (S.left src.old) }
-    ensures says { (next : Ruling) → Says result reader.old reader.new (S.left src.old) (S.left src.new) (expects (lines_of event.now answer.now (machine_of plain.now)) next) next }
+    requires onward { Onward reader.old.texts.ended (S.readable src.old) }
+    ensures says { (next : Ruling) → Says result reader.old reader.new (S.left src.old) (S.left src.new) (shown_ruling answer.now plain.now next) next }
     ensures stays { Stays result reader.new (S.left src.new) }
-    ensures cause { HasCause (S.faults src.old) (S.faults src.new) result }
-{
-    match event {
-        Event::Load { .. } => show_loaded(reader, src, answer, line),
-        Event::TypeIn { c, .. } => show_typed(reader, src, *c, answer, line),
-        Event::Drain { c, .. } => show_drained(reader, src, *c, answer, line),
-        Event::Exam { s, a, n } => show_words(reader, src, plain, *s, *a, *n, line),
-        Event::List { s, a, n } => list_words(reader, src, plain, *s, *a, *n, line),
-        Event::State { s } => show_state(reader, src, plain, *s, line),
-        Event::Dir { d } => show_files(reader, src, plain, *d, line),
-        Event::Show { d, x, y } => show_file(reader, src, plain, *d, *x, *y, line),
-        _ => Ok(None),
-    }
-}
-
-/// LOAD shows the slot.
-#[tactic(auto, using(crate::proofs::ShowingLaws::reply_says, crate::proofs::TranscriptReaderLaws::nothing_on))]
-fn show_loaded<S: Source>(
-    reader: &mut TranscriptReader,
-    src: &mut S,
-    answer: &Answer,
-    line: &mut Bytes,
-) -> Result<Option<Outcome>, Failed>
-    requires at_line { AtLine reader.old (S.left src.old) }
-    ensures says { (next : Ruling) → Says result reader.old reader.new (S.left src.old) (S.left src.new) (expects (loaded_lines answer.now) next) next }
-    ensures stays { Stays result reader.new (S.left src.new) }
+    ensures onward { result ≡ Ok None → Onward reader.new.texts.ended (S.readable src.new) }
     ensures cause { HasCause (S.faults src.old) (S.faults src.new) result }
 {
     match answer {
-        Answer::Slot(s) => reader.expect(src, &Reply::Loaded { s: *s }, line),
         Answer::Nothing => Ok(None),
-        Answer::Dropped(_) => Ok(None),
-        Answer::Drained(_) => Ok(None),
-    }
-}
-
-/// TYPE shows how many bytes were dropped.
-#[tactic(auto, using(crate::proofs::ShowingLaws::reply_says, crate::proofs::TranscriptReaderLaws::nothing_on))]
-fn show_typed<S: Source>(
-    reader: &mut TranscriptReader,
-    src: &mut S,
-    c: ConsoleNumber,
-    answer: &Answer,
-    line: &mut Bytes,
-) -> Result<Option<Outcome>, Failed>
-    requires at_line { AtLine reader.old (S.left src.old) }
-    ensures says { (next : Ruling) → Says result reader.old reader.new (S.left src.old) (S.left src.new) (expects (typed_lines c answer.now) next) next }
-    ensures stays { Stays result reader.new (S.left src.new) }
-    ensures cause { HasCause (S.faults src.old) (S.faults src.new) result }
-{
-    match answer {
-        Answer::Dropped(n) => reader.expect(src, &Reply::Typed { c, dropped: *n }, line),
-        Answer::Nothing => Ok(None),
-        Answer::Slot(_) => Ok(None),
-        Answer::Drained(_) => Ok(None),
-    }
-}
-
-/// DRAIN shows the bytes.
-#[tactic(auto, using(crate::proofs::ShowingLaws::reply_says, crate::proofs::TranscriptReaderLaws::nothing_on))]
-fn show_drained<S: Source>(
-    reader: &mut TranscriptReader,
-    src: &mut S,
-    c: ConsoleNumber,
-    answer: &Answer,
-    line: &mut Bytes,
-) -> Result<Option<Outcome>, Failed>
-    requires at_line { AtLine reader.old (S.left src.old) }
-    ensures says { (next : Ruling) → Says result reader.old reader.new (S.left src.old) (S.left src.new) (expects (drained_lines c answer.now) next) next }
-    ensures stays { Stays result reader.new (S.left src.new) }
-    ensures cause { HasCause (S.faults src.old) (S.faults src.new) result }
-{
-    match answer {
-        Answer::Drained(bytes) => {
-            let bytes = bytes.as_slice();
-            reader.expect(src, &Reply::Drained { c, bytes }, line)
+        Answer::Loaded { s } => reader.expect(src, &Reply::Loaded { s: *s }, line),
+        Answer::Typed { c, dropped } => {
+            let (c, dropped) = (*c, *dropped);
+            reader.expect(src, &Reply::Typed { c, dropped }, line)
         }
-        Answer::Nothing => Ok(None),
-        Answer::Slot(_) => Ok(None),
-        Answer::Dropped(_) => Ok(None),
+        Answer::Drained { c, bytes } => reader.expect(src, &Reply::Drained { c: *c, bytes }, line),
+        Answer::Words { s, a, words } => {
+            let (s, a) = (*s, *a);
+            reader.expect(src, &Reply::Words { s, a, words }, line)
+        }
+        Answer::State { version, s, show } => {
+            let (version, s) = (*version, *s);
+            reader.expect(src, &Reply::State { version, s, show }, line)
+        }
+        Answer::Peeked => reader.peek(src),
+        Answer::Listed { s, a, words } => list_each(reader, src, *s, *a, words, line),
+        Answer::Files { d } => show_files(reader, src, plain, *d, line),
+        Answer::File { id, d, x, y } => show_text(reader, src, plain, *id, [*d, *x, *y], line),
     }
-}
-
-/// EXAM shows words in one line.
-#[tactic(auto, using(crate::proofs::ShowingLaws::reply_says, crate::proofs::ShowingLaws::words_say))]
-fn show_words<S: Source>(
-    reader: &mut TranscriptReader,
-    src: &mut S,
-    plain: &Plain,
-    s: Slot,
-    a: u32,
-    n: u32,
-    line: &mut Bytes,
-) -> Result<Option<Outcome>, Failed>
-    requires address { a < 2 ^ 18 }
-    requires few { n ≤ 8 }
-    requires there { IsOk (examined (machine_of plain.now) s a n) }
-    requires at_line { AtLine reader.old (S.left src.old) }
-    ensures says { (next : Ruling) → Says result reader.old reader.new (S.left src.old) (S.left src.new) (expects (shown_if (in_a_line s a) (examined (machine_of plain.now) s a n)) next) next }
-    ensures stays { Stays result reader.new (S.left src.new) }
-    ensures cause { HasCause (S.faults src.old) (S.faults src.new) result }
-{
-    let Ok(words) = plain.words(s, a, n) else {
-        unreachable!()
-    };
-    let words = words.as_slice();
-    reader.expect(src, &Reply::Words { s, a, words }, line)
-}
-
-/// LIST shows words typed out, each in a line of its own.
-#[tactic(auto, using(crate::proofs::ShowingLaws::list_says))]
-fn list_words<S: Source>(
-    reader: &mut TranscriptReader,
-    src: &mut S,
-    plain: &Plain,
-    s: Slot,
-    a: u32,
-    n: u32,
-    line: &mut Bytes,
-) -> Result<Option<Outcome>, Failed>
-    requires address { a < 2 ^ 18 }
-    requires few { n ≤ 8 }
-    requires there { IsOk (examined (machine_of plain.now) s a n) }
-    requires at_line { AtLine reader.old (S.left src.old) }
-    ensures says { (next : Ruling) → Says result reader.old reader.new (S.left src.old) (S.left src.new) (expects (shown_if (listed s a) (examined (machine_of plain.now) s a n)) next) next }
-    ensures stays { Stays result reader.new (S.left src.new) }
-    ensures cause { HasCause (S.faults src.old) (S.faults src.new) result }
-{
-    let Ok(words) = plain.words(s, a, n) else {
-        unreachable!()
-    };
-    list_each(reader, src, s, a, words.as_slice(), line)
 }
 
 /// A line for each of some words, which are in a slot from an address on.
@@ -188,8 +73,10 @@ fn list_each<S: Source>(
     requires address { a < 2 ^ 18 }
     requires few { length words.now ≤ 8 }
     requires at_line { AtLine reader.old (S.left src.old) }
+    requires onward { Onward reader.old.texts.ended (S.readable src.old) }
     ensures says { (next : Ruling) → Says result reader.old reader.new (S.left src.old) (S.left src.new) (expects (listed s a words.now) next) next }
     ensures stays { Stays result reader.new (S.left src.new) }
+    ensures onward { result ≡ Ok None → Onward reader.new.texts.ended (S.readable src.new) }
     ensures cause { HasCause (S.faults src.old) (S.faults src.new) result }
 {
     let mut place = a;
@@ -207,31 +94,6 @@ fn list_each<S: Source>(
     Ok(None)
 }
 
-/// STATE shows a job.
-#[tactic(auto, using(crate::proofs::ShowingLaws::reply_says, crate::proofs::ShowingLaws::state_says))]
-fn show_state<S: Source>(
-    reader: &mut TranscriptReader,
-    src: &mut S,
-    plain: &Plain,
-    s: Slot,
-    line: &mut Bytes,
-) -> Result<Option<Outcome>, Failed>
-    requires there { IsOk (state_shown (machine_of plain.now) s) }
-    requires at_line { AtLine reader.old (S.left src.old) }
-    ensures says { (next : Ruling) → Says result reader.old reader.new (S.left src.old) (S.left src.new) (expects (shown_if (λ show. State (machine_of plain.now).version s show ∷ []) (state_shown (machine_of plain.now) s)) next) next }
-    ensures stays { Stays result reader.new (S.left src.new) }
-    ensures cause { HasCause (S.faults src.old) (S.faults src.new) result }
-{
-    match plain.shown(s) {
-        Ok(show) => {
-            let version = plain.version;
-            let show = &show;
-            reader.expect(src, &Reply::State { version, s, show }, line)
-        }
-        Err(_) => unreachable!(),
-    }
-}
-
 /// DIR shows how many files a directory has, and each of them.
 fn show_files<S: Source>(
     reader: &mut TranscriptReader,
@@ -241,8 +103,10 @@ fn show_files<S: Source>(
     line: &mut Bytes,
 ) -> Result<Option<Outcome>, Failed>
     requires at_line { AtLine reader.old (S.left src.old) }
+    requires onward { Onward reader.old.texts.ended (S.readable src.old) }
     ensures says { (next : Ruling) → Says result reader.old reader.new (S.left src.old) (S.left src.new) (expects (listing d (files_in d (machine_of plain.now).files)) next) next }
     ensures stays { Stays result reader.new (S.left src.new) }
+    ensures onward { result ≡ Ok None → Onward reader.new.texts.ended (S.readable src.new) }
     ensures cause { HasCause (S.faults src.old) (S.faults src.new) result }
 {
     let ids = plain.listed(d);
@@ -264,8 +128,10 @@ fn show_each<S: Source>(
 ) -> Result<Option<Outcome>, Failed>
     requires each { list_all (λ id. is_file (entry_at plain.now.files id)) ids.now ≡ true }
     requires at_line { AtLine reader.old (S.left src.old) }
+    requires onward { Onward reader.old.texts.ended (S.readable src.old) }
     ensures says { (next : Ruling) → Says result reader.old reader.new (S.left src.old) (S.left src.new) (expects (map filed_line (map (file_of plain.now.files) ids.now)) next) next }
     ensures stays { Stays result reader.new (S.left src.new) }
+    ensures onward { result ≡ Ok None → Onward reader.new.texts.ended (S.readable src.new) }
     ensures cause { HasCause (S.faults src.old) (S.faults src.new) result }
 {
     for id in ids {
@@ -287,36 +153,17 @@ fn show_entry<S: Source>(
 ) -> Result<Option<Outcome>, Failed>
     requires file { is_file (entry_at plain.now.files id) ≡ true }
     requires at_line { AtLine reader.old (S.left src.old) }
+    requires onward { Onward reader.old.texts.ended (S.readable src.old) }
     ensures says { (next : Ruling) → Says result reader.old reader.new (S.left src.old) (S.left src.new) (expects (filed_line (file_of plain.now.files id) ∷ []) next) next }
     ensures stays { Stays result reader.new (S.left src.new) }
+    ensures onward { result ≡ Ok None → Onward reader.new.texts.ended (S.readable src.new) }
     ensures cause { HasCause (S.faults src.old) (S.faults src.new) result }
 {
     let show = plain.show(id);
     reader.expect(src, &Reply::Filed { show: &show }, line)
 }
 
-/// SHOW shows how many words a file has, and the words.
-fn show_file<S: Source>(
-    reader: &mut TranscriptReader,
-    src: &mut S,
-    plain: &Plain,
-    d: Word,
-    x: Word,
-    y: Word,
-    line: &mut Bytes,
-) -> Result<Option<Outcome>, Failed>
-    requires at_line { AtLine reader.old (S.left src.old) }
-    ensures says { (next : Ruling) → Says result reader.old reader.new (S.left src.old) (S.left src.new) (expects (shown_if (λ out. out) (file_shown (machine_of plain.now) d x y)) next) next }
-    ensures stays { Stays result reader.new (S.left src.new) }
-    ensures cause { HasCause (S.faults src.old) (S.faults src.new) result }
-{
-    match plain.file(d, x, y) {
-        Some(id) => show_text(reader, src, plain, id, [d, x, y], line),
-        None => Ok(None),
-    }
-}
-
-/// The lines of a file with these names.
+/// SHOW shows the names of a file and how many words it has, and the words.
 fn show_text<S: Source>(
     reader: &mut TranscriptReader,
     src: &mut S,
@@ -327,8 +174,10 @@ fn show_text<S: Source>(
 ) -> Result<Option<Outcome>, Failed>
     requires file { is_file (entry_at plain.now.files id) ≡ true }
     requires at_line { AtLine reader.old (S.left src.old) }
+    requires onward { Onward reader.old.texts.ended (S.readable src.old) }
     ensures says { (next : Ruling) → Says result reader.old reader.new (S.left src.old) (S.left src.new) (expects (text_lines names (words_at plain.now.files id)) next) next }
     ensures stays { Stays result reader.new (S.left src.new) }
+    ensures onward { result ≡ Ok None → Onward reader.new.texts.ended (S.readable src.new) }
     ensures cause { HasCause (S.faults src.old) (S.faults src.new) result }
 {
     let count = plain.show(id).length;
@@ -348,8 +197,10 @@ fn show_names<S: Source>(
     line: &mut Bytes,
 ) -> Result<Option<Outcome>, Failed>
     requires at_line { AtLine reader.old (S.left src.old) }
+    requires onward { Onward reader.old.texts.ended (S.readable src.old) }
     ensures says { (next : Ruling) → Says result reader.old reader.new (S.left src.old) (S.left src.new) (expects (names_line names count ∷ []) next) next }
     ensures stays { Stays result reader.new (S.left src.new) }
+    ensures onward { result ≡ Ok None → Onward reader.new.texts.ended (S.readable src.new) }
     ensures cause { HasCause (S.faults src.old) (S.faults src.new) result }
 {
     let [d, x, y] = names;
@@ -368,8 +219,10 @@ fn show_rows<S: Source>(
     line: &mut Bytes,
 ) -> Result<Option<Outcome>, Failed>
     requires at_line { AtLine reader.old (S.left src.old) }
+    requires onward { Onward reader.old.texts.ended (S.readable src.old) }
     ensures says { (next : Ruling) → Says result reader.old reader.new (S.left src.old) (S.left src.new) (expects (rows ((count + 7) / 8) (words_at plain.now.files id)) next) next }
     ensures stays { Stays result reader.new (S.left src.new) }
+    ensures onward { result ≡ Ok None → Onward reader.new.texts.ended (S.readable src.new) }
     ensures cause { HasCause (S.faults src.old) (S.faults src.new) result }
 {
     let lines = row_count(count);
@@ -401,8 +254,10 @@ fn show_row<S: Source>(
 ) -> Result<Option<Outcome>, Failed>
     requires few { 8 * k + 8 ≤ 2 ^ 32 }
     requires at_line { AtLine reader.old (S.left src.old) }
+    requires onward { Onward reader.old.texts.ended (S.readable src.old) }
     ensures says { (next : Ruling) → Says result reader.old reader.new (S.left src.old) (S.left src.new) (expects (Row (take 8 (drop (8 * k) (words_at plain.now.files id))) ∷ []) next) next }
     ensures stays { Stays result reader.new (S.left src.new) }
+    ensures onward { result ≡ Ok None → Onward reader.new.texts.ended (S.readable src.new) }
     ensures cause { HasCause (S.faults src.old) (S.faults src.new) result }
 {
     let words = plain.row(id, k);

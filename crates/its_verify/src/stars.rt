@@ -1,4 +1,5 @@
-//! The letters `*` of a run: as many as can be are taken at once, and each other one as a step of its own.
+//! The letters `*` of a run: as many as can be are taken at once, and each other one as a step of
+//! its own.
 ghost use Rattle.std.specs.Prelude.{◌≡◌, ◌≢◌, ◌≤◌, ◌∷◌, ◌+◌, replicate, true, false, not};
 ghost use Rattle.its_direct.specs.Plain.{machine_of};
 ghost use Rattle.its_verify.specs.JudgeState.{RunLed, Sure};
@@ -51,8 +52,8 @@ impl Judge {
         }
     }
 
-    /// Takes at least one of so many `*` of a slot and one more, if the first is licensed; how many. If it is not, none is taken, and nothing
-    /// more is to be asked.
+    /// Takes at least one of so many `*` of a slot and one more, if the first is licensed; how
+    /// many. If it is not, none is taken, and nothing more is to be asked.
     #[tactic(auto, using(crate::proofs::StarsLaws::stars_none, crate::proofs::StarsLaws::star_one))]
     fn some_stars(&mut self, slot: Slot, more: u32) -> u32
         requires going { self.old.ended ≡ false }

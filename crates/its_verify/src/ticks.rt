@@ -13,11 +13,13 @@ use its_print::{Reply, Run, print_reply};
 use its_records::Pace;
 use its_word::Slot;
 
-/// The most bytes of a `T` line with one run of letters, and its LF: a slot has three digits at most, a number four.
+/// The most bytes of a `T` line with one run of letters, and its LF: a slot has three digits at
+/// most, a number four.
 const MOST_ALIKE: usize = 12;
 
-/// Reads the runs of letters in a line, which has its LF, into the room for them, for `count` ticks of slot `slot`, of which there are at
-/// most 512; whether it is the text of a `T` line of that slot with so many letters.
+/// Reads the runs of letters in a line, which has its LF, into the room for them, for `count` ticks
+/// of slot `slot`, of which there are at most 512; whether it is the text of a `T` line of that
+/// slot with so many letters.
 #[tactic(auto, using(crate::proofs::TickLaws::ticks_read, crate::proofs::TickLaws::ticks_other, crate::proofs::TickLaws::ticks_few))]
 pub fn read_ticks(line: &[u8], slot: Slot, count: u32, room: &mut Room) -> bool
     requires { count ≤ 512 }
@@ -33,7 +35,8 @@ pub fn read_ticks(line: &[u8], slot: Slot, count: u32, room: &mut Room) -> bool
     is_line_of(line, slot, &room.runs, &mut room.line)
 }
 
-/// Whether a line of at most 12 bytes is the `T` line of a slot with `count` letters that are all alike; their run is put into the room for it.
+/// Whether a line of at most 12 bytes is the `T` line of a slot with `count` letters that are all
+/// alike; their run is put into the room for it.
 #[tactic(auto, using(crate::proofs::StarsLaws::alike_read, crate::proofs::StarsLaws::alike_said, crate::proofs::StarsLaws::alike_long, crate::proofs::StarsLaws::alike_none))]
 fn are_alike(line: &[u8], slot: Slot, count: u32, room: &mut Room) -> bool
     requires { count ≤ 512 }
@@ -61,7 +64,8 @@ fn last_letter(line: &[u8]) -> Option<Pace>
     letter_at(line[line.len() - 2])
 }
 
-/// Whether a line is the `T` line of a slot with these runs; its text is printed into the room for it.
+/// Whether a line is the `T` line of a slot with these runs; its text is printed into the room for
+/// it.
 fn is_line_of<const N: usize>(
     line: &[u8],
     slot: Slot,

@@ -1,8 +1,9 @@
 //! The reader of a transcript: its lines, one by one, and whether each is licensed.
-ghost use Rattle.std.specs.Prelude.{◌<◌, ◌≤◌, ◌∷◌, [], IfOk, length};
+ghost use Rattle.std.specs.Prelude.{◌≡◌, ◌<◌, ◌≤◌, ◌∷◌, [], None, Ok, IfOk, length};
 ghost use Rattle.its_io.specs.Bytes.{HasCause};
 ghost use Rattle.its_print.specs.Printing.{Refused, text_of_line};
 ghost use Rattle.its_print.specs.Replies.{FewParts, line_of};
+ghost use Rattle.its_reader.specs.Bytes.{Onward};
 
 use super::outcome::Outcome;
 use super::peeks::is_peek;
@@ -26,11 +27,13 @@ impl TranscriptReader {
     ghost use Rattle.its_verify.specs.Rulings.{Ruling, at_end, led, peeking, expects};
 
     /// Reads the next line, if one is wanted. It is not judged yet.
-    #[tactic(auto, using(crate::proofs::TranscriptReaderLaws::number_few, crate::proofs::TranscriptReaderLaws::read_line, crate::proofs::TranscriptReaderLaws::read_long, crate::proofs::TranscriptReaderLaws::read_end, crate::proofs::TranscriptReaderLaws::read_beyond, crate::proofs::TranscriptReaderLaws::read_fails))]
+    #[tactic(auto, using(crate::proofs::Groups::read_laws))]
     pub fn read<S: Source>(&mut self, src: &mut S) -> Result<Option<Outcome>, Failed>
         requires at_line { AtLine self.old (S.left src.old) }
+        requires onward { Onward self.old.texts.ended (S.readable src.old) }
         ensures reads { ReadsOn result self.old self.new (S.left src.old) (S.left src.new) }
         ensures beside { Beside self.old self.new }
+        ensures onward { result ≡ Ok None → Onward self.new.texts.ended (S.readable src.new) }
         ensures cause { HasCause (S.faults src.old) (S.faults src.new) result }
     {
         match self.texts.next(src)? {
@@ -63,8 +66,10 @@ impl TranscriptReader {
     ) -> Result<Option<Outcome>, Failed>
         requires few { FewParts reply.now }
         requires at_line { AtLine self.old (S.left src.old) }
+        requires onward { Onward self.old.texts.ended (S.readable src.old) }
         ensures says { (next : Ruling) → Says result self.old self.new (S.left src.old) (S.left src.new) (led (same_as (text_of_line (line_of reply.now))) (λ t. next)) next }
         ensures stays { Stays result self.new (S.left src.new) }
+        ensures onward { result ≡ Ok None → Onward self.new.texts.ended (S.readable src.new) }
         ensures cause { HasCause (S.faults src.old) (S.faults src.new) result }
     {
         line.clear();
@@ -73,7 +78,7 @@ impl TranscriptReader {
     }
 
     /// A line with this text is next.
-    #[tactic(auto, using(crate::proofs::TranscriptReaderLaws::same_lacks, crate::proofs::TranscriptReaderLaws::same_fails, crate::proofs::TranscriptReaderLaws::same_passed, crate::proofs::TranscriptReaderLaws::passed_stays))]
+    #[tactic(auto, using(crate::proofs::Groups::expect_text_laws))]
     fn expect_text<S: Source>(
         &mut self,
         src: &mut S,
@@ -81,8 +86,10 @@ impl TranscriptReader {
     ) -> Result<Option<Outcome>, Failed>
         requires short { length line.now ≤ 1543 }
         requires at_line { AtLine self.old (S.left src.old) }
+        requires onward { Onward self.old.texts.ended (S.readable src.old) }
         ensures says { (next : Ruling) → Says result self.old self.new (S.left src.old) (S.left src.new) (led (same_as line.now) (λ t. next)) next }
         ensures stays { Stays result self.new (S.left src.new) }
+        ensures onward { result ≡ Ok None → Onward self.new.texts.ended (S.readable src.new) }
         ensures cause { HasCause (S.faults src.old) (S.faults src.new) result }
     {
         if let Some(outcome) = self.read(src)? {
@@ -93,11 +100,13 @@ impl TranscriptReader {
     }
 
     /// A line of PEEK is next.
-    #[tactic(auto, using(crate::proofs::TranscriptReaderLaws::peek_lacks, crate::proofs::TranscriptReaderLaws::peek_fails, crate::proofs::TranscriptReaderLaws::peek_passed, crate::proofs::TranscriptReaderLaws::passed_stays))]
+    #[tactic(auto, using(crate::proofs::Groups::peek_laws))]
     pub fn peek<S: Source>(&mut self, src: &mut S) -> Result<Option<Outcome>, Failed>
         requires at_line { AtLine self.old (S.left src.old) }
+        requires onward { Onward self.old.texts.ended (S.readable src.old) }
         ensures says { (next : Ruling) → Says result self.old self.new (S.left src.old) (S.left src.new) (led peeking (λ t. next)) next }
         ensures stays { Stays result self.new (S.left src.new) }
+        ensures onward { result ≡ Ok None → Onward self.new.texts.ended (S.readable src.new) }
         ensures cause { HasCause (S.faults src.old) (S.faults src.new) result }
     {
         if let Some(outcome) = self.read(src)? {
@@ -108,9 +117,10 @@ impl TranscriptReader {
     }
 
     /// No line is next: one byte more is a line too many.
-    #[tactic(auto, using(crate::proofs::TranscriptReaderLaws::number_few, crate::proofs::TranscriptReaderLaws::finish_end, crate::proofs::TranscriptReaderLaws::finish_line, crate::proofs::TranscriptReaderLaws::finish_long, crate::proofs::TranscriptReaderLaws::finish_beyond, crate::proofs::TranscriptReaderLaws::finish_fails, crate::proofs::OutLaws::end_out))]
+    #[tactic(auto, using(crate::proofs::Groups::finish_laws))]
     pub fn finish<S: Source>(&mut self, src: &mut S) -> Result<Outcome, Failed>
         requires at_line { AtLine self.old (S.left src.old) }
+        requires onward { Onward self.old.texts.ended (S.readable src.old) }
         ensures ends { Concludes result self.old (S.left src.old) (S.left src.new) at_end }
         ensures out { IfOk result (λ f. ReadsOut f (S.left src.old) (S.left src.new)) }
         ensures cause { HasCause (S.faults src.old) (S.faults src.new) result }
@@ -134,6 +144,7 @@ impl TranscriptReader {
         room: &mut Bytes,
     ) -> Result<Outcome, Failed>
         requires at_line { AtLine self.old (S.left src.old) }
+        requires onward { Onward self.old.texts.ended (S.readable src.old) }
         ensures ends { Concludes result self.old (S.left src.old) (S.left src.new) (expects (Refused number reason ∷ []) at_end) }
         ensures out { IfOk result (λ f. ReadsOut f (S.left src.old) (S.left src.new)) }
         ensures cause { HasCause (S.faults src.old) (S.faults src.new) result }

@@ -1,19 +1,22 @@
-//! A session and its transcript in one input: the session is kept, and then gone along with the lines of its transcript.
-ghost use Rattle.std.specs.Prelude.{◌≡◌, ◌≢◌, ◌≤◌, ◌-◌, ℕ, false, None, IfOk, Ok, Err};
+//! A session and its transcript in one input: the session is kept, and then gone along with the
+//! lines of its transcript.
+ghost use Rattle.std.specs.Prelude.{◌≡◌, ◌≢◌, ◌≤◌, ◌-◌, ℕ, true, false, None, IfOk, Ok, Err};
 ghost use Rattle.its_io.specs.Bytes.{HasCause, next_fault};
+ghost use Rattle.its_reader.specs.Bytes.{Onward};
 ghost use Rattle.its_reader.specs.Items.{found_fits, is_last, place_found};
 ghost use Rattle.its_reader.specs.Texts.{ReadyTexts};
 ghost use Rattle.its_session.specs.Events.{events_of, most_lines, place_after};
 ghost use Rattle.its_session.specs.Fits.{EventFits};
 ghost use Rattle.its_plain.specs.Operator.{Block, no_block};
 ghost use Rattle.its_plain.specs.Transcript.{Walk};
-ghost use Rattle.its_plain.specs.Turns.{ticks_asked, turns_asked};
+ghost use Rattle.its_plain.specs.Transcript.Turns.{ticks_asked, turns_asked};
 ghost use Rattle.its_direct.specs.Events.{MayStand, spot_place};
 ghost use Rattle.its_verify.specs.Finds.{Found as IsFound, Judges, ReadsOut};
 
 use super::judge::Judge;
 use super::keeping::{Broken, Part, keep};
 use super::outcome::Outcome;
+use super::peeks::MOST_BYTES;
 use super::room::Room;
 use super::transcript_reader::TranscriptReader;
 use super::verifier::Verifier;
@@ -21,24 +24,21 @@ use its_direct::Spot;
 use its_io::{Failed, SafeSource, Source};
 use its_reader::{Found, Items, Texts};
 use its_records::Event;
+use its_session::MOST_LINES;
 use its_word::Slot;
 use std::alloc::Global;
 
-/// The most bytes of a line of a session before its LF, and of a line of a transcript.
+/// The most bytes of a line of a session before its LF.
 const SESSION_BYTES: usize = 255;
-
-const TRANSCRIPT_BYTES: usize = 1543;
-
-/// The most lines of an input.
-const MOST_LINES: u32 = 1 << 20;
 
 /// The slot of the last turn, before the first one of a session.
 const HIGHEST: Slot = Slot::LAST;
 
-/// What is said of a session and its transcript, which a source gives one after the other. The session is kept in memory; the
-/// transcript is not.
+/// What is said of a session and its transcript, which a source gives one after the other. The
+/// session is kept in memory; the transcript is not.
 #[tactic(auto, using(crate::proofs::VerifyLaws::finds_session, crate::proofs::VerifyLaws::finds_long, crate::proofs::VerifyLaws::finds_cut, crate::proofs::VerifyLaws::finds_beyond))]
 pub fn verify<S: Source>(alloc: Global, src: &mut S) -> Result<Outcome, Broken>
+    requires readable { S.readable src.old ≡ true }
     ensures finds { IsFound result (S.left src.old) (S.left src.new) }
     ensures input { IfOk result (λ f. ReadsOut f (S.left src.old) (S.left src.new)) }
     ensures unfailed { result ≢ Err Broken.Source → S.faults src.new ≡ S.faults src.old }
@@ -63,6 +63,7 @@ fn judge_transcript<S: Source>(
     session: Vec<u8>,
 ) -> Result<Outcome, Broken>
     requires ready { ReadyTexts texts (S.left src.old) }
+    requires onward { Onward texts.ended (S.readable src.old) }
     requires few { texts.number ≤ most_lines }
     ensures judged { Judges result texts session.items (S.left src.old) (S.left src.new) }
     ensures out { IfOk result (λ f. ReadsOut f (S.left src.old) (S.left src.new)) }
@@ -74,7 +75,7 @@ fn judge_transcript<S: Source>(
     };
     let room = MOST_LINES - texts.number;
     let lines = Room::new();
-    texts.most = TRANSCRIPT_BYTES;
+    texts.most = MOST_BYTES;
     let mut verifier = Verifier {
         judge,
         reader: TranscriptReader {
@@ -104,6 +105,7 @@ impl Verifier {
     #[tactic(auto, using(crate::proofs::GoneLaws::gone_start, crate::proofs::GoneLaws::stands_on, crate::proofs::GoneLaws::fits_on))]
     fn go<S: Source>(&mut self, src: &mut S, session: &mut SafeSource) -> Result<Outcome, Failed>
         requires at_item { AtItem self.old (S.left src.old) }
+        requires onward { Onward self.old.reader.texts.ended (S.readable src.old) }
         requires place { self.old.judge.plain.place ≡ Spot.Plain }
         ensures ends { Concludes result self.old.reader (S.left src.old) (S.left src.new) (judge_from self.old no_block 1 (events_of session.old)) }
         ensures out { IfOk result (λ f. ReadsOut f (S.left src.old) (S.left src.new)) }
@@ -120,8 +122,9 @@ impl Verifier {
         }
     }
 
-    /// Takes an item of a session, whose line has this number. None if it led on; else the verdict is known.
-    #[tactic(auto, using(crate::proofs::GoneLaws::bad_says, crate::proofs::GoneLaws::beyond_says, crate::proofs::GoneLaws::last_says, crate::proofs::GoneLaws::not_last, crate::proofs::GoingLaws::end_stays, crate::proofs::GoingLaws::never_on))]
+    /// Takes an item of a session, whose line has this number. None if it led on; else the verdict
+    /// is known.
+    #[tactic(auto, using(crate::proofs::Groups::take_laws))]
     fn take<S: Source>(
         &mut self,
         src: &mut S,
@@ -131,9 +134,11 @@ impl Verifier {
         requires fits { found_fits 2 found.now }
         requires stands { FoundStands (spot_place self.old.judge.plain.place) found.now }
         requires at_item { AtItem self.old (S.left src.old) }
+        requires onward { Onward self.old.reader.texts.ended (S.readable src.old) }
         ensures says { ItemSays result self.old self.new (S.left src.old) (S.left src.new) number found.now }
         ensures out { ReadsOutIf result (S.left src.old) (S.left src.new) }
         ensures stays { StaysAtItem result self.new (S.left src.new) }
+        ensures onward { result ≡ Ok None → Onward self.new.reader.texts.ended (S.readable src.new) }
         ensures place { result ≡ Ok None → spot_place self.new.judge.plain.place ≡ place_found (spot_place self.old.judge.plain.place) found.now }
         ensures going { result ≡ Ok None → is_last found.now ≡ false }
         ensures cause { HasCause (S.faults src.old) (S.faults src.new) result }
@@ -156,9 +161,11 @@ impl Verifier {
         requires fits { EventFits 2 event.now }
         requires stands { MayStand (spot_place self.old.judge.plain.place) event.now }
         requires at_item { AtItem self.old (S.left src.old) }
+        requires onward { Onward self.old.reader.texts.ended (S.readable src.old) }
         ensures says { ItemSays result self.old self.new (S.left src.old) (S.left src.new) number (Found.Line event.now) }
         ensures out { ReadsOutIf result (S.left src.old) (S.left src.new) }
         ensures stays { StaysAtItem result self.new (S.left src.new) }
+        ensures onward { result ≡ Ok None → Onward self.new.reader.texts.ended (S.readable src.new) }
         ensures place { result ≡ Ok None → spot_place self.new.judge.plain.place ≡ place_after (spot_place self.old.judge.plain.place) event.now }
         ensures going { result ≡ Ok None → is_end event.now ≡ false }
         ensures cause { HasCause (S.faults src.old) (S.faults src.new) result }
@@ -175,8 +182,10 @@ impl Verifier {
         requires fits { EventFits 2 event.now }
         requires outside { RunsOutside event.now self.old.judge.plain.place }
         requires at_item { AtItem self.old (S.left src.old) }
+        requires onward { Onward self.old.reader.texts.ended (S.readable src.old) }
         ensures says { TurnsSay result self.old self.new (S.left src.old) (S.left src.new) (turns_asked event.now) (ticks_asked event.now) }
         ensures stays { StaysAtItem result self.new (S.left src.new) }
+        ensures onward { result ≡ Ok None → Onward self.new.reader.texts.ended (S.readable src.new) }
         ensures place { self.new.judge.plain.place ≡ self.old.judge.plain.place }
         ensures cause { HasCause (S.faults src.old) (S.faults src.new) result }
     {

@@ -1,7 +1,7 @@
 -- The words that a caller of the library gives.
 -- No promise rests on this.
 use Rattle.std.specs.Prelude.{if◌then◌else◌, ◌==◌, ℕ, Option, List, [], ◌∷◌, length}
-use Rattle.its_top.specs.declared.commands.Command.{Command}
+use Rattle.its_top.specs.declared.commands.words.Command.{Command}
 use Rattle.its_top.specs.Commands.{command_of}
 
 -- the words of a command: its name, and its number unless that is empty

@@ -4,17 +4,19 @@
 //!
 //! Proved of `its_call`: the contract says of the bytes in `out` what `its_top::its` says of what
 //! it writes, for each command and each status that comes with bytes (`run`, `check`, `generate`,
-//! `verify`, `asm`, `usage`). Otherwise nothing is given (`nothing`). No clause says when 4 and 5
-//! occur.
+//! `verify`, `asm`, `usage`). Otherwise nothing is given (`nothing`). The answer is 4 only if what
+//! the program is to write is longer than `out` (`short`), and 7 only if a word is not UTF-8
+//! (`text`). No clause says when 5 occurs.
 //!
 //! Tests: its_web/src/tests.rt.
 #![tactic(auto)]
 
-ghost use Rattle.std.specs.Prelude.{◌≡◌, ◌≢◌, ◌≤◌, ◌⊎◌, true, take, length, map, string_bytes, IfOk, IfErr, IfSome, Some, None};
+ghost use Rattle.std.specs.Prelude.{◌≡◌, ◌≢◌, ◌≤◌, ◌<◌, ◌⊎◌, true, take, length, map, string_bytes, IfOk, IfErr, IfSome, Some, None};
+ghost use Rattle.std.specs.Str.{IsUtf8};
 ghost use Rattle.its_top.specs.Commands.{asked, IfGenerates};
 ghost use Rattle.its_top.specs.Outcomes.{usage};
-ghost use Rattle.its_top.specs.declared.commands.Command.TheVariants as commands;
-ghost use Rattle.its_web.specs.Answers.{code_of, gives, status_given, Answers, Assembles, Checks, Generates, Given, Judges, Runs};
+ghost use Rattle.its_top.specs.declared.commands.words.Command.TheVariants as commands;
+ghost use Rattle.its_web.specs.Answers.{code_of, gives, status_given, to_write, Answers, Assembles, Checks, Generates, Given, Judges, Runs};
 ghost use Rattle.its_web.specs.Words.{words_of, command_in};
 
 #[cfg(test)]
@@ -31,10 +33,12 @@ const NO_MEMORY: u8 = 5;
 
 const NO_WORD: u8 = 7;
 
-/// Obeys the command with this name and this number, which is empty if it has none, on an input. What the program writes goes to
-/// the front of `out`, and `count` is its length. The answer is the exit status of the program, with these differences: no read fails,
-/// so there is no 3; 4 says that `out` is too short, and 7 that a word is not UTF-8. At 4, 5 and 7 nothing is given. What the program
-/// promises of each status is what `its_top::its` promises.
+/// Obeys the command with this name and this number, which is empty if it has none, on an input.
+/// What the program writes goes to the front of `out`, and `count` is its length. The answer is the
+/// exit status of the program, with these differences: no read fails, so there is no 3; 4 says that
+/// `out` is too short, and 7 that a word is not UTF-8. At 4, 5 and 7 nothing is given. What the
+/// program promises of each status is what `its_top::its` promises. Split for its proof:
+/// `its_call_row` says what is done.
 #[unsafe(no_mangle)]
 #[tactic(auto, using(crate::proofs::AnswerLaws::answers))]
 pub extern "C" fn its_call(
@@ -54,14 +58,16 @@ pub extern "C" fn its_call(
     ensures usage { result ≡ 1 → (take count.new out.new ≡ usage) × (command_in command.now number.now ≡ None) }
     ensures no_command { command_in command.now number.now ≡ None → ((result ≡ 1) ⊎ (result ≡ 4)) ⊎ ((result ≡ 5) ⊎ (result ≡ 7)) }
     ensures nothing { status_given result ≡ None → count.new ≡ 0 }
+    ensures short { result ≡ 4 → length out.new < length (to_write (command_in command.now number.now) input.now) }
+    ensures text { result ≡ 7 → IsUtf8 command.now → IsUtf8 number.now → ⊥ }
     ensures statuses { (result ≢ 3) × (result ≤ 7) }
 {
-    answer_words(alloc, command, number, input, out, count)
+    its_call_row(alloc, command, number, input, out, count)
 }
 
-/// The same, by what is said of the one command that the words are.
+/// Obeys the command that the words are, as one row: what is said of that command.
 #[tactic(auto, using(crate::proofs::AnswerLaws::by_command))]
-fn answer_words(
+fn its_call_row(
     alloc: Global,
     command: &[u8],
     number: &[u8],
@@ -70,6 +76,7 @@ fn answer_words(
     count: &mut usize,
 ) -> u8
     ensures answers { Answers (command_in command.now number.now) result input.now count.new out.new }
+    ensures text { result ≡ 7 → IsUtf8 command.now → IsUtf8 number.now → ⊥ }
 {
     *count = 0;
     match words_of(alloc, command, number) {
@@ -83,12 +90,14 @@ fn answer_words(
 fn obey(alloc: Global, words: &[String], input: &[u8], out: &mut [u8], count: &mut usize) -> u8
     requires none { count.old ≡ 0 }
     ensures answers { Answers (asked words.now) result input.now count.new out.new }
+    ensures text { result ≢ 7 }
 {
     let mut src = match SafeSource::open(alloc, input) {
         Ok(src) => src,
         Err(_) => return NO_MEMORY,
     };
-    let mut sink = match MemSink::open(alloc, out.len(), &[]) {
+    // With more room than `out` has, the sink is full only after more bytes than fit into `out`.
+    let mut sink = match MemSink::open(alloc, out.len().saturating_add(1), &[]) {
         Ok(sink) => sink,
         Err(_) => return NO_MEMORY,
     };
@@ -97,9 +106,11 @@ fn obey(alloc: Global, words: &[String], input: &[u8], out: &mut [u8], count: &m
 }
 
 /// Gives what the program wrote, if its status comes with bytes and there is room for them.
+#[tactic(auto, using(crate::proofs::AnswerLaws::code_given, crate::proofs::AnswerLaws::code_is_status))]
 fn give(status: Status, wrote: &[u8], out: &mut [u8], count: &mut usize) -> u8
     requires none { count.old ≡ 0 }
     ensures given { Given result status wrote.now count.new out.new }
+    ensures text { result ≢ 7 }
 {
     let size = wrote.len();
     if size > out.len() {
@@ -112,7 +123,8 @@ fn give(status: Status, wrote: &[u8], out: &mut [u8], count: &mut usize) -> u8
     exit_status(status)
 }
 
-/// The exit status of an answer of the program.
+/// The exit status of an answer of the program. If the sink was full, `out` is too short, and that
+/// is seen before.
 fn exit_status(status: Status) -> u8
     ensures { result ≡ code_of status }
 {
@@ -121,7 +133,7 @@ fn exit_status(status: Status) -> u8
         Status::Usage => 1,
         Status::Refused => 2,
         Status::ReadFault => 3,
-        Status::WriteFault => TOO_SHORT,
+        Status::WriteFault => NO_MEMORY,
         Status::NoMemory => NO_MEMORY,
         Status::TooLong => 6,
     }
@@ -141,6 +153,7 @@ fn has_bytes(status: Status) -> bool
 fn words_of(alloc: Global, name: &[u8], number: &[u8]) -> Result<Vec<String>, u8>
     ensures words { IfOk result (λ words. map string_bytes words.items ≡ words_of name.now number.now) }
     ensures answer { IfErr result (λ e. (e ≡ 5) ⊎ (e ≡ 7)) }
+    ensures text { IfErr result (λ e. e ≡ 7 → IsUtf8 name.now → IsUtf8 number.now → ⊥) }
 {
     let mut words = Vec::new(alloc);
     words.push(word_of(alloc, name)?).map_err(|_| NO_MEMORY)?;
@@ -154,6 +167,7 @@ fn words_of(alloc: Global, name: &[u8], number: &[u8]) -> Result<Vec<String>, u8
 fn word_of(alloc: Global, bytes: &[u8]) -> Result<String, u8>
     ensures word { IfOk result (λ word. string_bytes word ≡ bytes.now) }
     ensures answer { IfErr result (λ e. (e ≡ 5) ⊎ (e ≡ 7)) }
+    ensures text { IfErr result (λ e. e ≡ 7 → IsUtf8 bytes.now → ⊥) }
 {
     match str::from_utf8(bytes) {
         Ok(word) => String::from_str(alloc, word).map_err(|_| NO_MEMORY),

@@ -1,4 +1,5 @@
-//! Calls as C makes them: each command, a buffer that is too short, and a word that is no text.
+//! Calls as C makes them: each command, a buffer that fits exactly or is too short, and a word that
+//! is no text.
 
 use super::its_call;
 use std::alloc::Global;
@@ -42,6 +43,14 @@ fn calls(rt: HostRuntime) -> Result<(), Fail> {
     gives(alloc, &rt, (b"run", ""), FIRST, 1000, (0, FIRST_OUT))?;
     gives(alloc, &rt, (b"run", ""), FIRST, size, (0, FIRST_OUT))?;
     gives(alloc, &rt, (b"run", ""), FIRST, size - 1, (4, ""))?;
+    gives(alloc, &rt, (b"run", ""), FIRST, 0, (4, ""))?;
+    let refused = "? 1 SYNTAX\n";
+    gives(alloc, &rt, (b"run", ""), "TICK 0\n", 11, (2, refused))?;
+    gives(alloc, &rt, (b"run", ""), "TICK 0\n", 10, (4, ""))?;
+    gives(alloc, &rt, (b"check", ""), FIRST, 5, (0, "OK 6\n"))?;
+    gives(alloc, &rt, (b"check", ""), FIRST, 4, (4, ""))?;
+    gives(alloc, &rt, (b"gen", "123456"), "", 70, (1, USAGE))?;
+    gives(alloc, &rt, (b"gen", "\u{e9}"), "", 70, (1, USAGE))?;
     gives(
         alloc,
         &rt,

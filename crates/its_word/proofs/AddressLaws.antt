@@ -11,20 +11,23 @@ use Rattle.its_word.specs.declared.access.Fault.{Fault}
 use Rattle.its_word.specs.declared.access.Fault.TheVariants.{Mpv, Ilo}
 
 -- I is 0
-pub calculation_direct : (n : ℕ) (c : Core) (w : ℕ) (last : Option ℕ) → is_indirect w ≡ false → calculation n c w last ≡ reading (index_places w) (found n (indexed c w) (last_used c w last))
+pub calculation_direct : (n : ℕ) (c : Core) (w : ℕ) (last : Option ℕ) → is_indirect w ≡ false
+    → calculation n c w last ≡ reading (index_places w) (found n (indexed c w) (last_used c w last))
 unfolding calculation
 calculation_direct zero c w last h = rw h refl
 calculation_direct (suc n) c w last h = rw h refl
 
 -- the whole calculation, if I of its first word is 0
-pub direct_answer : (c : Core) (w used : ℕ) → is_indirect w ≡ false → (address c w used).answer ≡ Ok (record { e = indexed c w; flags_word = last_used c w None })
+pub direct_answer : (c : Core) (w used : ℕ) → is_indirect w ≡ false
+    → (address c w used).answer ≡ Ok (record { e = indexed c w; flags_word = last_used c w None })
 direct_answer c w used h = ap (λ r. r.answer) (calculation_direct (budget - used) c w None h)
 
 pub direct_used : (c : Core) (w used : ℕ) → is_indirect w ≡ false → used ≤ budget → (address c w used).used ≡ used
 direct_used c w used h le = ap (λ r. r.used) (calculation_direct (budget - used) c w None h) ∙ omega arith
 
 -- I is 1 and nothing is left of the budget
-pub calculation_spent : (n : ℕ) (c : Core) (w : ℕ) (last : Option ℕ) → is_indirect w ≡ true → n ≡ 0 → calculation n c w last ≡ reading (index_places w) (failed 0 Ilo)
+pub calculation_spent : (n : ℕ) (c : Core) (w : ℕ) (last : Option ℕ) → is_indirect w ≡ true → n ≡ 0
+    → calculation n c w last ≡ reading (index_places w) (failed 0 Ilo)
 unfolding calculation
 calculation_spent zero c w last h e = rw h refl
 calculation_spent (suc n) c w last h e = absurd (omega arith)
@@ -73,14 +76,16 @@ along_more c w used reads now word last seen v a i ne e =
     let f = a.few in
     let s = calculation_more (budget - now) c word last v i (λ z. ne (omega arith)) e in
     let n : budget - now - 1 ≡ budget - (now + 1) = omega arith in
-    let t : calculation (budget - now) c word last ≡ reading (index_places word) (reading (indexed c word ∷ []) (calculation (budget - (now + 1)) c v (Some v))) = rw (← n) s in
+    let t : calculation (budget - now) c word last ≡ reading (index_places word)
+    (reading (indexed c word ∷ []) (calculation (budget - (now + 1)) c v (Some v))) = rw (← n) s in
     let p = index_places_few word in
     let x = length-append (seen ++ index_places word) (indexed c word ∷ []) in
     let y = length-append seen (index_places word) in
     record {
       answer = a.answer ∙ ap (λ r. r.answer) t;
       spent = a.spent ∙ ap (λ r. r.used) t;
-      places = a.places ∙ ap (λ r. seen ++ r.reads) t ∙ joined seen (index_places word) (indexed c word) (calculation (budget - (now + 1)) c v (Some v)).reads;
+      places = a.places ∙ ap (λ r. seen ++ r.reads) t ∙ joined seen (index_places word) (indexed c word)
+          (calculation (budget - (now + 1)) c v (Some v)).reads;
       more = omega arith;
       most = omega arith;
       few = omega arith;

@@ -33,7 +33,8 @@ set_same (y ∷ ys) zero x h = let e : y ≡ x = cc in ap (λ z. z ∷ ys) (sym 
 set_same (y ∷ ys) (suc i) x h = ap (λ z. y ∷ z) (set_same ys i x h)
 
 -- a page of the list, after a word of it was stored
-page_set : (ps : List (Option Page)) (k j w : ℕ) → present (slice_get (slice_set ps k (page_stored (present (slice_get ps k)) j w)) k) ≡ page_stored (present (slice_get ps k)) j w
+page_set : (ps : List (Option Page)) (k j w : ℕ) → present (slice_get (slice_set ps k (page_stored (present (slice_get ps k)) j w)) k) ≡
+    page_stored (present (slice_get ps k)) j w
 page_set [] k j w = refl
 page_set (Some p ∷ ps) zero j w = refl
 page_set (None ∷ ps) zero j w = refl
@@ -101,7 +102,8 @@ pub store_acc : (c : Core) (a w : ℕ) → nat_lt a 16 ≡ true → store c a w 
 unfolding store
 store_acc c a w t = rw t refl
 
-pub store_page : (c : Core) (a w : ℕ) → nat_lt a 16 ≡ false → store c a w ≡ record c { pages = slice_set c.pages (a / 1024) (page_stored (page_of c (a / 1024)) (a % 1024) w) }
+pub store_page : (c : Core) (a w : ℕ) → nat_lt a 16 ≡ false → store c a w ≡ record c
+    { pages = slice_set c.pages (a / 1024) (page_stored (page_of c (a / 1024)) (a % 1024) w) }
 unfolding store
 store_page c a w t = rw t refl
 
@@ -130,7 +132,8 @@ accs_store_acc c a w t = rw t refl
 pub word_at-store_same : (c : Core) (a w : ℕ) → can_store c a ≡ true → word_at (store c a w) a ≡ Some w
 word_at-store_same c a w h = elim (cases_Bool (nat_lt a 16)) [
   | inl t ↦ in_accs (store c a w) a t ∙ ap (λ xs. slice_get xs a) (accs_store_acc c a w t) ∙ get_set c.accs a w (sym (stores_acc c a t) ∙ h)
-  | inr t ↦ in_page (store c a w) a t ∙ ap (λ p. word_in p (a % 1024)) (page_of_store c a w t) ∙ word_stored_same (page_of c (a / 1024)) (a % 1024) w (sym (stores_page c a t) ∙ h)
+  | inr t ↦ in_page (store c a w) a t ∙ ap (λ p. word_in p (a % 1024)) (page_of_store c a w t)
+      ∙ word_stored_same (page_of c (a / 1024)) (a % 1024) w (sym (stores_page c a t) ∙ h)
 ]
 
 -- the word of a page at another address, after a store
@@ -139,7 +142,8 @@ page_other : (c : Core) (a b w : ℕ) → b ≢ a → nat_lt b 16 ≡ false
 page_other c a b w ne t = elim (cases_Bool (nat_lt a 16)) [
   | inl s ↦ ap (λ p. word_in p (b % 1024)) (page_of_store_acc c a w (b / 1024) s)
   | inr s ↦ elim (cases_eq (b / 1024) (a / 1024)) [
-    | inl e ↦ rw e (ap (λ p. word_in p (b % 1024)) (page_of_store c a w s) ∙ word_stored_other (page_of c (a / 1024)) (a % 1024) (b % 1024) w (λ r. ne (omega arith)))
+    | inl e ↦ rw e (ap (λ p. word_in p (b % 1024)) (page_of_store c a w s)
+        ∙ word_stored_other (page_of c (a / 1024)) (a % 1024) (b % 1024) w (λ r. ne (omega arith)))
     | inr n ↦ ap (λ p. word_in p (b % 1024)) (page_of_store_other c a w (b / 1024) n)
   ]
 ]
@@ -178,14 +182,16 @@ page_alike f same c a w k = elim (cases_Bool (nat_lt a 16)) [
 pub is_some-store : (c : Core) (a b w : ℕ) → is_some (word_at (store c a w) b) ≡ is_some (word_at c b)
 is_some-store c a b w = elim (cases_Bool (nat_lt b 16)) [
   | inl t ↦ ap is_some (in_accs (store c a w) b t) ∙ some_accs c a b w ∙ sym (ap is_some (in_accs c b t))
-  | inr t ↦ ap is_some (in_page (store c a w) b t) ∙ page_alike (λ p. is_some (word_in p (b % 1024))) (λ p i v. some_stored p i (b % 1024) v) c a w (b / 1024) ∙ sym (ap is_some (in_page c b t))
+  | inr t ↦ ap is_some (in_page (store c a w) b t) ∙ page_alike (λ p. is_some (word_in p (b % 1024)))
+      (λ p i v. some_stored p i (b % 1024) v) c a w (b / 1024) ∙ sym (ap is_some (in_page c b t))
 ]
 
 -- a store does not change at which addresses words can be stored
 pub can_store-store : (c : Core) (a b w : ℕ) → can_store (store c a w) b ≡ can_store c b
 can_store-store c a b w = elim (cases_Bool (nat_lt b 16)) [
   | inl t ↦ stores_acc (store c a w) b t ∙ some_accs c a b w ∙ sym (stores_acc c b t)
-  | inr t ↦ stores_page (store c a w) b t ∙ page_alike (λ p. stores_in p (b % 1024)) (λ p i v. stores_stored p i (b % 1024) v) c a w (b / 1024) ∙ sym (stores_page c b t)
+  | inr t ↦ stores_page (store c a w) b t ∙ page_alike (λ p. stores_in p (b % 1024)) (λ p i v. stores_stored p i (b % 1024) v) c a w
+      (b / 1024) ∙ sym (stores_page c b t)
 ]
 
 -- if a word can be stored there is one
@@ -207,9 +213,11 @@ pages_twice ps k j v w =
 pages_comm_same : (ps : List (Option Page)) (k i j v w : ℕ) → i ≢ j → pages_stored (pages_stored ps k i v) k j w ≡ pages_stored (pages_stored ps k j w) k i v
 unfolding pages_stored
 pages_comm_same ps k i j v w ne =
-    set-set ps k _ _ ∙ ap (λ p. slice_set ps k p) (ap (λ p. page_stored p j w) (page_set ps k i v) ∙ stored_comm (present (slice_get ps k)) i j v w ne ∙ sym (ap (λ p. page_stored p i v) (page_set ps k j w))) ∙ sym (set-set ps k _ _)
+    set-set ps k _ _ ∙ ap (λ p. slice_set ps k p) (ap (λ p. page_stored p j w) (page_set ps k i v)
+    ∙ stored_comm (present (slice_get ps k)) i j v w ne ∙ sym (ap (λ p. page_stored p i v) (page_set ps k j w))) ∙ sym (set-set ps k _ _)
 
-pages_comm_other : (ps : List (Option Page)) (k l i j v w : ℕ) → k ≢ l → pages_stored (pages_stored ps k i v) l j w ≡ pages_stored (pages_stored ps l j w) k i v
+pages_comm_other : (ps : List (Option Page)) (k l i j v w : ℕ) → k ≢ l
+    → pages_stored (pages_stored ps k i v) l j w ≡ pages_stored (pages_stored ps l j w) k i v
 unfolding pages_stored
 pages_comm_other ps k l i j v w ne =
     let x = page_stored (present (slice_get ps k)) i v in
@@ -218,7 +226,8 @@ pages_comm_other ps k l i j v w ne =
     ∙ set_comm ps k l x y ne
     ∙ sym (ap (λ p. slice_set (slice_set ps l y) k (page_stored (present p) i v)) (get_set_other ps l k y ne))
 
-pages_here : (ps : List (Option Page)) (k j w : ℕ) (q : Option (Option Page)) → slice_get ps k ≡ q → word_in (present q) j ≡ Some w → slice_set ps k (page_stored (present q) j w) ≡ ps
+pages_here : (ps : List (Option Page)) (k j w : ℕ) (q : Option (Option Page)) → slice_get ps k ≡ q → word_in (present q) j ≡ Some w
+    → slice_set ps k (page_stored (present q) j w) ≡ ps
 pages_here ps k j w (Some (Some p)) e h = set_same ps k _ (e ∙ ap Some (sym (stored_here (Some p) j w h)))
 pages_here ps k j w (Some None) e h = cc
 pages_here ps k j w None e h = cc
@@ -238,7 +247,8 @@ stored_twice true c a v w = ap (λ xs. record c { accs = xs }) (set-set c.accs a
 stored_twice false c a v w = ap (λ ps. record c { pages = ps }) (pages_twice c.pages (a / 1024) (a % 1024) v w)
 
 pages_comm : (ps : List (Option Page)) (a b v w : ℕ) → a ≢ b
-    → pages_stored (pages_stored ps (a / 1024) (a % 1024) v) (b / 1024) (b % 1024) w ≡ pages_stored (pages_stored ps (b / 1024) (b % 1024) w) (a / 1024) (a % 1024) v
+    → pages_stored (pages_stored ps (a / 1024) (a % 1024) v) (b / 1024) (b % 1024) w ≡ pages_stored
+    (pages_stored ps (b / 1024) (b % 1024) w) (a / 1024) (a % 1024) v
 pages_comm ps a b v w ne = elim (cases_eq (b / 1024) (a / 1024)) [
   | inl e ↦ rw e (pages_comm_same ps (a / 1024) (a % 1024) (b % 1024) v w (λ r. ne (omega arith)))
   | inr n ↦ pages_comm_other ps (a / 1024) (b / 1024) (a % 1024) (b % 1024) v w (λ r. n (sym r))
@@ -262,7 +272,8 @@ stored_here_page c a w h = ap (λ ps. record c { pages = ps }) (pages_here c.pag
 -- of two stores at one address the second stays
 pub store-store : (c : Core) (a v w : ℕ) → store (store c a v) a w ≡ store c a w
 store-store c a v w =
-    stored_by_is (store c a v) a w ∙ ap (λ d. stored_by (nat_lt a 16) d a w) (stored_by_is c a v) ∙ stored_twice (nat_lt a 16) c a v w ∙ sym (stored_by_is c a w)
+    stored_by_is (store c a v) a w ∙ ap (λ d. stored_by (nat_lt a 16) d a w) (stored_by_is c a v) ∙ stored_twice (nat_lt a 16) c a v w
+    ∙ sym (stored_by_is c a w)
 
 -- stores at two addresses can change places
 pub store_comm : (c : Core) (a b v w : ℕ) → a ≢ b → store (store c a v) b w ≡ store (store c b w) a v

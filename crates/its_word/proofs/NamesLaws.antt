@@ -13,7 +13,8 @@ pub record Alike (a b : List ℕ) : Type 0 where
 pub alike : (a b : List ℕ) → same_names a b ≡ true → Alike a b
 unfolding same_names
 alike a b e =
-    let p = and_parts (eqb (slice_index_or a 0 0) (slice_index_or b 0 0)) (eqb (slice_index_or a 1 0) (slice_index_or b 1 0) && eqb (slice_index_or a 2 0) (slice_index_or b 2 0)) e in
+    let p = and_parts (eqb (slice_index_or a 0 0) (slice_index_or b 0 0))
+    (eqb (slice_index_or a 1 0) (slice_index_or b 1 0) && eqb (slice_index_or a 2 0) (slice_index_or b 2 0)) e in
     let q = and_parts (eqb (slice_index_or a 1 0) (slice_index_or b 1 0)) (eqb (slice_index_or a 2 0) (slice_index_or b 2 0)) p.1 in
     record {
       directory = eqb-true (slice_index_or a 0 0) (slice_index_or b 0 0) p.0;
@@ -24,12 +25,15 @@ alike a b e =
 same : (a b : List ℕ) → Alike a b → same_names a b ≡ true
 unfolding same_names
 same a b h =
-    and_from (eqb (slice_index_or a 0 0) (slice_index_or b 0 0)) (eqb (slice_index_or a 1 0) (slice_index_or b 1 0) && eqb (slice_index_or a 2 0) (slice_index_or b 2 0))
+    and_from (eqb (slice_index_or a 0 0) (slice_index_or b 0 0))
+    (eqb (slice_index_or a 1 0) (slice_index_or b 1 0) && eqb (slice_index_or a 2 0) (slice_index_or b 2 0))
     (eq-eqb (slice_index_or a 0 0) (slice_index_or b 0 0) h.directory)
-    (and_from (eqb (slice_index_or a 1 0) (slice_index_or b 1 0)) (eqb (slice_index_or a 2 0) (slice_index_or b 2 0)) (eq-eqb (slice_index_or a 1 0) (slice_index_or b 1 0) h.first) (eq-eqb (slice_index_or a 2 0) (slice_index_or b 2 0) h.second))
+    (and_from (eqb (slice_index_or a 1 0) (slice_index_or b 1 0)) (eqb (slice_index_or a 2 0) (slice_index_or b 2 0))
+    (eq-eqb (slice_index_or a 1 0) (slice_index_or b 1 0) h.first) (eq-eqb (slice_index_or a 2 0) (slice_index_or b 2 0) h.second))
 
 pub same_three : (a b : List ℕ) → length a ≡ 3 → length b ≡ 3 → same_names a b ≡ true → b ≡ a
-same_three (a ∷ b ∷ c ∷ []) (x ∷ y ∷ z ∷ []) l m e = let p = alike (a ∷ b ∷ c ∷ []) (x ∷ y ∷ z ∷ []) e in λ i. sym p.directory i ∷ sym p.first i ∷ sym p.second i ∷ []
+same_three (a ∷ b ∷ c ∷ []) (x ∷ y ∷ z ∷ []) l m e = let p = alike (a ∷ b ∷ c ∷ []) (x ∷ y ∷ z ∷ []) e in λ i. sym p.directory i
+    ∷ sym p.first i ∷ sym p.second i ∷ []
 same_three (a ∷ b ∷ c ∷ []) [] l m e = absurd (omega (arith, m))
 same_three (a ∷ b ∷ c ∷ []) (x ∷ []) l m e = absurd (omega (arith, m))
 same_three (a ∷ b ∷ c ∷ []) (x ∷ y ∷ []) l m e = absurd (omega (arith, m))

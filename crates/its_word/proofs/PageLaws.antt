@@ -73,18 +73,22 @@ abbrev pub one_if : {X : Type 0} → Option X → ℕ
 one_if p = cond (is_some p) 1 0
 
 -- one page more or less
-pub pages_present-with_page : (c : Core) (k : ℕ) (p : Option Page) → k < length c.pages → pages_present (with_page c k p) + one_if (page_of c k) ≡ pages_present c + one_if p
+pub pages_present-with_page : (c : Core) (k : ℕ) (p : Option Page) → k < length c.pages
+    → pages_present (with_page c k p) + one_if (page_of c k) ≡ pages_present c + one_if p
 unfolding pages_present with_page page_of
 pages_present-with_page c k p h = rw present-slice_get (sum_by-set (λ q. cond (is_some q) 1 0) c.pages k p None h)
 
 count_stored : (ps : List (Option Page)) (k j w : ℕ) → count_by is_some (slice_set ps k (page_stored (present (slice_get ps k)) j w)) ≡ count_by is_some ps
 count_stored [] k j w = refl
-count_stored (Some p ∷ ps) zero j w = sum_by-cons (λ q. cond (is_some q) 1 0) (page_stored (Some p) j w) ps ∙ sym (sum_by-cons (λ q. cond (is_some q) 1 0) (Some p) ps)
+count_stored (Some p ∷ ps) zero j w = sum_by-cons (λ q. cond (is_some q) 1 0) (page_stored (Some p) j w) ps
+    ∙ sym (sum_by-cons (λ q. cond (is_some q) 1 0) (Some p) ps)
 count_stored (None ∷ ps) zero j w = refl
 count_stored (p ∷ ps) (suc k) j w =
-    sum_by-cons (λ q. cond (is_some q) 1 0) p (slice_set ps k (page_stored (present (slice_get ps k)) j w)) ∙ ap (λ n. one_if p + n) (count_stored ps k j w) ∙ sym (sum_by-cons (λ q. cond (is_some q) 1 0) p ps)
+    sum_by-cons (λ q. cond (is_some q) 1 0) p (slice_set ps k (page_stored (present (slice_get ps k)) j w))
+    ∙ ap (λ n. one_if p + n) (count_stored ps k j w) ∙ sym (sum_by-cons (λ q. cond (is_some q) 1 0) p ps)
 
-count_present : (c : Core) (a w : ℕ) → count_by is_some (slice_set c.pages (a / 1024) (page_stored (page_of c (a / 1024)) (a % 1024) w)) ≡ count_by is_some c.pages
+count_present : (c : Core) (a w : ℕ) → count_by is_some (slice_set c.pages (a / 1024) (page_stored (page_of c (a / 1024)) (a % 1024) w)) ≡
+    count_by is_some c.pages
 unfolding page_of
 count_present c a w = count_stored c.pages (a / 1024) (a % 1024) w
 
@@ -105,7 +109,8 @@ sum_alike f g a (suc n) h =
     let y = sum_by-cons f a (range_with_len (a + 1) n) in
     omega arith
 
-sum_only : (f g : ℕ → ℕ) (i a n : ℕ) → a ≤ i → i < a + n → ((k : ℕ) → k ≢ i → g k ≡ f k) → sum_by g (range_with_len a n) + f i ≡ sum_by f (range_with_len a n) + g i
+sum_only : (f g : ℕ → ℕ) (i a n : ℕ) → a ≤ i → i < a + n → ((k : ℕ) → k ≢ i → g k ≡ f k)
+    → sum_by g (range_with_len a n) + f i ≡ sum_by f (range_with_len a n) + g i
 sum_only f g i a zero lo hi h = absurd (omega arith)
 sum_only f g i a (suc n) lo hi h =
     let x = sum_by-cons g a (range_with_len (a + 1) n) in
@@ -123,7 +128,8 @@ sum_only f g i a (suc n) lo hi h =
     ]
 
 -- the pages of all slots, if one slot's core is another
-pub pages_mapped-only : (old new : ℕ → Core) (i : ℕ) (x : Core) → Only old new i x → i < slots → pages_mapped new + pages_present (old i) ≡ pages_mapped old + pages_present x
+pub pages_mapped-only : (old new : ℕ → Core) (i : ℕ) (x : Core) → Only old new i x → i < slots
+    → pages_mapped new + pages_present (old i) ≡ pages_mapped old + pages_present x
 unfolding pages_mapped
 pages_mapped-only old new i x o h =
     rw (sym o.here) (sum_only (λ k. pages_present (old k)) (λ k. pages_present (new k)) i 0 slots (omega arith) h (λ k ne. ap pages_present (o.others k ne)))

@@ -64,7 +64,8 @@ fault_stored c a w [] = fault_of_none (store c a w) ∙ sym (fault_of_none c)
 fault_stored c a w (s ∷ ss) =
     fault_of_cons (store c a w) s ss
     ∙ ap (λ b. option_or (refusal b (word_at (store c a w) (place s))) (first_fault (store c a w) ss)) (can_store-store c a (place s) w)
-    ∙ ap (λ r. option_or r (first_fault (store c a w) ss)) (same_refusal (can_store c (place s)) (word_at (store c a w) (place s)) (word_at c (place s)) (is_some-store c a (place s) w))
+    ∙ ap (λ r. option_or r (first_fault (store c a w) ss)) (same_refusal (can_store c (place s)) (word_at (store c a w) (place s))
+    (word_at c (place s)) (is_some-store c a (place s) w))
     ∙ ap (λ r. option_or (refused c (place s)) r) (fault_stored c a w ss)
     ∙ sym (fault_of_cons c s ss)
 
@@ -100,12 +101,14 @@ making_next old now new slot all i d m h o =
       allowed = ap (λ c. first_fault c rest) o.here ∙ fault_stored (now slot) (place s) s.word rest ∙ a;
     }
 
-pub making_goes_on : (old now new : ℕ → Core) (slot : ℕ) (all : List Store) (i : ℕ) (s : Store) → s ≡ get_or all i s → Making old now slot all (drop i all) → i < length all
+pub making_goes_on : (old now new : ℕ → Core) (slot : ℕ) (all : List Store) (i : ℕ) (s : Store) → s ≡ get_or all i s
+    → Making old now slot all (drop i all) → i < length all
     → Only now new slot (store (now slot) (place s) s.word) → Making old new slot all (drop (i + 1) all)
 making_goes_on old now new slot all i s e m h put =
     making_next old now new slot all i s m h (subst (λ t. Only now new slot (store (now slot) (place t) t.word)) e put)
 
-pub making_ends : (old now : ℕ → Core) (slot : ℕ) (all : List Store) (i : ℕ) → Making old now slot all (drop i all) → length all ≤ i → Only old now slot (stored (old slot) all)
+pub making_ends : (old now : ℕ → Core) (slot : ℕ) (all : List Store) (i : ℕ) → Making old now slot all (drop i all) → length all ≤ i
+    → Only old now slot (stored (old slot) all)
 making_ends old now slot all i m h = record {
   here = sym (stored_none (now slot)) ∙ ap (stored (now slot)) (sym (drop_of_length-le all h)) ∙ m.same;
   others = m.others;

@@ -33,7 +33,8 @@ table_alike n f g h =
     (λ k lt. let i : k < n = omega arith in get_or-table n g k (f 0) i ∙ h k i ∙ sym (get_or-table n f k (f 0) i))
 
 -- it changes at one place
-pub table_set : {X : Type 0} (n : ℕ) (f g : ℕ → X) (i : ℕ) (x : X) → i < n → g i ≡ x → ((k : ℕ) → k < n → k ≢ i → g k ≡ f k) → table n g ≡ slice_set (table n f) i x
+pub table_set : {X : Type 0} (n : ℕ) (f g : ℕ → X) (i : ℕ) (x : X) → i < n → g i ≡ x → ((k : ℕ) → k < n → k ≢ i → g k ≡ f k)
+    → table n g ≡ slice_set (table n f) i x
 table_set n f g i x lt here others =
     let a = length-table n f in
     let b = length-table n g in

@@ -23,7 +23,8 @@ below_64 i h =
     (p, q, λ lt. (let k : i ≤ 5 = omega arith in pow-le-pow_right (omega arith) k))
 
 -- a text of enough and not too many characters, all in range
-text_holds : (most low high : ℕ) (text : List ℕ) → 0 < length text → length text ≤ most → list_all (is_code low high) text ≡ true → IsTrue (is_text most low high text)
+text_holds : (most low high : ℕ) (text : List ℕ) → 0 < length text → length text ≤ most → list_all (is_code low high) text ≡ true
+    → IsTrue (is_text most low high text)
 text_holds most low high text some few ok = rw ok (grind (arith, nat_tests))
 
 -- all the digits of a number are read
@@ -67,10 +68,12 @@ first_digits : (w m : ℕ) → w < 2 ^ 36 → m ≤ 12 → number_of 8 48 (map (
 first_digits w zero below few = omega arith
 first_digits w (suc m) below few =
     let before : number_of 8 48 (map (digit_of w) (range_with_len 0 m)) ≡ w / 2 ^ (36 - 3 * m) = first_digits w m below (omega arith) in
-    let more : map (digit_of w) (range_with_len 0 (m + 1)) ≡ map (digit_of w) (range_with_len 0 m) ++ digit_of w m ∷ [] = map-range_with_len_more (digit_of w) 0 m m (omega arith) in
+    let more : map (digit_of w) (range_with_len 0 (m + 1)) ≡ map (digit_of w) (range_with_len 0 m) ++ digit_of w m
+    ∷ [] = map-range_with_len_more (digit_of w) 0 m m (omega arith) in
     let sum = digit_more w m (omega arith) in
     let e : 36 - 3 * (m + 1) ≡ 33 - 3 * m = omega arith in
-    let next : number_of 8 48 (map (digit_of w) (range_with_len 0 (m + 1))) ≡ w / 2 ^ (36 - 3 * (m + 1)) = rw (more, e, fold-append, before) (omega (arith, sum)) in
+    let next : number_of 8 48 (map (digit_of w) (range_with_len 0 (m + 1))) ≡ w / 2 ^ (36 - 3 * (m + 1)) =
+    rw (more, e, fold-append, before) (omega (arith, sum)) in
     rw add-one at next
 
 digit_is_code : (w k : ℕ) → is_code 48 55 (digit_of w k) ≡ true

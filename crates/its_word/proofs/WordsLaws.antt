@@ -23,7 +23,8 @@ position_none p xs none =
       | inr past ↦ ltb-false _ _ past
     ]
 
-filter_first : (run : List ℕ) (runs : List (List ℕ)) → filter (λ r. not (length r == 0)) (run ∷ runs) ≡ word_of_run run ++ filter (λ r. not (length r == 0)) runs
+filter_first : (run : List ℕ) (runs : List (List ℕ)) → filter (λ r. not (length r == 0)) (run ∷ runs) ≡ word_of_run run ++ filter
+    (λ r. not (length r == 0)) runs
 filter_first [] runs = refl
 filter_first (b ∷ bs) runs =
     let some : (suc (length bs) == 0) ≡ false = grind (arith, nat_tests) in
@@ -36,7 +37,8 @@ filter_one (b ∷ bs) =
     rw some refl
 
 -- a line up to its first space, and the rest
-pub words_cut : (line : List ℕ) (k : ℕ) → position (λ b. b == 32) line ≡ Some k → words_of line ≡ word_of_run (take k line) ++ words_of (take (length line - (k + 1)) (drop (k + 1) line))
+pub words_cut : (line : List ℕ) (k : ℕ) → position (λ b. b == 32) line ≡ Some k
+    → words_of line ≡ word_of_run (take k line) ++ words_of (take (length line - (k + 1)) (drop (k + 1) line))
 unfolding words_of
 words_cut line k found =
     let at = position_is (λ b. b == 32) line k found in
@@ -64,9 +66,17 @@ is_some w h = grind (arith, nat_tests)
 pub words_one : (w : List ℕ) → IsRun w → words_of w ≡ w ∷ []
 unfolding words_of
 words_one w h =
-    rw (slice_split_none (λ b. b == 32) w (λ k d below. no_space (get_or w k d) (AllPass-from_list_all (is_code 33 126) w h.visible k d below)), is_some w h.some) refl
+    rw (
+      slice_split_none (λ b. b == 32) w (λ k d below. no_space (get_or w k d)
+          (AllPass-from_list_all (is_code 33 126) w h.visible k d below)),
+      is_some w h.some,
+    ) refl
 
 pub words_first : (w rest : List ℕ) → IsRun w → words_of (w ++ 32 ∷ rest) ≡ w ∷ words_of rest
 unfolding words_of
 words_first w rest h =
-    rw (slice_split_at (λ b. b == 32) w 32 rest (λ k d below. no_space (get_or w k d) (AllPass-from_list_all (is_code 33 126) w h.visible k d below)) refl, is_some w h.some) refl
+    rw (
+      slice_split_at (λ b. b == 32) w 32 rest (λ k d below. no_space (get_or w k d)
+          (AllPass-from_list_all (is_code 33 126) w h.visible k d below)) refl,
+      is_some w h.some,
+    ) refl

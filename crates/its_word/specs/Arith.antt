@@ -1,9 +1,11 @@
 -- Integer arithmetic (processor reference manual, "Fixed point arithmetic" and "Arithmetic
 -- testing"). a is AC and s the source of the row; both are words.
 -- A promise rests on this.
-use Rattle.std.specs.Prelude.{if◌then◌else◌, ◌==◌, ◌&&◌, ◌||◌, not, ℕ, ℤ, pos, negsuc, ◌+◌, ◌*◌, ◌/◌, ◌%◌, ◌^◌, ◌+ℤ◌, ◌*ℤ◌, Bool, true, false, Option, Some, None, [], ◌∷◌, nat_le, nat_lt, int_lt, int_div, int_rem, slice_index_or}
+use Rattle.std.specs.Prelude.{if◌then◌else◌, ◌==◌, ◌&&◌, ◌||◌, not, ℕ, ℤ, pos, negsuc, ◌+◌, ◌*◌, ◌/◌, ◌%◌, ◌^◌, ◌+ℤ◌, ◌*ℤ◌, Bool, true, false, Option, Some, None, [], ◌∷◌, nat_le, nat_lt, int_lt, int_div, int_rem}
 use Rattle.std.specs.Ordering.{int_eq}
 use Rattle.its_word.specs.Flags.{CARRY_0, CARRY_1, OVERFLOW}
+use Rattle.its_word.specs.declared.instruction.Condition.{Condition}
+use Rattle.its_word.specs.declared.instruction.Condition.TheVariants.{Never, L, E, Le, A, Ge, N, G}
 use Rattle.its_word.specs.declared.result2.Result2.{Result2}
 use Rattle.its_word.specs.Result2.{one_word}
 use Rattle.its_word.specs.Word.{complement_of, floor_div, modulo, signed_of, word_of}
@@ -90,14 +92,19 @@ dividend_of a low = signed_of a *ℤ pos (2 ^ 35) +ℤ pos (low % 2 ^ 35)
 unfoldable pub div_of : ℕ → ℕ → ℕ → Option Result2
 div_of a low s = divided (dividend_of a low) (signed_of s)
 
--- CAI, CAM, JUMP, SKIP, AOJ, AOS, SOJ, SOS: the condition c is the low digit of the opcode
+-- CAI, CAM, JUMP, SKIP, AOJ, AOS, SOJ, SOS
 
--- never, less, equal, less or equal, always, greater or equal, not equal, greater
-unfoldable pub compares_of : ℕ → ℕ → ℕ → Bool
-compares_of c a b = slice_index_or (false ∷ less ∷ equal ∷ (less || equal) ∷ true ∷ not less ∷ not equal ∷ not (less || equal) ∷ []) c false
-  where
-    less : Bool
-    less = int_lt (signed_of a) (signed_of b)
+-- whether a is less than b, as signed numbers
+abbrev pub less : ℕ → ℕ → Bool
+less a b = int_lt (signed_of a) (signed_of b)
 
-    equal : Bool
-    equal = a == b
+-- whether a compares so to b
+unfoldable pub compares_of : Condition → ℕ → ℕ → Bool
+compares_of Never a b = false
+compares_of L a b = less a b
+compares_of E a b = a == b
+compares_of Le a b = less a b || a == b
+compares_of A a b = true
+compares_of Ge a b = not (less a b)
+compares_of N a b = not (a == b)
+compares_of G a b = not (less a b || a == b)

@@ -1,34 +1,34 @@
 -- Boolean functions, half words and tests (processor reference manual, "Logic", "Half word data
 -- transmission" and "Logical testing and modification").
 -- A promise rests on this.
-use Rattle.std.specs.Prelude.{◌==◌, not, ℕ, ◌-◌, ◌*◌, ◌/◌, ◌^◌, Bool, true, false, List, [], ◌∷◌, bit_and, bit_or, bit_xor, slice_index, slice_index_or}
+use Rattle.std.specs.Prelude.{◌==◌, not, ℕ, ◌-◌, ◌*◌, ◌/◌, ◌^◌, Bool, true, false, List, [], ◌∷◌, bit_and, bit_or, bit_xor, slice_index}
+use Rattle.its_word.specs.declared.instruction.BooleanOp.{BooleanOp}
+use Rattle.its_word.specs.declared.instruction.BooleanOp.TheVariants.{Setz, And, Andca, Setm, Andcm, Seta, Xor, Ior, Andcb, Eqv, Setca, Orca, Setcm, Orcm, Orcb, Seto}
+use Rattle.its_word.specs.declared.instruction.SkipWhen.{SkipWhen}
+use Rattle.its_word.specs.declared.instruction.SkipWhen.TheVariants.{NoSkip, AllZero, Always, NotAllZero}
+use Rattle.its_word.specs.declared.instruction.Modify.{Modify}
+use Rattle.its_word.specs.declared.instruction.Modify.TheVariants.{Unmodified, Zeros, Complement, Ones}
 use Rattle.its_word.specs.Word.{complement_of, left_of, pair_of, right_of}
 
--- the sixteen Boolean functions of AC and the source m, in the order of their opcodes 400, 404 ..
--- 474: SETZ, AND, ANDCA, SETM, ANDCM, SETA, XOR, IOR, ANDCB, EQV, SETCA, ORCA, SETCM, ORCM, ORCB,
--- SETO
-abbrev pub boolean_table : ℕ → ℕ → List ℕ
-boolean_table a m =
-    0
-    ∷ bit_and a m
-    ∷ bit_and (complement_of a) m
-    ∷ m
-    ∷ bit_and a (complement_of m)
-    ∷ a
-    ∷ bit_xor a m
-    ∷ bit_or a m
-    ∷ bit_and (complement_of a) (complement_of m)
-    ∷ complement_of (bit_xor a m)
-    ∷ complement_of a
-    ∷ bit_or (complement_of a) m
-    ∷ complement_of m
-    ∷ bit_or a (complement_of m)
-    ∷ bit_or (complement_of a) (complement_of m)
-    ∷ complement_of 0
-    ∷ []
-
-unfoldable pub boolean_of : ℕ → ℕ → ℕ → ℕ
-boolean_of k a m = slice_index (boolean_table a m) k
+-- the sixteen Boolean functions of AC and the source m: SETZ, AND, ANDCA, SETM, ANDCM, SETA, XOR,
+-- IOR, ANDCB, EQV, SETCA, ORCA, SETCM, ORCM, ORCB, SETO
+unfoldable pub boolean_of : BooleanOp → ℕ → ℕ → ℕ
+boolean_of Setz a m = 0
+boolean_of And a m = bit_and a m
+boolean_of Andca a m = bit_and (complement_of a) m
+boolean_of Setm a m = m
+boolean_of Andcm a m = bit_and a (complement_of m)
+boolean_of Seta a m = a
+boolean_of Xor a m = bit_xor a m
+boolean_of Ior a m = bit_or a m
+boolean_of Andcb a m = bit_and (complement_of a) (complement_of m)
+boolean_of Eqv a m = complement_of (bit_xor a m)
+boolean_of Setca a m = complement_of a
+boolean_of Orca a m = bit_or (complement_of a) m
+boolean_of Setcm a m = complement_of m
+boolean_of Orcm a m = bit_or a (complement_of m)
+boolean_of Orcb a m = bit_or (complement_of a) (complement_of m)
+boolean_of Seto a m = complement_of 0
 
 -- eighteen ones
 abbrev pub ones : ℕ
@@ -67,13 +67,19 @@ half_of k s d = slice_index (half_table s d) k
 
 -- TR, TL, TD, TS: whether a test of AC under a mask skips, before AC is changed: never; if all
 -- masked bits are 0 (E); always (A); if not all are 0 (N)
-unfoldable pub tested_of : ℕ → ℕ → ℕ → Bool
-tested_of k a mask = slice_index_or (false ∷ all_zero ∷ true ∷ not all_zero ∷ []) k false
-  where
-    all_zero : Bool
-    all_zero = bit_and a mask == 0
+abbrev pub all_zero : ℕ → ℕ → Bool
+all_zero a mask = bit_and a mask == 0
+
+unfoldable pub tested_of : SkipWhen → ℕ → ℕ → Bool
+tested_of NoSkip a mask = false
+tested_of AllZero a mask = all_zero a mask
+tested_of Always a mask = true
+tested_of NotAllZero a mask = not (all_zero a mask)
 
 -- what it leaves in AC: AC itself (N), or with the masked bits cleared (Z), complemented (C), set
 -- (O)
-unfoldable pub changed_of : ℕ → ℕ → ℕ → ℕ
-changed_of c a mask = slice_index (a ∷ bit_and a (complement_of mask) ∷ bit_xor a mask ∷ bit_or a mask ∷ []) c
+unfoldable pub changed_of : Modify → ℕ → ℕ → ℕ
+changed_of Unmodified a mask = a
+changed_of Zeros a mask = bit_and a (complement_of mask)
+changed_of Complement a mask = bit_xor a mask
+changed_of Ones a mask = bit_or a mask

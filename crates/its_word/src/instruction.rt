@@ -71,6 +71,52 @@ pub enum StackOp {
     Jra,
 }
 
+/// The Boolean functions of AC and the source, in the order of their opcodes.
+#[derive(Clone, Copy, Debug, PartialEq, Eq)]
+pub enum BooleanOp {
+    Setz,
+    And,
+    Andca,
+    Setm,
+    Andcm,
+    Seta,
+    Xor,
+    Ior,
+    Andcb,
+    Eqv,
+    Setca,
+    Orca,
+    Setcm,
+    Orcm,
+    Orcb,
+    Seto,
+}
+
+/// When a comparison or count skips or jumps: by the last letters of its mnemonic, of which `Never`
+/// has none.
+///
+/// | Condition | Letters | If |
+/// |---|---|---|
+/// | `Never` | none | never |
+/// | `L` | L | less |
+/// | `E` | E | equal |
+/// | `Le` | LE | less or equal |
+/// | `A` | A | always |
+/// | `Ge` | GE | greater or equal |
+/// | `N` | N | not equal |
+/// | `G` | G | greater |
+#[derive(Clone, Copy, Debug, PartialEq, Eq)]
+pub enum Condition {
+    Never,
+    L,
+    E,
+    Le,
+    A,
+    Ge,
+    N,
+    G,
+}
+
 /// Comparisons and counts, with eight conditions each.
 #[derive(Clone, Copy, Debug, PartialEq, Eq)]
 pub enum CompareOp {
@@ -93,6 +139,32 @@ pub enum MaskOp {
     Ts,
 }
 
+/// When a test skips: by the last letter of its mnemonic, of which `NoSkip` has none.
+///
+/// | Skip | Letter | If |
+/// |---|---|---|
+/// | `NoSkip` | none | never |
+/// | `AllZero` | E | all masked bits are 0 |
+/// | `Always` | A | always |
+/// | `NotAllZero` | N | not all masked bits are 0 |
+#[derive(Clone, Copy, Debug, PartialEq, Eq)]
+pub enum SkipWhen {
+    NoSkip,
+    AllZero,
+    Always,
+    NotAllZero,
+}
+
+/// What a test does to the masked bits of AC: nothing (N), zeros (Z), the complement (C), ones (O),
+/// by the third letter of its mnemonic.
+#[derive(Clone, Copy, Debug, PartialEq, Eq)]
+pub enum Modify {
+    Unmodified,
+    Zeros,
+    Complement,
+    Ones,
+}
+
 /// Byte instructions.
 #[derive(Clone, Copy, Debug, PartialEq, Eq)]
 pub enum ByteOp {
@@ -103,23 +175,49 @@ pub enum ByteOp {
     Dpb,
 }
 
-/// An instruction, by its opcode alone. `c` of a comparison is its condition, below 8; `k` of a
-/// Boolean function and of a half move is its place in the order of their opcodes, below 16; `k` of
-/// a test says when it skips, and `c` what it does to the masked bits, both below 4.
+/// An instruction, by its opcode alone. `k` of a half move is its place in the order of their
+/// opcodes, below 16.
 #[derive(Clone, Copy, Debug, PartialEq, Eq)]
 pub enum Instruction {
-    Move { op: MoveOp, mode: Mode },
+    Move {
+        op: MoveOp,
+        mode: Mode,
+    },
     Exch,
-    Arithmetic { op: ArithmeticOp, mode: Mode },
-    Shift { op: ShiftOp },
-    Branch { op: BranchOp },
+    Arithmetic {
+        op: ArithmeticOp,
+        mode: Mode,
+    },
+    Shift {
+        op: ShiftOp,
+    },
+    Branch {
+        op: BranchOp,
+    },
     Xct,
-    Stack { op: StackOp },
-    Compare { op: CompareOp, c: u32 },
-    Boolean { k: u32, mode: Mode },
-    Half { k: u32, mode: Mode },
-    Test { mask: MaskOp, k: u32, c: u32 },
-    Byte { op: ByteOp },
+    Stack {
+        op: StackOp,
+    },
+    Compare {
+        op: CompareOp,
+        condition: Condition,
+    },
+    Boolean {
+        op: BooleanOp,
+        mode: Mode,
+    },
+    Half {
+        k: u32,
+        mode: Mode,
+    },
+    Test {
+        mask: MaskOp,
+        skip: SkipWhen,
+        modify: Modify,
+    },
+    Byte {
+        op: ByteOp,
+    },
     Iot,
     Call,
     Break,

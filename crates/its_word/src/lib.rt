@@ -27,6 +27,7 @@ mod memory;
 mod opcode;
 mod pending;
 mod plan;
+pub mod pointer;
 mod ready;
 mod result2;
 mod runs;
@@ -43,12 +44,15 @@ pub use flags::{
     flags_in, pc_word,
 };
 pub use instruction::{
-    ArithmeticOp, BranchOp, ByteOp, CompareOp, Instruction, MaskOp, Mode, MoveOp, ShiftOp, StackOp,
+    ArithmeticOp, BooleanOp, BranchOp, ByteOp, CompareOp, Condition, Instruction, MaskOp, Mode,
+    Modify, MoveOp, ShiftOp, SkipWhen, StackOp,
 };
-pub use limits::{ADDRESSES, BUDGET, MAPPED_PAGES, SLOTS};
+pub use limits::{
+    ADDRESSES, BIT_0, BUDGET, CONSOLES, MAPPED_PAGES, MOST_SYMBOLS, MOST_WAITING, SLOTS, WORDS,
+};
 pub use location::Location;
 pub use memory::NoMemory;
-pub use opcode::decode;
+pub use opcode::{BOOLEANS, CONDITIONS, MODIFIES, SKIPS, decode};
 pub use pending::{ALR, BRK, FATAL, ILO, INF, IOC, MPV, PDL, TBL, WRO};
 pub use plan::{ChainStep, Context, Plan, Reached, Store};
 pub use ready::ReadyWords;

@@ -7,9 +7,9 @@ use Rattle.its_records.specs.declared.jobs.Job.{Job}
 use Rattle.its_core.specs.Cores.{core_at, clear_at}
 use Rattle.its_files.specs.Files.{Store, directory}
 use Rattle.its_jobs.specs.Table.{job_at, superior_at}
-use Rattle.its_plain.specs.Change.{with_alarm}
+use Rattle.its_plain.specs.Machine.Change.{with_alarm}
 use Rattle.its_plain.proofs.MachineLaws.{machine_is}
-use Rattle.its_plain.specs.OperatorClock.{clock_end}
+use Rattle.its_plain.specs.Operator.Clock.{clock_end}
 use Rattle.its_world.specs.Tidy.{Across, Tidy}
 use Rattle.its_world.specs.World.{alarm_at, raw_of, raw_at, frame_at, console_at, holder_at, mark_of, state_of, in_raw, symbols_at, AlarmBecomes}
 use Rattle.its_pipes.specs.Pipes.{piped}
@@ -37,7 +37,9 @@ module _ (old new : World) (s : ℕ) (a : Option (ℕ × ℕ)) (b : AlarmBecomes
       (alike s ∙ ap (λ x. raw_of old.files (core_at old.core s) (superior_at old.jobs s) x (job_at old.jobs s)) b.alarms.here
       ∙ realarmed old.files (core_at old.core s) (superior_at old.jobs s) (alarm_at old.alarms.items s) a (job_at old.jobs s))
       (λ k ne. alike k ∙ ap (λ x. raw_of old.files (core_at old.core k) (superior_at old.jobs k) x (job_at old.jobs k)) (b.alarms.others k ne)))
-      (λ k. ap (λ l. console_at l.items k) (consoles_as b.rest)) (λ k. ap (λ l. holder_at l k) (holders_as b.rest)) (ap directory (files_as b.rest)) (clock_as b.rest) (version_as b.rest) (λ k. ap (λ l. symbols_at l.items k) (symbols_as b.rest)) (λ k. ap (λ p. piped p k) (pipes_as b.rest)))
+      (λ k. ap (λ l. console_at l.items k) (consoles_as b.rest)) (λ k. ap (λ l. holder_at l k) (holders_as b.rest))
+      (ap directory (files_as b.rest)) (clock_as b.rest) (version_as b.rest) (λ k. ap (λ l. symbols_at l.items k) (symbols_as b.rest))
+      (λ k. ap (λ p. piped p k) (pipes_as b.rest)))
       (λ k. ap (λ l. frame_at l.items k) (frames_as b.rest)) (λ k. ap (λ t. clear_at t k) (core_as b.rest)) (ap mark_of (files_as b.rest))
 
   -- a slot that gets an alarm has a job
@@ -51,5 +53,5 @@ module _ (old new : World) (s : ℕ) (a : Option (ℕ × ℕ)) (b : AlarmBecomes
     timed = subst (λ t. t < clock_end) (sym (clock_as b.rest)) tidy.timed;
     across = subst (λ (x : Store). Across x new.jobs) (sym (files_as b.rest)) (subst (Across old.files) (sym (jobs_as b.rest)) tidy.across);
     nameless = λ k h. ap (λ l. symbols_at l.items k) (symbols_as b.rest) ∙ tidy.nameless k (sym (ap (λ t. job_at t k) (jobs_as b.rest)) ∙ h);
-    ringed = b.ringed tidy.ringed;
+    on_lists = b.on_lists tidy.on_lists;
   }

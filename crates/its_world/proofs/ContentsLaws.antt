@@ -24,8 +24,8 @@ module _ {p q : Contents} (e : p ≡ q) where
   pub clock_as : p.clock ≡ q.clock
   clock_as = λ t. (e t).clock
 
-  pub rings_as : p.rings ≡ q.rings
-  rings_as = λ t. (e t).rings
+  pub lists_as : p.wait_lists ≡ q.wait_lists
+  lists_as = λ t. (e t).wait_lists
 
   pub version_as : p.version ≡ q.version
   version_as = λ t. (e t).version

@@ -7,7 +7,7 @@ pub mod StorageLaws
 pub mod ChannelLaws
 pub mod MadeLaws
 pub mod MappedLaws
-pub mod RingLaws
+pub mod WaitListLaws
 pub mod PlaceLaws
 pub mod FilingLaws
 pub mod BlockedLaws

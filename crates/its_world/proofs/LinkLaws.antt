@@ -6,13 +6,13 @@ use Rattle.its_records.specs.declared.jobs.Channel.{Channel}
 use Rattle.its_records.specs.declared.jobs.Channel.TheVariants.{Closed, Reading, Writing, Link}
 use Rattle.its_core.specs.Cores.{core_at}
 use Rattle.its_files.specs.Files.{Store}
-use Rattle.its_frame.specs.declared.change.Change.TheVariants.{Join, Part}
+use Rattle.its_frame.specs.declared.change.Change.TheVariants.{Join, CloseEnd}
 use Rattle.its_jobs.specs.Table.{Table, job_at}
 use Rattle.its_pipes.specs.Pipes.{piped}
-use Rattle.its_plain.specs.Change.{effect, after_end_close, link_or_new, with_end_opened}
+use Rattle.its_plain.specs.Machine.Change.{effect, after_end_close, link_or_new, with_end_opened}
 use Rattle.its_plain.specs.Machine.{Shut, Linked, Pipe}
-use Rattle.its_plain.specs.OperatorClock.{clock_end}
-use Rattle.its_plain.specs.Own.{on_channel}
+use Rattle.its_plain.specs.Operator.Clock.{clock_end}
+use Rattle.its_plain.specs.Machine.Own.{on_channel}
 use Rattle.its_stepped.specs.Commit.{effect_on}
 use Rattle.its_world.specs.Storage.{chan_in, IsElsewhere}
 use Rattle.its_world.specs.Tidy.{channel_at, Across, Tidy}
@@ -35,7 +35,7 @@ module _ (old mid : World) (l : ℕ) (p : Option Pipe) (b : LinkBecomes old mid 
     quiet = λ k h. ap (λ a. alarm_at a.items k) (alarms_as b.rest) ∙ tidy.quiet k (sym (ap (λ t. job_at t k) (jobs_as b.rest)) ∙ h);
     timed = subst (λ t. t < clock_end) (sym (clock_as b.rest)) tidy.timed;
     across = subst (λ (x : Store). Across x mid.jobs) (sym (files_as b.rest)) (subst (Across old.files) (sym (jobs_as b.rest)) tidy.across);
-    ringed = b.ringed tidy.ringed;
+    on_lists = b.on_lists tidy.on_lists;
     nameless = λ k h. ap (λ s. symbols_at s.items k) (symbols_as b.rest) ∙ tidy.nameless k (sym (ap (λ t. job_at t k) (jobs_as b.rest)) ∙ h);
   }
 
@@ -48,14 +48,16 @@ module _ (old mid : World) (l : ℕ) (p : Option Pipe) (b : LinkBecomes old mid 
   pub link_elsewhere : (s n r : ℕ) (write : Bool) → chan_in (state_of old) s n ≡ Linked r write → IsElsewhere (channel_at mid.jobs s n)
   link_elsewhere s n r write h = elsewhere_after s n (linked_elsewhere old.files (channel_at old.jobs s n) r write (sym (chan_is old s n) ∙ h))
 
-pub joined_row : (old mid new : World) (s n l x y : ℕ) (write : Bool) → LinkBecomes old mid l (Some (with_end_opened write s n (link_or_new x y (piped old.pipes l))))
-    → state_of new ≡ in_raw (state_of mid) s (on_channel n (λ c. chan_of mid.files (Link l write))) → state_of new ≡ effect_on (Join n l write x y) s (state_of old)
+pub joined_row : (old mid new : World) (s n l x y : ℕ) (write : Bool)
+    → LinkBecomes old mid l (Some (with_end_opened write s n (link_or_new x y (piped old.pipes l))))
+    → state_of new ≡ in_raw (state_of mid) s (on_channel n (λ c. chan_of mid.files (Link l write)))
+    → state_of new ≡ effect_on (Join n l write x y) s (state_of old)
 unfolding effect_on effect
 joined_row old mid new s n l x y write b put =
     put ∙ ap (λ w. in_raw w s (on_channel n (λ c. Linked l write))) (link_state old mid l (λ o. Some (with_end_opened write s n (link_or_new x y o))) b)
 
 pub parted_row : (old mid new : World) (s n l : ℕ) (write : Bool) → LinkBecomes old mid l (after_end_close write (piped old.pipes l))
-    → state_of new ≡ in_raw (state_of mid) s (on_channel n (λ c. chan_of mid.files Closed)) → state_of new ≡ effect_on (Part n l write) s (state_of old)
+    → state_of new ≡ in_raw (state_of mid) s (on_channel n (λ c. chan_of mid.files Closed)) → state_of new ≡ effect_on (CloseEnd n l write) s (state_of old)
 unfolding effect_on effect
 parted_row old mid new s n l write b put =
     put ∙ ap (λ w. in_raw w s (on_channel n (λ c. Shut))) (link_state old mid l (after_end_close write) b)

@@ -12,22 +12,23 @@ use Rattle.its_jobs.specs.Table.{job_at, superior_at}
 use Rattle.its_plain.specs.Machine.{Whole, whole, changed, limit, with_new}
 use Rattle.its_plain.proofs.MachineLaws.{machine_is}
 use Rattle.its_stepped.specs.Lines.{with_raw}
-use Rattle.its_stepped.proofs.FrameLaws.{changed_only, changed_same}
+use Rattle.its_stepped.proofs.Frame.FrameLaws.{changed_only, changed_same}
 use Rattle.its_world.specs.Made.{JobMade}
-use Rattle.its_plain.specs.OperatorClock.{clock_end}
+use Rattle.its_plain.specs.Operator.Clock.{clock_end}
 use Rattle.its_world.specs.Tidy.{channel_by, channel_at, Across, Tidy}
 use Rattle.its_world.specs.World.{alarm_at, raw_of, raw_at, frame_at, console_at, holder_at, mark_of, state_of, symbols_at}
 use Rattle.its_pipes.specs.Pipes.{piped}
 use Rattle.its_world.specs.declared.world.World.{World}
-use Rattle.its_machine.proofs.AcrossLaws.{across_table}
-use Rattle.its_machine.proofs.PartLaws.{fresh_closed, fresh_raw}
-use Rattle.its_world.proofs.PlaceLaws.{doors_in, made_ringed}
+use Rattle.its_shared.proofs.AcrossLaws.{across_table}
+use Rattle.its_shared.proofs.PartLaws.{fresh_closed, fresh_raw}
+use Rattle.its_world.proofs.PlaceLaws.{doors_in, made_on_lists}
 use Rattle.its_world.proofs.StateLaws.{state_is}
 use Rattle.its_world.proofs.StorageLaws.{raw_has}
-use Rattle.its_world.proofs.ContentsLaws.{core_as, frames_as, consoles_as, holders_as, files_as, clock_as, rings_as, version_as, symbols_as, alarms_as, pipes_as}
+use Rattle.its_world.proofs.ContentsLaws.{core_as, frames_as, consoles_as, holders_as, files_as, clock_as, lists_as, version_as, symbols_as, alarms_as, pipes_as}
 
 module _ (old new : World) (s u n : ℕ) (superior console : Option ℕ) (made : JobMade old new s u n superior console) where
-  made_here : core_at old.core s ≡ no_core → alarm_at old.alarms.items s ≡ None → raw_at new.files new.core new.jobs new.alarms.items s ≡ Some (whole no_core (fresh_job u n console) superior)
+  made_here : core_at old.core s ≡ no_core → alarm_at old.alarms.items s ≡ None
+      → raw_at new.files new.core new.jobs new.alarms.items s ≡ Some (whole no_core (fresh_job u n console) superior)
   made_here blank quiet =
       ap (λ c. raw_of new.files (core_at c s) (superior_at new.jobs s) (alarm_at new.alarms.items s) (job_at new.jobs s)) (core_as made.rest)
       ∙ ap (λ c. raw_of new.files c (superior_at new.jobs s) (alarm_at new.alarms.items s) (job_at new.jobs s)) blank
@@ -44,16 +45,19 @@ module _ (old new : World) (s u n : ℕ) (superior console : Option ℕ) (made :
       ∙ ap (λ l. raw_of old.files (core_at old.core k) (superior_at old.jobs k) (alarm_at l.items k) (job_at new.jobs k)) (alarms_as made.rest)
       ∙ ap (raw_of old.files (core_at old.core k) (superior_at old.jobs k) (alarm_at old.alarms.items k)) (made.job.others k ne)
 
-  pub made_state : core_at old.core s ≡ no_core → alarm_at old.alarms.items s ≡ None → symbols_at old.symbols.items s ≡ [] → state_of new ≡ with_raw (state_of old) (with_new (state_of old).raw s (whole no_core (fresh_job u n console) superior))
+  pub made_state : core_at old.core s ≡ no_core → alarm_at old.alarms.items s ≡ None → symbols_at old.symbols.items s ≡ []
+      → state_of new ≡ with_raw (state_of old) (with_new (state_of old).raw s (whole no_core (fresh_job u n console) superior))
   unfolding state_of
   made_state blank quiet nameless =
       let q : Whole = whole no_core (fresh_job u n console) superior in
       let only = changed_only (raw_at old.files old.core old.jobs old.alarms.items) s (Some q) in
       state_is _ _
       (machine_is _ _ (λ k. elim (cases_eq k s) [
-        | inl is ↦ ap (raw_at new.files new.core new.jobs new.alarms.items) is ∙ made_here blank quiet ∙ sym (ap (changed (raw_at old.files old.core old.jobs old.alarms.items) s (Some q)) is ∙ only.here)
+        | inl is ↦ ap (raw_at new.files new.core new.jobs new.alarms.items) is ∙ made_here blank quiet
+            ∙ sym (ap (changed (raw_at old.files old.core old.jobs old.alarms.items) s (Some q)) is ∙ only.here)
         | inr ne ↦ made_other k ne ∙ sym (only.others k ne)
-      ]) (λ c. ap (λ l. console_at l.items c) (consoles_as made.rest)) (λ c. ap (λ l. holder_at l c) (holders_as made.rest)) (ap directory (files_as made.rest)) (clock_as made.rest) (version_as made.rest)
+      ]) (λ c. ap (λ l. console_at l.items c) (consoles_as made.rest)) (λ c. ap (λ l. holder_at l c) (holders_as made.rest))
+      (ap directory (files_as made.rest)) (clock_as made.rest) (version_as made.rest)
       (λ k. ap (λ l. symbols_at l.items k) (symbols_as made.rest) ∙ changed_same (symbols_at old.symbols.items) s k [] nameless)
       (λ k. ap (λ p. piped p k) (pipes_as made.rest)))
       (λ k. ap (λ v. frame_at v.items k) (frames_as made.rest))
@@ -77,7 +81,7 @@ module _ (old new : World) (s u n : ℕ) (superior console : Option ℕ) (made :
           ∙ sym (ap (λ x. channel_at old.jobs x i) is ∙ ap (λ o. channel_by o i) none)
       | inr ne ↦ ap (λ o. channel_by o i) (made.job.others k ne)
     ]));
-    ringed = made_ringed old new s u n console none made.job (frames_as made.rest) (ap doors_in made.rest) (rings_as made.rest) tidy.ringed;
+    on_lists = made_on_lists old new s u n console none made.job (frames_as made.rest) (ap doors_in made.rest) (lists_as made.rest) tidy.on_lists;
     nameless = λ k h. ap (λ l. symbols_at l.items k) (symbols_as made.rest) ∙ elim (cases_eq k s) [
       | inl is ↦ let wrong : None ≡ Some (fresh_job u n console) = sym h ∙ ap (job_at new.jobs) is ∙ made.job.here in absurd cc
       | inr ne ↦ tidy.nameless k (sym (made.job.others k ne) ∙ h)

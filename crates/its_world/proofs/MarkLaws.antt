@@ -15,11 +15,11 @@ use Rattle.its_word.proofs.NamesLaws.{same_sym}
 use Rattle.its_files.proofs.EntryLaws.{within, draft_stands, draft_no_file, unlinked_files, linked_files, freed_files}
 use Rattle.its_files.proofs.DirectoryLaws.{words_stand, without_same, file_is, file_apart, texts_apart, directory_same, directory_more, directory_without, plain_unlinked_is, plain_linked_is, plain_freed_is, helped_unmarked}
 use Rattle.its_plain.specs.Machine.{File, Writes}
-use Rattle.its_plain.specs.Change.{without_file}
+use Rattle.its_plain.specs.Machine.Change.{without_file}
 use Rattle.its_stepped.specs.State.{Part, UnlinkOld, LinkNew, FreeOld, Mark, State, after_part, after_parts, after_help, parts_of, mark_of_close}
 use Rattle.its_stepped.specs.Unwind.{rest_marked, with_part, help}
 use Rattle.its_world.specs.World.{no_file, parts_left, last_file, draft_left, marking, mark_of}
-use Rattle.its_machine.proofs.StoreLaws.{has_named}
+use Rattle.its_shared.proofs.StoreLaws.{has_named}
 
 -- a store without a mark, and one with it
 pub mark_is : (s : Store) (m : Option FilesMark) → s.mark ≡ m → mark_of s ≡ marking s m
@@ -38,7 +38,8 @@ pub none_marked : (s : Store) → s.mark ≡ None → mark_of s ≡ None
 none_marked s e = mark_is s None e
 
 -- the mark of a store with the same one, whose draft and directory are the same
-pub marking_same : (s t : Store) (m : Option FilesMark) → directory t ≡ directory s → ((d : ℕ) → marked_draft m ≡ Some d → file_at t d ≡ file_at s d) → marking t m ≡ marking s m
+pub marking_same : (s t : Store) (m : Option FilesMark) → directory t ≡ directory s
+    → ((d : ℕ) → marked_draft m ≡ Some d → file_at t d ≡ file_at s d) → marking t m ≡ marking s m
 marking_same s t None d h = refl
 marking_same s t (Some m) d h = ap (λ f. Some (record { owner = m.owner; draft = f; parts = parts_left m.parts })) (draft_same m.parts h)
   where
@@ -47,26 +48,30 @@ marking_same s t (Some m) d h = ap (λ f. Some (record { owner = m.owner; draft 
     draft_same (Link old draft) h = h draft refl
     draft_same (Free old) h = ap (λ fs. unwrap_or (last_or None fs) no_file) d
 
-pub mark_same : (s t : Store) → t.mark ≡ s.mark → directory t ≡ directory s → ((d : ℕ) → marked_draft s.mark ≡ Some d → file_at t d ≡ file_at s d) → mark_of t ≡ mark_of s
+pub mark_same : (s t : Store) → t.mark ≡ s.mark → directory t ≡ directory s
+    → ((d : ℕ) → marked_draft s.mark ≡ Some d → file_at t d ≡ file_at s d) → mark_of t ≡ mark_of s
 unfolding mark_of
 mark_same s t m d h = ap (marking t) m ∙ marking_same s t s.mark d h
 
 -- a close that is begun
-close_begun : (s t : Store) (id slot : ℕ) (o : Option ℕ) → found s (names_at s id) ≡ o → close_by o s slot id ≡ Ok t → mark_of t ≡ mark_of_close slot (Writes (file_at s id)) (directory s)
+close_begun : (s t : Store) (id slot : ℕ) (o : Option ℕ) → found s (names_at s id) ≡ o → close_by o s slot id ≡ Ok t
+    → mark_of t ≡ mark_of_close slot (Writes (file_at s id)) (directory s)
 unfolding mark_of
 close_begun s t id slot (Some old) f e = replaced (readers_at s old) e
   where
     replaced : (n : ℕ) → close_old n s slot id old ≡ Ok t → mark_of t ≡ mark_of_close slot (Writes (file_at s id)) (directory s)
     replaced zero e =
         let same : with_mark s slot (Replace old id) ≡ t = cc in
-        ap mark_of (sym same) ∙ ap (λ b. Some (record { owner = slot; draft = file_at s id; parts = parts_of b })) (sym (has_named s (names_at s id) ∙ ap is_some f))
+        ap mark_of (sym same) ∙ ap (λ b. Some (record { owner = slot; draft = file_at s id; parts = parts_of b }))
+        (sym (has_named s (names_at s id) ∙ ap is_some f))
     replaced (suc n) e = cc
 close_begun s t id slot None f e = linked_new (nat_lt (length s.order) 256) e
   where
     linked_new : (b : Bool) → close_new b s slot id ≡ Ok t → mark_of t ≡ mark_of_close slot (Writes (file_at s id)) (directory s)
     linked_new true e =
         let same : with_mark s slot (Link None id) ≡ t = cc in
-        ap mark_of (sym same) ∙ ap (λ b. Some (record { owner = slot; draft = file_at s id; parts = parts_of b })) (sym (has_named s (names_at s id) ∙ ap is_some f))
+        ap mark_of (sym same) ∙ ap (λ b. Some (record { owner = slot; draft = file_at s id; parts = parts_of b }))
+        (sym (has_named s (names_at s id) ∙ ap is_some f))
     linked_new false e = cc
 
 pub begin_close : (s t : Store) (id slot : ℕ) → close s id slot ≡ Ok t → mark_of t ≡ mark_of_close slot (Writes (file_at s id)) (directory s)
@@ -105,7 +110,8 @@ module _ (s : Store) (whole : IsStore s) where
     replaces = subst (λ m. Marked s.entries m) is whole.marked
 
     draft_apart : draft ≢ old
-    draft_apart e = both_ways (is_file (entry_at s old)) (draft_no_file (entry_at s old) (sym (ap (λ j. is_draft (entry_at s j)) e) ∙ replaces.draft_stands)) replaces.file
+    draft_apart e = both_ways (is_file (entry_at s old)) (draft_no_file (entry_at s old)
+        (sym (ap (λ j. is_draft (entry_at s j)) e) ∙ replaces.draft_stands)) replaces.file
 
     pub unlinked_is : after_unlink_old s ≡ without_old
     unlinked_is = ap (λ m. after_unlink_old_at m s) is
@@ -120,7 +126,8 @@ module _ (s : Store) (whole : IsStore s) where
         ∙ directory_without s whole without_old old refl replaces.file (λ k ne. file_apart s whole old k None ne)
         ∙ without_same (names_at s old) (names_at s draft) (directory s) (same_sym (names_at s draft) (names_at s old) replaces.names)
 
-    pub unlinked_part : PartMade s (after_unlink_old s) (record { owner = owner; draft = file_at s draft; parts = UnlinkOld ∷ LinkNew ∷ FreeOld ∷ [] }) UnlinkOld (LinkNew ∷ FreeOld ∷ [])
+    pub unlinked_part : PartMade s (after_unlink_old s) (record
+        { owner = owner; draft = file_at s draft; parts = UnlinkOld ∷ LinkNew ∷ FreeOld ∷ [] }) UnlinkOld (LinkNew ∷ FreeOld ∷ [])
     unlinked_part = record {
       files = unlinked_directory;
       mark =
@@ -141,32 +148,40 @@ module _ (s : Store) (whole : IsStore s) where
     linked_is = ap (λ m. after_link_new_at m s) is
 
     pub linked_whole : IsStore (after_link_new s)
-    linked_whole = subst IsStore (sym linked_is) (linked_files s.entries s.order s.mark s.stored.texts whole owner draft old (names_at s draft) (after_link old owner) is refl refl)
+    linked_whole = subst IsStore (sym linked_is) (linked_files s.entries s.order s.mark s.stored.texts whole owner draft old
+        (names_at s draft) (after_link old owner) is refl refl)
 
     pub draft_here : entry_at with_new draft ≡ Some (Standing (names_at s draft) 0)
-    draft_here = get_or-set_same s.entries draft (Some (Standing (names_at s draft) 0)) None (within s.entries draft (draft_stands (entry_at s draft) links.draft_stands))
+    draft_here = get_or-set_same s.entries draft (Some (Standing (names_at s draft) 0)) None
+        (within s.entries draft (draft_stands (entry_at s draft) links.draft_stands))
 
     pub draft_stays : file_at with_new draft ≡ file_at s draft
     draft_stays =
         file_is s whole with_new draft (ap names_by draft_here)
-        (ap (λ e. words_by e (text_at s.stored.texts draft)) draft_here ∙ words_stand (entry_at s draft) (text_at s.stored.texts draft) (draft_stands (entry_at s draft) links.draft_stands))
+        (ap (λ e. words_by e (text_at s.stored.texts draft)) draft_here
+        ∙ words_stand (entry_at s draft) (text_at s.stored.texts draft) (draft_stands (entry_at s draft) links.draft_stands))
 
     new_directory : directory with_new ≡ directory s ++ file_at s draft ∷ []
     new_directory =
-        directory_more s whole with_new draft refl (draft_no_file (entry_at s draft) links.draft_stands) (λ k ne. file_apart s whole draft k (Some (Standing (names_at s draft) 0)) ne)
+        directory_more s whole with_new draft refl (draft_no_file (entry_at s draft) links.draft_stands)
+        (λ k ne. file_apart s whole draft k (Some (Standing (names_at s draft) 0)) ne)
         ∙ ap (λ f. directory s ++ f ∷ []) draft_stays
 
     pub linked_directory : directory (after_link_new s) ≡ directory s ++ file_at s draft ∷ []
     linked_directory = ap directory linked_is ∙ new_directory
 
-    mark_after : (o : Option ℕ) → marking with_new (after_link o owner) ≡ rest_marked (record { owner = owner; draft = file_at s draft; parts = LinkNew ∷ parts_behind o }) (parts_behind o)
+    mark_after : (o : Option ℕ) → marking with_new (after_link o owner) ≡ rest_marked
+        (record { owner = owner; draft = file_at s draft; parts = LinkNew ∷ parts_behind o }) (parts_behind o)
     mark_after None = refl
-    mark_after (Some k) = ap (λ f. Some (record { owner = owner; draft = f; parts = FreeOld ∷ [] })) (ap (λ fs. unwrap_or (last_or None fs) no_file) new_directory ∙ ap (λ o. unwrap_or o no_file) (last_more None (directory s) (file_at s draft)))
+    mark_after (Some k) = ap (λ f. Some (record { owner = owner; draft = f; parts = FreeOld ∷ [] }))
+        (ap (λ fs. unwrap_or (last_or None fs) no_file) new_directory ∙ ap (λ o. unwrap_or o no_file) (last_more None (directory s) (file_at s draft)))
 
-    pub linked_part : PartMade s (after_link_new s) (record { owner = owner; draft = file_at s draft; parts = LinkNew ∷ parts_behind old }) LinkNew (parts_behind old)
+    pub linked_part : PartMade s (after_link_new s) (record { owner = owner; draft = file_at s draft; parts = LinkNew ∷ parts_behind old })
+        LinkNew (parts_behind old)
     linked_part = record {
       files = linked_directory;
-      mark = mark_is (after_link_new s) (after_link old owner) (ap (λ t. t.mark) linked_is) ∙ ap (λ t. marking t (after_link old owner)) linked_is ∙ mark_after old;
+      mark = mark_is (after_link_new s) (after_link old owner) (ap (λ t. t.mark) linked_is)
+          ∙ ap (λ t. marking t (after_link old owner)) linked_is ∙ mark_after old;
     }
 
   -- the blocks of the old file become free
@@ -186,7 +201,8 @@ module _ (s : Store) (whole : IsStore s) where
     pub freed_directory : directory (after_free_old s) ≡ directory s
     freed_directory =
         ap directory freed_is
-        ∙ directory_same s whole without_blocks refl (λ k f. texts_apart s whole without_blocks old k [] refl refl (λ e. both_ways (is_file (entry_at s k)) (ap (λ j. is_file (entry_at s j)) e ∙ ap is_file gone.1) f))
+        ∙ directory_same s whole without_blocks refl (λ k f. texts_apart s whole without_blocks old k [] refl refl
+        (λ e. both_ways (is_file (entry_at s k)) (ap (λ j. is_file (entry_at s j)) e ∙ ap is_file gone.1) f))
 
     pub freed_part : PartMade s (after_free_old s) (record { owner = owner; draft = last_file s; parts = FreeOld ∷ [] }) FreeOld []
     freed_part = record { files = freed_directory; mark = none_marked (after_free_old s) (ap (λ t. t.mark) freed_is) }
@@ -198,13 +214,17 @@ moved s k m q p qs ps h e f =
     let b : qs ≡ ps = cc in
     subst (λ x. PartMade s (made x s) m x ps) a (subst (λ xs. PartMade s (made q s) m q xs) b (subst (λ x. PartMade s (made q s) x q qs) e h))
 
-part_of : (s : Store) (whole : IsStore s) (owner : ℕ) (parts : Parts) (m : Mark) (p : Part) (ps : List Part) → s.mark ≡ marks owner parts → record { owner = owner; draft = draft_left s parts; parts = parts_left parts } ≡ m → m.parts ≡ p ∷ ps → PartMade s (made p s) m p ps
-part_of s whole owner (Replace old draft) m p ps is e f = moved s _ m UnlinkOld p (LinkNew ∷ FreeOld ∷ []) ps (unlinked_part s whole owner old draft is) e (ap (λ x. x.parts) e ∙ f)
+part_of : (s : Store) (whole : IsStore s) (owner : ℕ) (parts : Parts) (m : Mark) (p : Part) (ps : List Part) → s.mark ≡ marks owner parts
+    → record { owner = owner; draft = draft_left s parts; parts = parts_left parts } ≡ m → m.parts ≡ p ∷ ps → PartMade s (made p s) m p ps
+part_of s whole owner (Replace old draft) m p ps is e f = moved s _ m UnlinkOld p (LinkNew ∷ FreeOld ∷ []) ps
+    (unlinked_part s whole owner old draft is) e (ap (λ x. x.parts) e ∙ f)
 part_of s whole owner (Link None draft) m p ps is e f = moved s _ m LinkNew p [] ps (linked_part s whole owner draft None is) e (ap (λ x. x.parts) e ∙ f)
-part_of s whole owner (Link (Some old) draft) m p ps is e f = moved s _ m LinkNew p (FreeOld ∷ []) ps (linked_part s whole owner draft (Some old) is) e (ap (λ x. x.parts) e ∙ f)
+part_of s whole owner (Link (Some old) draft) m p ps is e f =
+    moved s _ m LinkNew p (FreeOld ∷ []) ps (linked_part s whole owner draft (Some old) is) e (ap (λ x. x.parts) e ∙ f)
 part_of s whole owner (Free old) m p ps is e f = moved s _ m FreeOld p [] ps (freed_part s whole owner old is) e (ap (λ x. x.parts) e ∙ f)
 
-part_marked : (s : Store) (whole : IsStore s) (o : Option FilesMark) (m : Mark) (p : Part) (ps : List Part) → s.mark ≡ o → marking s o ≡ Some m → m.parts ≡ p ∷ ps → PartMade s (made p s) m p ps
+part_marked : (s : Store) (whole : IsStore s) (o : Option FilesMark) (m : Mark) (p : Part) (ps : List Part) → s.mark ≡ o
+    → marking s o ≡ Some m → m.parts ≡ p ∷ ps → PartMade s (made p s) m p ps
 part_marked s whole None m p ps is e f = cc
 part_marked s whole (Some k) m p ps is e f =
     let same : record { owner = k.owner; draft = draft_left s k.parts; parts = parts_left k.parts } ≡ m = cc in
@@ -219,7 +239,8 @@ rest_same : (m : Mark) (qs ps : List Part) → rest_marked (record m { parts = q
 rest_same m qs [] = refl
 rest_same m qs (p ∷ ps) = refl
 
-pub part_step : (s : Store) (whole : IsStore s) (w : State) (m : Mark) (p : Part) (ps : List Part) → w.mark ≡ mark_of s → w.raw.files ≡ directory s → mark_of s ≡ Some m → m.parts ≡ p ∷ ps
+pub part_step : (s : Store) (whole : IsStore s) (w : State) (m : Mark) (p : Part) (ps : List Part) → w.mark ≡ mark_of s
+    → w.raw.files ≡ directory s → mark_of s ≡ Some m → m.parts ≡ p ∷ ps
     → with_part w.mark w ≡ record w { raw = record w.raw { files = directory (made p s) }; mark = mark_of (made p s) }
 part_step s whole w m p ps marked files e f =
     let h = part_is s whole m p ps e f in
@@ -243,7 +264,8 @@ helped_none : (o : Option Mark) (fs : List File) → o ≡ None → after_help o
 unfolding after_help
 helped_none o fs e = ap (λ x. after_help x fs) e
 
-helped_step : (s t : Store) (m : Mark) (p : Part) (ps : List Part) → PartMade s t m p ps → mark_of s ≡ Some m → m.parts ≡ p ∷ ps → after_help (mark_of s) (directory s) ≡ after_help (mark_of t) (directory t)
+helped_step : (s t : Store) (m : Mark) (p : Part) (ps : List Part) → PartMade s t m p ps → mark_of s ≡ Some m → m.parts ≡ p ∷ ps
+    → after_help (mark_of s) (directory s) ≡ after_help (mark_of t) (directory t)
 helped_step s t m p ps h e f =
     ap (λ o. after_help o (directory s)) e ∙ helped_parts m (p ∷ ps) (directory s) f
     ∙ sym (ap (λ o. after_help o (directory t)) h.mark ∙ rest_helped m ps (directory t) ∙ ap (after_parts m.draft ps) h.files)
@@ -269,19 +291,23 @@ helped_free s whole owner old is =
     ∙ helped_last (after_free_old s) (ap (λ m. (after_free_old_at m s).mark) is)
     ∙ plain_freed_is s (after_free_old s) refl
 
-helped_link : (s : Store) (whole : IsStore s) (owner draft : ℕ) (old : Option ℕ) → s.mark ≡ marks owner (Link old draft) → after_help (mark_of s) (directory s) ≡ plain_directory s
+helped_link : (s : Store) (whole : IsStore s) (owner draft : ℕ) (old : Option ℕ) → s.mark ≡ marks owner (Link old draft)
+    → after_help (mark_of s) (directory s) ≡ plain_directory s
 helped_link s whole owner draft None is =
     helped_step s (after_link_new s) _ LinkNew [] (linked_part s whole owner draft None is) (mark_is s (marks owner (Link None draft)) is) refl
     ∙ helped_last (after_link_new s) (ap (λ m. (after_link_new_at m s).mark) is)
     ∙ plain_linked_is s (after_link_new s) refl
 helped_link s whole owner draft (Some old) is =
-    helped_step s (after_link_new s) _ LinkNew (FreeOld ∷ []) (linked_part s whole owner draft (Some old) is) (mark_is s (marks owner (Link (Some old) draft)) is) refl
+    helped_step s (after_link_new s) _ LinkNew (FreeOld ∷ []) (linked_part s whole owner draft (Some old) is)
+    (mark_is s (marks owner (Link (Some old) draft)) is) refl
     ∙ helped_free (after_link_new s) (linked_whole s whole owner draft (Some old) is) owner old (ap (λ m. (after_link_new_at m s).mark) is)
     ∙ plain_linked_is s (after_link_new s) refl
 
-helped_marks : (s : Store) (whole : IsStore s) (owner : ℕ) (parts : Parts) → s.mark ≡ marks owner parts → after_help (mark_of s) (directory s) ≡ plain_directory s
+helped_marks : (s : Store) (whole : IsStore s) (owner : ℕ) (parts : Parts) → s.mark ≡ marks owner parts
+    → after_help (mark_of s) (directory s) ≡ plain_directory s
 helped_marks s whole owner (Replace old draft) is =
-    helped_step s (after_unlink_old s) _ UnlinkOld (LinkNew ∷ FreeOld ∷ []) (unlinked_part s whole owner old draft is) (mark_is s (marks owner (Replace old draft)) is) refl
+    helped_step s (after_unlink_old s) _ UnlinkOld (LinkNew ∷ FreeOld ∷ []) (unlinked_part s whole owner old draft is)
+    (mark_is s (marks owner (Replace old draft)) is) refl
     ∙ helped_link (after_unlink_old s) (unlinked_whole s whole owner old draft is) owner draft (Some old) (ap (λ m. (after_unlink_old_at m s).mark) is)
     ∙ plain_unlinked_is s (after_unlink_old s) refl
 helped_marks s whole owner (Link old draft) is = helped_link s whole owner draft old is

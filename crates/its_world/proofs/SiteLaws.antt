@@ -8,8 +8,8 @@ use Rattle.its_word.specs.Core.{Core}
 use Rattle.its_word.specs.declared.access.Fault.{Fault}
 use Rattle.its_records.specs.declared.calls.Site.{Site}
 use Rattle.its_stepped.specs.TwoParts.{items_of, parse, parse_by, parse_of}
-use Rattle.its_plain.specs.Decode.{argument_words, block_at, checked, has_bit_0, is_legal, parsed, up_to_last}
-use Rattle.its_plain.specs.Traced.{Traced, also, goes_on, word}
+use Rattle.its_plain.specs.Call.Decode.{argument_words, block_at, checked, has_bit_0, is_legal, parsed, up_to_last}
+use Rattle.its_plain.specs.Unit.Trace.{Traced, also, goes_on, word}
 pub use Rattle.its_plain.proofs.FitsLaws.{site_fits}
 
 -- what holds of the value of a second part, whatever the first gives
@@ -22,7 +22,8 @@ then_ok P rs ts (Err f) rest h = tt
 abbrev Named : ArrayVec ℕ → Type 0
 Named b = 2 ≤ length b.items
 
-last_named : (t : Bool) (rest : List ℕ → Traced (ArrayVec ℕ)) (seen : List ℕ) → 2 ≤ length seen → ((ws : List ℕ) → 2 ≤ length ws → IfOk (rest ws).answer Named)
+last_named : (t : Bool) (rest : List ℕ → Traced (ArrayVec ℕ)) (seen : List ℕ) → 2 ≤ length seen
+    → ((ws : List ℕ) → 2 ≤ length ws → IfOk (rest ws).answer Named)
     → IfOk (up_to_last t rest seen).answer Named
 last_named true rest seen n h = n
 last_named false rest seen n h = h seen n
@@ -52,7 +53,8 @@ parsed_named : (c : Core) (e : ℕ) → IfOk (parsed c e).answer Named
 unfolding parsed also
 parsed_named c e = go (block_at c e).answer (block_named c e)
   where
-    go : (r : Result (ArrayVec ℕ) Fault) → IfOk r Named → IfOk (goes_on (block_at c e).reads (block_at c e).tests r (λ b. checked (is_legal b.items) b)).answer Named
+    go : (r : Result (ArrayVec ℕ) Fault) → IfOk r Named → IfOk
+        (goes_on (block_at c e).reads (block_at c e).tests r (λ b. checked (is_legal b.items) b)).answer Named
     go (Ok b) h = checked_named (is_legal b.items) b h
     go (Err f) h = tt
 

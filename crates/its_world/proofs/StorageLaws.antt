@@ -9,13 +9,13 @@ use Rattle.its_core.specs.Cores.{core_at, clear_at}
 use Rattle.its_jobs.specs.Table.{job_at, superior_at}
 use Rattle.its_files.specs.Files.{Store, directory}
 use Rattle.its_plain.specs.Machine.{Chan, Shut}
-use Rattle.its_plain.specs.Own.{on_channel}
-use Rattle.its_plain.specs.Change.{in_job}
-use Rattle.its_plain.specs.OperatorFiles.{channels_of}
+use Rattle.its_plain.specs.Machine.Own.{on_channel}
+use Rattle.its_plain.specs.Machine.Change.{in_job}
+use Rattle.its_plain.specs.Operator.Files.{channels_of}
 use Rattle.its_plain.proofs.MachineLaws.{machine_is}
 use Rattle.its_stepped.specs.State.{State}
 use Rattle.its_world.specs.World.{chan_of, alarm_at, raw_at, frame_at, console_at, holder_at, mark_of, state_of, in_raw, symbols_at}
-use Rattle.its_plain.specs.OperatorClock.{clock_end}
+use Rattle.its_plain.specs.Operator.Clock.{clock_end}
 use Rattle.its_world.specs.Tidy.{channel_at, Across, Tidy}
 use Rattle.its_world.specs.Contents.{contents}
 use Rattle.its_world.specs.Storage.{HasJob, chan_in, ChannelBecomes, ChannelWritten, OnlyStore}
@@ -23,15 +23,15 @@ use Rattle.its_world.specs.Filed.{Refiled, SlotWritten}
 use Rattle.its_word.specs.Only.{Only}
 use Rattle.its_pipes.specs.Pipes.{piped}
 use Rattle.its_world.specs.declared.world.World.{World}
-use Rattle.its_machine.specs.Channels.{OnlyChannel, Shows}
-use Rattle.its_machine.proofs.ChanLaws.{raw_alike, job_by, chan_by, shut_by}
-use Rattle.its_machine.proofs.KeptLaws.{Kept, Stays}
-use Rattle.its_machine.proofs.SetLaws.{channel_put, channel_absent, channel_same, none_before, raw_channel}
+use Rattle.its_shared.specs.Channels.{OnlyChannel, Shows}
+use Rattle.its_shared.proofs.ChanLaws.{raw_alike, job_by, chan_by, shut_by}
+use Rattle.its_shared.proofs.KeptLaws.{Kept, Stays}
+use Rattle.its_shared.proofs.SetLaws.{channel_put, channel_absent, channel_same, none_before, raw_channel}
 use Rattle.its_world.proofs.MarkLaws.{mark_none, none_marked}
-use Rattle.its_world.proofs.PlaceLaws.{doors_in, ringed_alike, slot_ringed}
+use Rattle.its_world.proofs.PlaceLaws.{doors_in, on_lists_alike, slot_on_lists}
 use Rattle.its_world.proofs.WorldLaws.{alike}
 use Rattle.its_world.proofs.StateLaws.{state_is}
-use Rattle.its_world.proofs.ContentsLaws.{core_as, jobs_as, frames_as, consoles_as, holders_as, files_as, clock_as, rings_as, version_as, symbols_as, alarms_as, pipes_as}
+use Rattle.its_world.proofs.ContentsLaws.{core_as, jobs_as, frames_as, consoles_as, holders_as, files_as, clock_as, lists_as, version_as, symbols_as, alarms_as, pipes_as}
 
 -- a channel written, and its slot put on the list to which it belongs
 pub channel_written : (old new : World) (s n : ℕ) (x : Channel) (j : Job) → job_at old.jobs s ≡ Some j → n < length j.channels
@@ -47,7 +47,8 @@ slot_of old mid s n x w = record {
   rest = λ t. record (w.rest t) { frames = mid.frames };
 }
 
-pub channel_becomes : (old mid new : World) (s n : ℕ) (x : Channel) → ChannelWritten old mid s n x → Refiled mid new s → ChannelBecomes old new s n x old.files
+pub channel_becomes : (old mid new : World) (s n : ℕ) (x : Channel) → ChannelWritten old mid s n x → Refiled mid new s
+    → ChannelBecomes old new s n x old.files
 channel_becomes old mid new s n x w r =
     let core : new.core ≡ old.core = core_as r.rest.is ∙ core_as w.rest in
     record {
@@ -58,8 +59,8 @@ channel_becomes old mid new s n x w r =
       frames = record { each = λ k. ap (λ l. frame_at l.items k) (frames_as r.rest.is ∙ frames_as w.rest) };
       rest =
           (λ t. record (r.rest.is t) { core = new.core; jobs = new.jobs; frames = new.frames })
-          ∙ (λ t. record (w.rest t) { core = new.core; jobs = new.jobs; frames = new.frames; rings = new.rings });
-      ringed = slot_ringed old mid new s (job_at mid.jobs s) (frame_at old.frames.items s) (slot_of old mid s n x w) r;
+          ∙ (λ t. record (w.rest t) { core = new.core; jobs = new.jobs; frames = new.frames; wait_lists = new.wait_lists });
+      on_lists = slot_on_lists old mid new s (job_at mid.jobs s) (frame_at old.frames.items s) (slot_of old mid s n x w) r;
     }
 
 -- a slot that has no job
@@ -78,19 +79,20 @@ channel_missing w s n x none = record {
   pages = refl;
   frames = record { each = λ k. refl };
   rest = refl;
-  ringed = λ r. r;
+  on_lists = λ r. r;
 }
 
 -- a channel is set after the store, or left as it is
-pub store_first : (old mid new : World) (s n : ℕ) (x : Channel) (t : Store) → OnlyStore old mid t → ChannelBecomes mid new s n x t → ChannelBecomes old new s n x t
+pub store_first : (old mid new : World) (s n : ℕ) (x : Channel) (t : Store) → OnlyStore old mid t → ChannelBecomes mid new s n x t
+    → ChannelBecomes old new s n x t
 store_first old mid new s n x t o b = record {
   jobs = subst (λ j. OnlyChannel j new.jobs s n x) (jobs_as o.is) b.jobs;
   core = record { each = λ k. b.core.each k ∙ ap (λ c. core_at c k) (core_as o.is) };
   reserved = record { each = λ k. b.reserved.each k ∙ ap (λ c. clear_at c k) (core_as o.is) };
   pages = b.pages ∙ ap (λ c. c.frames) (core_as o.is);
   frames = record { each = λ k. b.frames.each k ∙ ap (λ l. frame_at l.items k) (frames_as o.is) };
-  rest = b.rest ∙ (λ i. record (o.is i) { core = new.core; jobs = new.jobs; frames = new.frames; files = t; rings = new.rings });
-  ringed = λ r. b.ringed (ringed_alike old mid (jobs_as o.is) (frames_as o.is) (ap doors_in o.is) (rings_as o.is) r);
+  rest = b.rest ∙ (λ i. record (o.is i) { core = new.core; jobs = new.jobs; frames = new.frames; files = t; wait_lists = new.wait_lists });
+  on_lists = λ r. b.on_lists (on_lists_alike old mid (jobs_as o.is) (frames_as o.is) (ap doors_in o.is) (lists_as o.is) r);
 }
 
 pub channel_still : (old new : World) (s n : ℕ) (t : Store) → OnlyStore old new t → ChannelBecomes old new s n (channel_at old.jobs s n) t
@@ -100,8 +102,8 @@ channel_still old new s n t o = record {
   reserved = record { each = λ k. ap (λ c. clear_at c k) (core_as o.is) };
   pages = ap (λ c. c.frames) (core_as o.is);
   frames = record { each = λ k. ap (λ l. frame_at l.items k) (frames_as o.is) };
-  rest = λ i. record (o.is i) { core = new.core; jobs = new.jobs; frames = new.frames; rings = new.rings };
-  ringed = ringed_alike old new (jobs_as o.is) (frames_as o.is) (ap doors_in o.is) (rings_as o.is);
+  rest = λ i. record (o.is i) { core = new.core; jobs = new.jobs; frames = new.frames; wait_lists = new.wait_lists };
+  on_lists = on_lists_alike old new (jobs_as o.is) (frames_as o.is) (ap doors_in o.is) (lists_as o.is);
 }
 
 module _ (old new : World) (s n : ℕ) (x : Channel) (t : Store) (b : ChannelBecomes old new s n x t) where
@@ -112,8 +114,11 @@ module _ (old new : World) (s n : ℕ) (x : Channel) (t : Store) (b : ChannelBec
   unfolding state_of
   filed_state g others here = state_is _ _
       (machine_is _ _
-      (λ k. (λ i. raw_at (files_as b.rest i) new.core new.jobs (alarms_as b.rest i).items k) ∙ raw_channel old.jobs new.jobs s n x b.jobs old.files t old.core new.core old.alarms.items g b.core others here k)
-      (λ k. ap (λ l. console_at l.items k) (consoles_as b.rest)) (λ k. ap (λ l. holder_at l k) (holders_as b.rest)) (ap directory (files_as b.rest)) (clock_as b.rest) (version_as b.rest) (λ k. ap (λ l. symbols_at l.items k) (symbols_as b.rest)) (λ k. ap (λ p. piped p k) (pipes_as b.rest)))
+      (λ k. (λ i. raw_at (files_as b.rest i) new.core new.jobs (alarms_as b.rest i).items k)
+      ∙ raw_channel old.jobs new.jobs s n x b.jobs old.files t old.core new.core old.alarms.items g b.core others here k)
+      (λ k. ap (λ l. console_at l.items k) (consoles_as b.rest)) (λ k. ap (λ l. holder_at l k) (holders_as b.rest))
+      (ap directory (files_as b.rest)) (clock_as b.rest) (version_as b.rest) (λ k. ap (λ l. symbols_at l.items k) (symbols_as b.rest))
+      (λ k. ap (λ p. piped p k) (pipes_as b.rest)))
       (λ k. b.frames.each k) (λ k. b.reserved.each k) (ap mark_of (files_as b.rest))
 
   -- and if the directory and the mark are the same
@@ -131,7 +136,7 @@ module _ (old new : World) (s n : ℕ) (x : Channel) (t : Store) (b : ChannelBec
     quiet = λ k none. ap (λ l. alarm_at l.items k) (alarms_as b.rest) ∙ tidy.quiet k (none_before old.jobs new.jobs s n x b.jobs k none);
     timed = subst (λ t. t < clock_end) (sym (clock_as b.rest)) tidy.timed;
     across = subst (λ f. Across f new.jobs) (sym (files_as b.rest)) a;
-    ringed = b.ringed tidy.ringed;
+    on_lists = b.on_lists tidy.on_lists;
     nameless = λ k none. ap (λ l. symbols_at l.items k) (symbols_as b.rest) ∙ tidy.nameless k (none_before old.jobs new.jobs s n x b.jobs k none);
   }
 
@@ -140,7 +145,8 @@ pub record Comes (new : World) (w : State) : Type 0 where
   pub row : state_of new ≡ w
   pub tidy : Tidy new
 
-pub channel_comes : (old new : World) (s n : ℕ) (x : Channel) (t : Store) → ChannelBecomes old new s n x t → Tidy old → Kept old.files t old.jobs new.jobs s n → (g : Chan → Chan)
+pub channel_comes : (old new : World) (s n : ℕ) (x : Channel) (t : Store) → ChannelBecomes old new s n x t → Tidy old
+    → Kept old.files t old.jobs new.jobs s n → (g : Chan → Chan)
     → (is_some (job_at old.jobs s) ≡ true → chan_of t x ≡ g (chan_of old.files (channel_at old.jobs s n)))
     → directory t ≡ directory old.files → mark_of t ≡ mark_of old.files → Comes new (in_raw (state_of old) s (on_channel n g))
 channel_comes old new s n x t b tidy kept g here files mark = record {
@@ -148,7 +154,8 @@ channel_comes old new s n x t b tidy kept g here files mark = record {
   tidy = filed_tidy old new s n x t b tidy kept.across;
 }
 
-pub still_state : (w : World) (s n : ℕ) (g : Chan → Chan) → chan_of w.files (channel_at w.jobs s n) ≡ g (chan_of w.files (channel_at w.jobs s n)) → state_of w ≡ in_raw (state_of w) s (on_channel n g)
+pub still_state : (w : World) (s n : ℕ) (g : Chan → Chan) → chan_of w.files (channel_at w.jobs s n) ≡ g
+    (chan_of w.files (channel_at w.jobs s n)) → state_of w ≡ in_raw (state_of w) s (on_channel n g)
 still_state w s n g e =
     let b = channel_still w w s n w.files (record { is = refl }) in
     channel_state w w s n (channel_at w.jobs s n) w.files b g (λ k m apart. refl) (λ some. e) refl refl
@@ -161,7 +168,8 @@ store_state old new t o stays = state_is _ _
     (machine_is _ _
     (λ k. (λ i. raw_at (o.is i).files (o.is i).core (o.is i).jobs (o.is i).alarms.items k)
     ∙ raw_alike old.files t (core_at old.core k) (superior_at old.jobs k) (alarm_at old.alarms.items k) (job_at old.jobs k) (stays.chans k))
-    (λ k. ap (λ l. console_at l.items k) (consoles_as o.is)) (λ k. ap (λ l. holder_at l k) (holders_as o.is)) (ap directory (files_as o.is)) (clock_as o.is) (version_as o.is) (λ k. ap (λ l. symbols_at l.items k) (symbols_as o.is)) (λ k. ap (λ p. piped p k) (pipes_as o.is)))
+    (λ k. ap (λ l. console_at l.items k) (consoles_as o.is)) (λ k. ap (λ l. holder_at l k) (holders_as o.is)) (ap directory (files_as o.is))
+    (clock_as o.is) (version_as o.is) (λ k. ap (λ l. symbols_at l.items k) (symbols_as o.is)) (λ k. ap (λ p. piped p k) (pipes_as o.is)))
     (λ k. ap (λ l. frame_at l.items k) (frames_as o.is)) (λ k. ap (λ c. clear_at c k) (core_as o.is)) (ap mark_of (files_as o.is))
 
 pub store_tidy : (old new : World) (t : Store) → OnlyStore old new t → Stays old.files t old.jobs → Tidy old → Tidy new
@@ -170,7 +178,7 @@ store_tidy old new t o stays tidy = record {
   quiet = λ k none. ap (λ l. alarm_at l.items k) (alarms_as o.is) ∙ tidy.quiet k (sym (ap (λ j. job_at j k) (jobs_as o.is)) ∙ none);
   timed = subst (λ t. t < clock_end) (sym (clock_as o.is)) tidy.timed;
   across = subst (λ f. Across f new.jobs) (sym (files_as o.is)) (subst (λ j. Across t j) (sym (jobs_as o.is)) stays.across);
-  ringed = ringed_alike old new (jobs_as o.is) (frames_as o.is) (ap doors_in o.is) (rings_as o.is) tidy.ringed;
+  on_lists = on_lists_alike old new (jobs_as o.is) (frames_as o.is) (ap doors_in o.is) (lists_as o.is) tidy.on_lists;
   nameless = λ k none. ap (λ l. symbols_at l.items k) (symbols_as o.is) ∙ tidy.nameless k (sym (ap (λ j. job_at j k) (jobs_as o.is)) ∙ none);
 }
 

@@ -6,14 +6,14 @@ use Rattle.std.proofs.lemmas.List.{get_or_past}
 use Rattle.its_word.specs.ArrayVec.{ArrayVec}
 use Rattle.its_word.specs.Only.{Only, Same}
 use Rattle.its_jobs.specs.Table.{job_at}
-use Rattle.its_plain.specs.Change.{symbols_after_removal}
+use Rattle.its_plain.specs.Machine.Change.{symbols_after_removal}
 use Rattle.its_plain.specs.Machine.{Symbol}
 use Rattle.its_world.specs.Contents.{contents}
 use Rattle.its_world.specs.World.{no_symbols, symbols_at, VersionBecomes}
 use Rattle.its_world.specs.declared.world.World.{World}
-use Rattle.its_world.proofs.PlaceLaws.{doors_in, ringed_jobs}
-use Rattle.its_machine.proofs.OpenLaws.{list_here}
-use Rattle.its_world.proofs.ContentsLaws.{frames_as, rings_as}
+use Rattle.its_world.proofs.PlaceLaws.{doors_in, on_lists_jobs}
+use Rattle.its_shared.proofs.OpenLaws.{list_here}
+use Rattle.its_world.proofs.ContentsLaws.{frames_as, lists_as}
 
 -- the list in place s gains a symbol
 list_had : (xs : List (ArrayVec Symbol)) (s : ℕ) (x : ArrayVec Symbol) → s < length xs → x ≡ slice_index_or xs s x → x.items ≡ symbols_at xs s
@@ -21,18 +21,21 @@ list_had [] s x l e = absurd (omega arith)
 list_had (y ∷ xs) zero x l e = ap (λ (z : ArrayVec Symbol). z.items) e
 list_had (y ∷ xs) (suc s) x l e = list_had xs s x (omega arith) e
 
-pub list_gains : (xs : List (ArrayVec Symbol)) (s i : ℕ) (x y : ArrayVec Symbol) (b : Symbol) → s < length xs → i ≡ s → x ≡ slice_index_or xs i x → y.items ≡ x.items ++ b ∷ []
+pub list_gains : (xs : List (ArrayVec Symbol)) (s i : ℕ) (x y : ArrayVec Symbol) (b : Symbol) → s < length xs → i ≡ s
+    → x ≡ slice_index_or xs i x → y.items ≡ x.items ++ b ∷ []
     → Only (symbols_at xs) (symbols_at (slice_set xs i y)) s (symbols_at xs s ++ b ∷ [])
 list_gains xs s i x y b l is e more =
     subst (λ (k : ℕ). Only (symbols_at xs) (symbols_at (slice_set xs k y)) s (symbols_at xs s ++ b ∷ [])) (sym is)
-    (list_here xs s y (symbols_at xs s ++ b ∷ []) l (more ∙ ap (λ (bs : List Symbol). bs ++ b ∷ []) (list_had xs s x l (e ∙ ap (λ (k : ℕ). slice_index_or xs k x) is))))
+    (list_here xs s y (symbols_at xs s ++ b ∷ []) l (more ∙ ap (λ (bs : List Symbol). bs ++ b ∷ [])
+    (list_had xs s x l (e ∙ ap (λ (k : ℕ). slice_index_or xs k x) is))))
 
-pub version_becomes : (old new : World) (v : ℕ) → Same (job_at old.jobs) (job_at new.jobs) → new.jobs.superiors ≡ old.jobs.superiors → contents new ≡ record (contents old) { version = v; jobs = new.jobs } → VersionBecomes old new v
+pub version_becomes : (old new : World) (v : ℕ) → Same (job_at old.jobs) (job_at new.jobs) → new.jobs.superiors ≡ old.jobs.superiors
+    → contents new ≡ record (contents old) { version = v; jobs = new.jobs } → VersionBecomes old new v
 version_becomes old new v jobs superiors e = record {
   jobs = jobs;
   superiors = superiors;
-  rest = λ t. record (e t) { rings = new.rings };
-  ringed = ringed_jobs old new jobs (frames_as e) (ap doors_in e) (rings_as e);
+  rest = λ t. record (e t) { wait_lists = new.wait_lists };
+  on_lists = on_lists_jobs old new jobs (frames_as e) (ap doors_in e) (lists_as e);
 }
 
 -- the lists below n are done
@@ -43,11 +46,13 @@ pub record Forgotten (gone : ℕ → Bool) (old new : List (ArrayVec Symbol)) (n
 pub forget_start : (gone : ℕ → Bool) (old : List (ArrayVec Symbol)) → Forgotten gone old old 0
 forget_start gone old = record { done = λ k l. absurd (omega arith); rest = λ k l. refl }
 
-pub forget_gone : (gone : ℕ → Bool) (old new : List (ArrayVec Symbol)) (n : ℕ) (x : ArrayVec Symbol) → n < length new → x.items ≡ [] → gone n ≡ true → Forgotten gone old new n
+pub forget_gone : (gone : ℕ → Bool) (old new : List (ArrayVec Symbol)) (n : ℕ) (x : ArrayVec Symbol) → n < length new → x.items ≡ []
+    → gone n ≡ true → Forgotten gone old new n
     → Forgotten gone old (slice_set new n x) (n + 1)
 forget_gone gone old new n x l e g c = record {
   done = λ k less. elim (cases_eq k n) [
-    | inl is ↦ ap (symbols_at (slice_set new n x)) is ∙ (list_here new n x [] l e).here ∙ sym (ap (λ (b : Bool). symbols_after_removal b (symbols_at old k)) (ap gone is ∙ g))
+    | inl is ↦ ap (symbols_at (slice_set new n x)) is ∙ (list_here new n x [] l e).here
+        ∙ sym (ap (λ (b : Bool). symbols_after_removal b (symbols_at old k)) (ap gone is ∙ g))
     | inr ne ↦ (list_here new n x [] l e).others k ne ∙ c.done k (omega arith)
   ];
   rest = λ k less. (list_here new n x [] l e).others k (λ is. omega arith) ∙ c.rest k (omega arith);

@@ -9,20 +9,20 @@ use Rattle.its_word.specs.Core.{Core}
 use Rattle.its_records.specs.declared.jobs.Job.{Job}
 use Rattle.its_frame.specs.declared.frame.Frame.{Frame}
 use Rattle.its_jobs.specs.Table.{job_at}
-use Rattle.its_plain.specs.Change.{rest_of}
-use Rattle.its_machine.proofs.CoreLaws.{same_core, same_clear}
+use Rattle.its_plain.specs.Machine.Change.{rest_of}
+use Rattle.its_shared.proofs.CoreLaws.{same_core, same_clear}
 use Rattle.its_world.specs.Contents.{Contents, contents}
 use Rattle.its_world.specs.World.{frame_at, console_at, holder_at, frames_after, with_frames, Becomes, CoreBecomes, PageBecomes, ConsoleBecomes, HolderBecomes, LinkBecomes, ClockBecomes, typed_at}
 use Rattle.its_plain.specs.Machine.{Pipe}
-use Rattle.its_plain.specs.Moves.{AtConsole, AtLink}
+use Rattle.its_plain.specs.Call.Moves.{AtConsole, AtLink}
 use Rattle.its_pipes.specs.Pipes.{piped}
-use Rattle.its_world.specs.Rings.{input_lists, lists_at, link_lists, output_lists}
-use Rattle.its_world.specs.Filed.{SlotWritten, ConsoleWritten, HolderWritten, LinkWritten, ClockWritten, OnlyRings, Refiled, Resettled, Ringed}
-use Rattle.its_world.proofs.PlaceLaws.{doors_in, ringed_alike, slot_ringed, doors_written, post_ringed, heard_ringed, spoken_ringed, clock_ringed}
+use Rattle.its_world.specs.WaitLists.{input_lists, lists_at, link_lists, output_lists}
+use Rattle.its_world.specs.Filed.{SlotWritten, ConsoleWritten, HolderWritten, LinkWritten, ClockWritten, OnlyWaitLists, Refiled, Resettled, OnLists}
+use Rattle.its_world.proofs.PlaceLaws.{doors_in, on_lists_alike, slot_on_lists, doors_written, post_on_lists, heard_on_lists, spoken_on_lists, clock_on_lists}
 use Rattle.its_world.specs.declared.world.World.{World}
 use Rattle.its_core.specs.Cores.{Cores, Reserved, core_at, reserved_at, clear_at}
 use Rattle.its_core.specs.Frames.{Frames, frames_give_back}
-use Rattle.its_world.proofs.ContentsLaws.{core_as, jobs_as, frames_as, consoles_as, holders_as, rings_as, pipes_as}
+use Rattle.its_world.proofs.ContentsLaws.{core_as, jobs_as, frames_as, consoles_as, holders_as, lists_as, pipes_as}
 
 -- nothing else changes
 unchanged : {X : Type 0} → (f : ℕ → X) (s : ℕ) → Only f f s (f s)
@@ -47,11 +47,13 @@ frames_backed None s f h = cc
 -- what is left of an equation of contents, if the core, the jobs, the frames and the lists are
 -- those of a new world
 pub in_slot : (new : World) {p q : Contents} → p ≡ q
-    → record p { core = new.core; jobs = new.jobs; frames = new.frames; rings = new.rings } ≡ record q { core = new.core; jobs = new.jobs; frames = new.frames; rings = new.rings }
-in_slot new e = λ t. record (e t) { core = new.core; jobs = new.jobs; frames = new.frames; rings = new.rings }
+    → record p { core = new.core; jobs = new.jobs; frames = new.frames; wait_lists = new.wait_lists } ≡ record q
+    { core = new.core; jobs = new.jobs; frames = new.frames; wait_lists = new.wait_lists }
+in_slot new e = λ t. record (e t) { core = new.core; jobs = new.jobs; frames = new.frames; wait_lists = new.wait_lists }
 
 -- a core is written, which keeps its frames of pages and its reserved page
-pub core_becomes : (old new : World) (s : ℕ) (c : Core) → Only (core_at old.core) (core_at new.core) s c → new.core.reserved ≡ old.core.reserved → new.core.frames ≡ old.core.frames
+pub core_becomes : (old new : World) (s : ℕ) (c : Core) → Only (core_at old.core) (core_at new.core) s c
+    → new.core.reserved ≡ old.core.reserved → new.core.frames ≡ old.core.frames
     → contents new ≡ record (contents old) { core = new.core } → CoreBecomes old new s c
 core_becomes old new s c core reserved pages e = record {
   core = core;
@@ -61,11 +63,12 @@ core_becomes old new s c core reserved pages e = record {
   reserved = alike _ _ s ((same_clear old.core new.core reserved).each);
   pages = pages ∙ sym (frames_still (clear_at old.core s) s old.core.frames);
   rest = in_slot new e;
-  ringed = ringed_alike old new (jobs_as e) (frames_as e) (ap doors_in e) (rings_as e);
+  on_lists = on_lists_alike old new (jobs_as e) (frames_as e) (ap doors_in e) (lists_as e);
 }
 
 -- the job or the frame of a slot is written, and the slot is put on the list to which it belongs
-pub slot_becomes : (old mid new : World) (s : ℕ) (j : Option Job) (f : Option Frame) → SlotWritten old mid s j f → Refiled mid new s → Becomes old new s (core_at old.core s) j f (clear_at old.core s)
+pub slot_becomes : (old mid new : World) (s : ℕ) (j : Option Job) (f : Option Frame) → SlotWritten old mid s j f → Refiled mid new s
+    → Becomes old new s (core_at old.core s) j f (clear_at old.core s)
 slot_becomes old mid new s j f w r =
     let core : new.core ≡ old.core = core_as r.rest.is ∙ core_as w.rest in
     record {
@@ -76,16 +79,18 @@ slot_becomes old mid new s j f w r =
       reserved = alike _ _ s (λ k. ap (λ t. clear_at t k) core);
       pages = ap (λ t. t.frames) core ∙ sym (frames_still (clear_at old.core s) s old.core.frames);
       rest = in_slot new r.rest.is ∙ in_slot new w.rest;
-      ringed = slot_ringed old mid new s j f w r;
+      on_lists = slot_on_lists old mid new s j f w r;
     }
 
 -- a slot is written with a frame that depends on what was there
-pub if_becomes : {X : Type 0} → (o : Option X) (old mid new : World) (s : ℕ) (j : Option Job) (f : X → Option Frame) → IfSome o (λ x. SlotWritten old mid s j (f x)) → Refiled mid new s
+pub if_becomes : {X : Type 0} → (o : Option X) (old mid new : World) (s : ℕ) (j : Option Job) (f : X → Option Frame)
+    → IfSome o (λ x. SlotWritten old mid s j (f x)) → Refiled mid new s
     → IfSome o (λ x. Becomes old new s (core_at old.core s) j (f x) (clear_at old.core s))
 if_becomes (Some x) old mid new s j f w r = slot_becomes old mid new s j (f x) w r
 if_becomes None old mid new s j f w r = w
 
-pub job_written : (old new : World) (s : ℕ) (j : Job) → Only (job_at old.jobs) (job_at new.jobs) s (Some j) → new.jobs.superiors ≡ old.jobs.superiors → contents new ≡ record (contents old) { jobs = new.jobs }
+pub job_written : (old new : World) (s : ℕ) (j : Job) → Only (job_at old.jobs) (job_at new.jobs) s (Some j)
+    → new.jobs.superiors ≡ old.jobs.superiors → contents new ≡ record (contents old) { jobs = new.jobs }
     → SlotWritten old new s (Some j) (frame_at old.frames.items s)
 job_written old new s j job superiors e = record {
   job = job;
@@ -94,7 +99,8 @@ job_written old new s j job superiors e = record {
   rest = λ t. record (e t) { frames = new.frames };
 }
 
-pub frame_written : (old new : World) (s : ℕ) (f : Option Frame) → Only (frame_at old.frames.items) (frame_at new.frames.items) s f → contents new ≡ record (contents old) { frames = new.frames }
+pub frame_written : (old new : World) (s : ℕ) (f : Option Frame) → Only (frame_at old.frames.items) (frame_at new.frames.items) s f
+    → contents new ≡ record (contents old) { frames = new.frames }
     → SlotWritten old new s (job_at old.jobs s) f
 frame_written old new s f frame e = record {
   job = alike _ _ s (λ k. ap (λ t. job_at t k) (jobs_as e));
@@ -104,10 +110,12 @@ frame_written old new s f frame e = record {
 }
 
 -- a core is written, and its pages are in other frames then
-pub framed_becomes : (old new : World) (s : ℕ) (c : Core) → Only (core_at old.core) (core_at new.core) s c → new.core.reserved ≡ old.core.reserved → contents new ≡ record (contents old) { core = new.core }
+pub framed_becomes : (old new : World) (s : ℕ) (c : Core) → Only (core_at old.core) (core_at new.core) s c
+    → new.core.reserved ≡ old.core.reserved → contents new ≡ record (contents old) { core = new.core }
     → CoreBecomes old (with_frames new old.core.frames) s c
 unfolding core_at reserved_at
-framed_becomes old new s c core reserved e = core_becomes old (with_frames new old.core.frames) s c core reserved refl (λ t. record (e t) { core = record new.core { frames = old.core.frames } })
+framed_becomes old new s c core reserved e = core_becomes old (with_frames new old.core.frames) s c core reserved refl
+    (λ t. record (e t) { core = record new.core { frames = old.core.frames } })
 
 -- two changes of one slot, one after the other, of which the second reserves no page and gives none
 -- back
@@ -124,11 +132,12 @@ then_becomes old mid new s c d i j f g r a b = record {
   reserved = only_then _ _ _ s r r a.reserved b.reserved;
   pages = b.pages ∙ ap (λ o. frames_after o r s mid.core.frames) a.reserved.here ∙ frames_still r s mid.core.frames ∙ a.pages;
   rest = b.rest ∙ in_slot new a.rest;
-  ringed = λ r. b.ringed (a.ringed r);
+  on_lists = λ r. b.on_lists (a.on_lists r);
 }
 
 pub page_becomes : (old new : World) (s : ℕ) (r : Option ℕ) → Only (clear_at old.core) (clear_at new.core) s r → new.core.cores ≡ old.core.cores
-    → new.core.frames ≡ frames_after (clear_at old.core s) r s old.core.frames → contents new ≡ record (contents old) { core = new.core } → PageBecomes old new s r
+    → new.core.frames ≡ frames_after (clear_at old.core s) r s old.core.frames → contents new ≡ record (contents old) { core = new.core }
+    → PageBecomes old new s r
 page_becomes old new s r page cores pages e = record {
   core = alike _ _ s (λ k. same_core old.core new.core k cores);
   job = alike _ _ s (λ k. ap (λ t. job_at t k) (jobs_as e));
@@ -137,7 +146,7 @@ page_becomes old new s r page cores pages e = record {
   reserved = page;
   pages = pages;
   rest = in_slot new e;
-  ringed = ringed_alike old new (jobs_as e) (frames_as e) (ap doors_in e) (rings_as e);
+  on_lists = on_lists_alike old new (jobs_as e) (frames_as e) (ap doors_in e) (lists_as e);
 }
 
 some_by : (o : Option Reserved) → is_some (option_map (λ x. x.clear) o) ≡ true → IsSome o
@@ -149,11 +158,12 @@ reserved_some c s h = some_by (reserved_at c s) h
 
 -- a console, its holder, a link or the clock is written, and the slots that it can move are put on
 -- the lists to which they belong
-console_settled : (old mid new : World) (c : ℕ) (x : Console) → ConsoleWritten old mid c x → OnlyRings mid new → (Ringed old → Ringed new) → ConsoleBecomes old new c x
-console_settled old mid new c x w o ringed = record {
+console_settled : (old mid new : World) (c : ℕ) (x : Console) → ConsoleWritten old mid c x → OnlyWaitLists mid new
+    → (OnLists old → OnLists new) → ConsoleBecomes old new c x
+console_settled old mid new c x w o on_lists = record {
   consoles = only_along _ _ _ c x w.consoles (λ k. ap (λ l. console_at l.items k) (consoles_as o.is));
-  rest = (λ t. record (o.is t) { consoles = new.consoles }) ∙ (λ t. record (w.rest t) { consoles = new.consoles; rings = new.rings });
-  ringed = ringed;
+  rest = (λ t. record (o.is t) { consoles = new.consoles }) ∙ (λ t. record (w.rest t) { consoles = new.consoles; wait_lists = new.wait_lists });
+  on_lists = on_lists;
 }
 
 -- what stays of the console that is written, stays of all
@@ -165,38 +175,46 @@ stays_of f old mid c x w e k = elim (cases_eq k c) [
 ]
 
 -- the input of a console is written, or its output
-pub console_heard : (old mid new : World) (c : ℕ) (x : Console) → ConsoleWritten old mid c x → x.output ≡ (console_at old.consoles.items c).output → Resettled mid new (input_lists c) → ConsoleBecomes old new c x
-console_heard old mid new c x w e r = console_settled old mid new c x w r.rest (heard_ringed old mid new c w.consoles.others (stays_of (λ k. k.output) old mid c x w e) w.rest r)
+pub console_heard : (old mid new : World) (c : ℕ) (x : Console) → ConsoleWritten old mid c x
+    → x.output ≡ (console_at old.consoles.items c).output → Resettled mid new (input_lists c) → ConsoleBecomes old new c x
+console_heard old mid new c x w e r = console_settled old mid new c x w r.rest
+    (heard_on_lists old mid new c w.consoles.others (stays_of (λ k. k.output) old mid c x w e) w.rest r)
 
-pub console_spoken : (old mid new : World) (c : ℕ) (x : Console) → ConsoleWritten old mid c x → x.input ≡ (console_at old.consoles.items c).input → Resettled mid new (output_lists c) → ConsoleBecomes old new c x
-console_spoken old mid new c x w e r = console_settled old mid new c x w r.rest (spoken_ringed old mid new c w.consoles.others (stays_of (λ k. k.input) old mid c x w e) w.rest r)
+pub console_spoken : (old mid new : World) (c : ℕ) (x : Console) → ConsoleWritten old mid c x
+    → x.input ≡ (console_at old.consoles.items c).input → Resettled mid new (output_lists c) → ConsoleBecomes old new c x
+console_spoken old mid new c x w e r = console_settled old mid new c x w r.rest
+    (spoken_on_lists old mid new c w.consoles.others (stays_of (λ k. k.input) old mid c x w e) w.rest r)
 
 pub holder_becomes : (old mid new : World) (c : ℕ) (h : Option ℕ) → HolderWritten old mid c h → Resettled mid new (lists_at c) → HolderBecomes old new c h
 holder_becomes old mid new c h w r = record {
   holders = only_along _ _ _ c h w.holders (λ k. ap (λ l. holder_at l k) (holders_as r.rest.is));
-  rest = (λ t. record (r.rest.is t) { holders = new.holders }) ∙ (λ t. record (w.rest t) { holders = new.holders; rings = new.rings });
-  ringed = post_ringed old mid new (AtConsole c) (λ k ne. ap (λ l. console_at l.items k) (consoles_as w.rest)) (λ k ne. w.holders.others k (λ e. ne (ap AtConsole e))) (λ k ne. ap (λ p. piped p k) (pipes_as w.rest)) (doors_written mid w.rest) r;
+  rest = (λ t. record (r.rest.is t) { holders = new.holders }) ∙ (λ t. record (w.rest t) { holders = new.holders; wait_lists = new.wait_lists });
+  on_lists = post_on_lists old mid new (AtConsole c) (λ k ne. ap (λ l. console_at l.items k) (consoles_as w.rest))
+      (λ k ne. w.holders.others k (λ e. ne (ap AtConsole e))) (λ k ne. ap (λ p. piped p k) (pipes_as w.rest)) (doors_written mid w.rest) r;
 }
 
 pub link_becomes : (old mid new : World) (l : ℕ) (p : Option Pipe) → LinkWritten old mid l p → Resettled mid new (link_lists l) → LinkBecomes old new l p
 link_becomes old mid new l p w r = record {
   links = only_along _ _ _ l p w.links (λ k. ap (λ q. piped q k) (pipes_as r.rest.is));
-  rest = (λ t. record (r.rest.is t) { pipes = new.pipes }) ∙ (λ t. record (w.rest t) { pipes = new.pipes; rings = new.rings });
-  ringed = post_ringed old mid new (AtLink l) (λ k ne. ap (λ x. console_at x.items k) (consoles_as w.rest)) (λ k ne. ap (λ x. holder_at x k) (holders_as w.rest)) (λ k ne. w.links.others k (λ e. ne (ap AtLink e))) (doors_written mid w.rest) r;
+  rest = (λ t. record (r.rest.is t) { pipes = new.pipes }) ∙ (λ t. record (w.rest t) { pipes = new.pipes; wait_lists = new.wait_lists });
+  on_lists = post_on_lists old mid new (AtLink l) (λ k ne. ap (λ x. console_at x.items k) (consoles_as w.rest))
+      (λ k ne. ap (λ x. holder_at x k) (holders_as w.rest)) (λ k ne. w.links.others k (λ e. ne (ap AtLink e))) (doors_written mid w.rest) r;
 }
 
 pub clock_becomes : (old mid new : World) (c : ℕ) → old.clock ≤ c → ClockWritten old mid c → Resettled mid new (1 ∷ []) → ClockBecomes old new c
 clock_becomes old mid new c later w r =
     let gains : c ≡ old.clock + (c - old.clock) = omega arith in
     record {
-      rest = r.rest.is ∙ (λ t. record (w.is t) { rings = new.rings });
-      ringed = clock_ringed old mid new (c - old.clock) (w.is ∙ ap (λ (t : ℕ). record (contents old) { clock = t }) gains) r;
+      rest = r.rest.is ∙ (λ t. record (w.is t) { wait_lists = new.wait_lists });
+      on_lists = clock_on_lists old mid new (c - old.clock) (w.is ∙ ap (λ (t : ℕ). record (contents old) { clock = t }) gains) r;
     }
 
-pub console_written : (old new : World) (c : ℕ) (x : Console) → Only (console_at old.consoles.items) (console_at new.consoles.items) c x → contents new ≡ record (contents old) { consoles = new.consoles } → ConsoleWritten old new c x
+pub console_written : (old new : World) (c : ℕ) (x : Console) → Only (console_at old.consoles.items) (console_at new.consoles.items) c x
+    → contents new ≡ record (contents old) { consoles = new.consoles } → ConsoleWritten old new c x
 console_written old new c x consoles rest = record { consoles = consoles; rest = rest }
 
-pub holder_written : (old new : World) (c : ℕ) (h : Option ℕ) → Only (holder_at old.holders) (holder_at new.holders) c h → contents new ≡ record (contents old) { holders = new.holders } → HolderWritten old new c h
+pub holder_written : (old new : World) (c : ℕ) (h : Option ℕ) → Only (holder_at old.holders) (holder_at new.holders) c h
+    → contents new ≡ record (contents old) { holders = new.holders } → HolderWritten old new c h
 holder_written old new c h holders rest = record { holders = holders; rest = rest }
 
 pub rest_is : (bs : List ℕ) → drop 1 bs ≡ rest_of bs

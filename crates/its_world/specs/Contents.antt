@@ -1,6 +1,6 @@
 -- What a world holds, without the facts that its type promises. What a change leaves as it was is
--- one equation of contents: by contents new ≡ record (contents old) { rings = new.rings } all but
--- the wait lists is as it was.
+-- one equation of contents: by contents new ≡ record (contents old) { wait_lists = new.wait_lists }
+-- all but the wait lists is as it was.
 -- No promise rests on this.
 use Rattle.std.specs.Prelude.{ℕ, Option, List}
 use Rattle.std.specs.Global.{Vec}
@@ -23,7 +23,7 @@ pub record Contents : Type 0 where
   pub holders : List (Option ℕ)
   pub files : Store
   pub clock : ℕ
-  pub rings : Linked
+  pub wait_lists : Linked
   pub version : ℕ
   pub symbols : Vec (ArrayVec Symbol)
   pub alarms : Vec (Option (ℕ × ℕ))
@@ -38,7 +38,7 @@ contents w = record {
   holders = w.holders;
   files = w.files;
   clock = w.clock;
-  rings = w.rings;
+  wait_lists = w.wait_lists;
   version = w.version;
   symbols = w.symbols;
   alarms = w.alarms;

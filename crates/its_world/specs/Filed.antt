@@ -12,14 +12,14 @@ use Rattle.its_frame.specs.declared.decision.Wait.{Wait}
 use Rattle.its_frame.specs.declared.frame.Frame.{Frame}
 use Rattle.its_frame.specs.declared.frame.Frame.TheVariants.{Waiting}
 use Rattle.its_plain.specs.Machine.{Chan, Shut, TtyIn, TtyOut, Linked, Pipe}
-use Rattle.its_plain.specs.Arguments.{input}
-use Rattle.its_plain.specs.Decide.{call_named}
-use Rattle.its_plain.specs.Reasons.{Doors, held_up, reason_by}
+use Rattle.its_plain.specs.Call.Arguments.{input}
+use Rattle.its_plain.specs.Call.Decide.{call_named}
+use Rattle.its_plain.specs.Call.Reasons.{Doors, held_up, reason_by}
 use Rattle.its_pipes.specs.Pipes.{piped}
 use Rattle.its_word.specs.Console.{Console}
-pub use Rattle.its_machine.specs.Parts.{console_at, holder_at}
+pub use Rattle.its_shared.specs.Parts.{console_at, holder_at}
 use Rattle.its_world.specs.Contents.{contents}
-use Rattle.its_world.specs.Rings.{IsWaitRing, awake_of, place_at, is_within, StandsIn, Filed, AwayFrom}
+use Rattle.its_world.specs.WaitLists.{IsWaitList, awake_of, place_at, is_within, StandsIn, Filed, AwayFrom}
 use Rattle.its_world.specs.declared.world.World.{World}
 
 -- the frame of a slot
@@ -67,8 +67,8 @@ unfoldable pub wait_list_of : World → ℕ → Option ℕ
 wait_list_of w k = place_by (doors_of w) k (job_at w.jobs k) (frame_at w.frames.items k)
 
 -- each slot is on the list to which it belongs, once, and on no other
-abbrev pub Ringed : World → Type 0
-Ringed w = Filed w.rings.lists (wait_list_of w)
+abbrev pub OnLists : World → Type 0
+OnLists w = Filed w.wait_lists.lists (wait_list_of w)
 
 -- the Awake list of the console or the link at which slot k waits, if it waits at one
 abbrev pub awake_for : Option Wait → Option ℕ
@@ -84,25 +84,25 @@ awake_at w k = awake_by (job_at w.jobs k) (frame_at w.frames.items k)
 
 -- it is on a wait list
 pub record Blocked (w : World) (k : ℕ) : Type 0 where
-  pub ring : ℕ
-  pub within : IsWaitRing ring
-  pub here : 0 < count k (list_at w.rings.lists ring)
+  pub list : ℕ
+  pub within : IsWaitList list
+  pub here : 0 < count k (list_at w.wait_lists.lists list)
 
 -- of a world only the lists are others
-pub record OnlyRings (old new : World) : Type 0 where
-  pub is : contents new ≡ record (contents old) { rings = new.rings }
+pub record OnlyWaitLists (old new : World) : Type 0 where
+  pub is : contents new ≡ record (contents old) { wait_lists = new.wait_lists }
 
 -- slot s was put on the list to which it belongs
 pub record Refiled (old new : World) (s : ℕ) : Type 0 where
-  pub rest : OnlyRings old new
-  pub here : StandsIn new.rings.lists s (wait_list_of new s)
-  pub others : (k : ℕ) → k ≢ s → (h : ℕ) → count k (list_at new.rings.lists h) ≡ count k (list_at old.rings.lists h)
+  pub rest : OnlyWaitLists old new
+  pub here : StandsIn new.wait_lists.lists s (wait_list_of new s)
+  pub others : (k : ℕ) → k ≢ s → (h : ℕ) → count k (list_at new.wait_lists.lists h) ≡ count k (list_at old.wait_lists.lists h)
 
 -- each slot that was on one of these lists was put on the list to which it belongs. (The other
 -- slots are on the same lists as before, or on those to which they belong)
 pub record Resettled (old new : World) (hs : List ℕ) : Type 0 where
-  pub rest : OnlyRings old new
-  pub each : (k : ℕ) → StandsIn new.rings.lists k (wait_list_of new k) ⊎ (AwayFrom old.rings.lists k hs × ((h : ℕ) → count k (list_at new.rings.lists h) ≡ count k (list_at old.rings.lists h)))
+  pub rest : OnlyWaitLists old new
+  pub each : (k : ℕ) → StandsIn new.wait_lists.lists k (wait_list_of new k) ⊎ (AwayFrom old.wait_lists.lists k hs × ((h : ℕ) → count k (list_at new.wait_lists.lists h) ≡ count k (list_at old.wait_lists.lists h)))
 
 -- of the job and the frame of slot s alone, j and f were written, and the lists are as they were
 pub record SlotWritten (old new : World) (s : ℕ) (j : Option Job) (f : Option Frame) : Type 0 where

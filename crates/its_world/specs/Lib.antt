@@ -4,5 +4,5 @@ pub mod Tidy
 pub mod Storage
 pub mod Made
 pub mod Mapped
-pub mod Rings
+pub mod WaitLists
 pub mod Filed

@@ -4,17 +4,17 @@ use Rattle.std.specs.Prelude.{◌≡◌, ◌||◌, ℕ, true, false, is_some, le
 use Rattle.its_word.specs.Only.{Same}
 use Rattle.its_records.specs.declared.jobs.Channel.{Channel}
 use Rattle.its_plain.specs.Machine.{Names, Chan, Writes}
-use Rattle.its_plain.specs.Change.{channel_in}
-use Rattle.its_plain.specs.CallFile.{most_files, is_full, has_file, is_read}
-use Rattle.its_plain.specs.OperatorFiles.{channels_of}
+use Rattle.its_plain.specs.Machine.Change.{channel_in}
+use Rattle.its_plain.specs.Call.File.{most_files, is_full, has_file, is_read}
+use Rattle.its_plain.specs.Operator.Files.{channels_of}
 use Rattle.its_stepped.specs.State.{State}
 use Rattle.its_core.specs.Cores.{core_at, clear_at}
 use Rattle.its_files.specs.Files.{Store}
-pub use Rattle.its_machine.specs.Across.{IsElsewhere}
-use Rattle.its_machine.specs.Channels.{OnlyChannel}
+pub use Rattle.its_shared.specs.Across.{IsElsewhere}
+use Rattle.its_shared.specs.Channels.{OnlyChannel}
 use Rattle.its_world.specs.World.{frame_at}
 use Rattle.its_world.specs.Contents.{contents}
-use Rattle.its_world.specs.Filed.{Ringed}
+use Rattle.its_world.specs.Filed.{OnLists}
 use Rattle.its_world.specs.declared.world.World.{World}
 
 -- the slot has a job
@@ -53,8 +53,8 @@ pub record ChannelBecomes (old new : World) (s n : ℕ) (x : Channel) (t : Store
   pub reserved : Same (clear_at old.core) (clear_at new.core)
   pub pages : new.core.frames ≡ old.core.frames
   pub frames : Same (frame_at old.frames.items) (frame_at new.frames.items)
-  pub rest : contents new ≡ record (contents old) { core = new.core; jobs = new.jobs; frames = new.frames; files = t; rings = new.rings }
-  pub ringed : Ringed old → Ringed new
+  pub rest : contents new ≡ record (contents old) { core = new.core; jobs = new.jobs; frames = new.frames; files = t; wait_lists = new.wait_lists }
+  pub on_lists : OnLists old → OnLists new
 
 -- channel n of slot s's job, which has one, was written, and all else, the lists too, is as it was
 pub record ChannelWritten (old new : World) (s n : ℕ) (x : Channel) : Type 0 where

@@ -5,9 +5,9 @@ use Rattle.std.specs.Prelude.{◌≡◌, ◌<◌, ℕ, None, []}
 use Rattle.its_word.specs.Core.{no_core}
 use Rattle.its_core.specs.Cores.{core_at}
 use Rattle.its_jobs.specs.Table.{job_at}
-pub use Rattle.its_machine.specs.Across.{channel_by, channel_at, of_slot, tally, reads_file, writes_draft, writers, Across}
-use Rattle.its_world.specs.Filed.{Ringed}
-use Rattle.its_plain.specs.OperatorClock.{clock_end}
+pub use Rattle.its_shared.specs.Across.{channel_by, channel_at, of_slot, tally, reads_file, writes_draft, writers, Across}
+use Rattle.its_world.specs.Filed.{OnLists}
+use Rattle.its_plain.specs.Operator.Clock.{clock_end}
 use Rattle.its_world.specs.World.{alarm_at, symbols_at}
 use Rattle.its_world.specs.declared.world.World.{World}
 
@@ -19,5 +19,5 @@ pub record Tidy (w : World) : Type 0 where
   pub quiet : (k : ℕ) → job_at w.jobs k ≡ None → alarm_at w.alarms.items k ≡ None
   pub timed : w.clock < clock_end
   pub across : Across w.files w.jobs
-  pub ringed : Ringed w
+  pub on_lists : OnLists w
   pub nameless : (k : ℕ) → job_at w.jobs k ≡ None → symbols_at w.symbols.items k ≡ []

@@ -15,13 +15,13 @@ use Rattle.its_files.specs.declared.entry.Parts.{Parts}
 use Rattle.its_files.specs.declared.entry.Parts.TheVariants.{Replace, Link, Free}
 use Rattle.its_frame.specs.declared.frame.Frame.{Frame}
 use Rattle.its_plain.specs.Machine.{Symbol, File, Machine, Pipe, Whole}
-use Rattle.its_plain.specs.Change.{in_job}
+use Rattle.its_plain.specs.Machine.Change.{in_job}
 use Rattle.its_stepped.specs.State.{Part, UnlinkOld, LinkNew, FreeOld, Mark, State, plain}
-pub use Rattle.its_machine.specs.Parts.{chan_of, closed_channels, bare, chans_of, raw_of, alarm_at, raw_at, no_symbols, symbols_at, raw_machine}
+pub use Rattle.its_shared.specs.Parts.{chan_of, closed_channels, bare, chans_of, raw_of, alarm_at, raw_at, no_symbols, symbols_at, raw_machine}
 use Rattle.its_pipes.specs.Pipes.{piped}
 pub use Rattle.its_world.specs.Filed.{frame_at, console_at, holder_at}
 use Rattle.its_world.specs.Contents.{contents}
-use Rattle.its_world.specs.Filed.{Ringed}
+use Rattle.its_world.specs.Filed.{OnLists}
 use Rattle.its_world.specs.declared.world.World.{World}
 
 -- a close that is half made: its draft becomes the last file; if that is done, it is the last file
@@ -95,8 +95,8 @@ pub record Becomes (old new : World) (s : ℕ) (c : Core) (j : Option Job) (f : 
   pub frame : Only (frame_at old.frames.items) (frame_at new.frames.items) s f
   pub reserved : Only (clear_at old.core) (clear_at new.core) s r
   pub pages : new.core.frames ≡ frames_after (clear_at old.core s) r s old.core.frames
-  pub rest : contents new ≡ record (contents old) { core = new.core; jobs = new.jobs; frames = new.frames; rings = new.rings }
-  pub ringed : Ringed old → Ringed new
+  pub rest : contents new ≡ record (contents old) { core = new.core; jobs = new.jobs; frames = new.frames; wait_lists = new.wait_lists }
+  pub on_lists : OnLists old → OnLists new
 
 -- of the world only the core, only the registers, or only the frame of slot s changes
 abbrev pub CoreBecomes : World → World → ℕ → Core → Type 0
@@ -115,41 +115,41 @@ PageBecomes old new s r = Becomes old new s (core_at old.core s) (job_at old.job
 -- slot is on the list to which it belongs if it was before
 pub record ConsoleBecomes (old new : World) (c : ℕ) (x : Console) : Type 0 where
   pub consoles : Only (console_at old.consoles.items) (console_at new.consoles.items) c x
-  pub rest : contents new ≡ record (contents old) { consoles = new.consoles; rings = new.rings }
-  pub ringed : Ringed old → Ringed new
+  pub rest : contents new ≡ record (contents old) { consoles = new.consoles; wait_lists = new.wait_lists }
+  pub on_lists : OnLists old → OnLists new
 
 pub record HolderBecomes (old new : World) (c : ℕ) (h : Option ℕ) : Type 0 where
   pub holders : Only (holder_at old.holders) (holder_at new.holders) c h
-  pub rest : contents new ≡ record (contents old) { holders = new.holders; rings = new.rings }
-  pub ringed : Ringed old → Ringed new
+  pub rest : contents new ≡ record (contents old) { holders = new.holders; wait_lists = new.wait_lists }
+  pub on_lists : OnLists old → OnLists new
 
 pub record LinkBecomes (old new : World) (l : ℕ) (p : Option Pipe) : Type 0 where
   pub links : Only (piped old.pipes) (piped new.pipes) l p
-  pub rest : contents new ≡ record (contents old) { pipes = new.pipes; rings = new.rings }
-  pub ringed : Ringed old → Ringed new
+  pub rest : contents new ≡ record (contents old) { pipes = new.pipes; wait_lists = new.wait_lists }
+  pub on_lists : OnLists old → OnLists new
 
 -- the clock was set
 pub record ClockBecomes (old new : World) (c : ℕ) : Type 0 where
-  pub rest : contents new ≡ record (contents old) { clock = c; rings = new.rings }
-  pub ringed : Ringed old → Ringed new
+  pub rest : contents new ≡ record (contents old) { clock = c; wait_lists = new.wait_lists }
+  pub on_lists : OnLists old → OnLists new
 
 -- of the world only the symbols of slot s change, or only its alarm
 pub record SymbolsBecome (old new : World) (s : ℕ) (ss : List Symbol) : Type 0 where
   pub symbols : Only (symbols_at old.symbols.items) (symbols_at new.symbols.items) s ss
-  pub rest : contents new ≡ record (contents old) { symbols = new.symbols; rings = new.rings }
-  pub ringed : Ringed old → Ringed new
+  pub rest : contents new ≡ record (contents old) { symbols = new.symbols; wait_lists = new.wait_lists }
+  pub on_lists : OnLists old → OnLists new
 
 pub record AlarmBecomes (old new : World) (s : ℕ) (a : Option (ℕ × ℕ)) : Type 0 where
   pub alarms : Only (alarm_at old.alarms.items) (alarm_at new.alarms.items) s a
-  pub rest : contents new ≡ record (contents old) { alarms = new.alarms; rings = new.rings }
-  pub ringed : Ringed old → Ringed new
+  pub rest : contents new ≡ record (contents old) { alarms = new.alarms; wait_lists = new.wait_lists }
+  pub on_lists : OnLists old → OnLists new
 
 -- of the world only the version changes, and with it the limit of its jobs
 pub record VersionBecomes (old new : World) (v : ℕ) : Type 0 where
   pub jobs : Same (job_at old.jobs) (job_at new.jobs)
   pub superiors : new.jobs.superiors ≡ old.jobs.superiors
-  pub rest : contents new ≡ record (contents old) { version = v; jobs = new.jobs; rings = new.rings }
-  pub ringed : Ringed old → Ringed new
+  pub rest : contents new ≡ record (contents old) { version = v; jobs = new.jobs; wait_lists = new.wait_lists }
+  pub on_lists : OnLists old → OnLists new
 
 -- a console at which a byte was typed, if it has room, and one that a byte was drained from
 abbrev pub typed_at : ℕ → Console → Console

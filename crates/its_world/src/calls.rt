@@ -1,11 +1,11 @@
 //! Calls in progress, which are changed in their places. After each change the slot is on the wait
 //! list to which it belongs.
 ghost use Rattle.std.specs.Prelude.{◌≡◌, ◌<◌, ◌≤◌, ◌∷◌, [], true, Some, None, is_some, IfSome, length, slice_index_or};
-ghost use Rattle.its_calls.specs.Calls.{after_fetch, after_parse, after_step, ending_in, entered_in, fault_of, frame_seen, gone_to, parsed_in, request, request_in};
+ghost use Rattle.its_in_call.specs.Calls.{after_fetch, after_parse, after_step, ending_in, entered_in, fault_of, frame_seen, gone_to, parsed_in, request, request_in};
 ghost use Rattle.its_core.specs.Cores.{core_at};
 ghost use Rattle.its_jobs.specs.Table.{job_at};
-ghost use Rattle.its_plain.specs.Arguments.{with_new_values};
-ghost use Rattle.its_plain.specs.Footprint.{SiteFits};
+ghost use Rattle.its_plain.specs.Call.Arguments.{with_new_values};
+ghost use Rattle.its_plain.specs.Call.Footprint.{SiteFits};
 ghost use Rattle.its_stepped.specs.State.{entered, ending};
 ghost use Rattle.its_stepped.specs.TwoParts.{fetch_of, parse_of};
 ghost use Rattle.its_stepped.specs.Unwind.{due};
@@ -14,7 +14,7 @@ ghost use Rattle.its_world.specs.World.{FrameBecomes, call_in};
 
 use super::world::World;
 use arrayvec::ArrayVec;
-use its_calls::{Next, View};
+use its_in_call::{Next, View};
 use its_records::{Owed, Site};
 use its_word::{Fault, Slot, Word};
 

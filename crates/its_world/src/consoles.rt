@@ -5,9 +5,7 @@ ghost use Rattle.its_word.specs.Console.{most_waiting};
 ghost use Rattle.its_world.specs.World.{typed_at};
 
 use its_console::Console;
-
-/// How many typed bytes wait at most at a console.
-const MOST_WAITING: u32 = 64;
+use its_word::MOST_WAITING;
 
 /// A byte is typed at this console, if it has room.
 #[tactic(auto, using(crate::proofs::WorldLaws::typed_room, crate::proofs::WorldLaws::typed_full))]

@@ -8,13 +8,13 @@
 //! - Each call that writes changes exactly one part of one slot, one console, one holder or one
 //!   link, and each call that reads gives it.
 //! - Each write that can change the wait list to which a slot belongs puts the slot there
-//!   (`ringed`). `is_blocked` says whether a slot is on a wait list.
+//!   (`on_lists`). `is_blocked` says whether a slot is on a wait list.
 //! - Each call on a channel with its file, its draft or its end of a link is the effect of one
 //!   change (`row`), and channels and files continue to fit each other (`tidy`).
 //!
 //! A `World` has one `Files`. The registers of a job have its channels, which name files and drafts
 //! by number: `Reading` has the file and the position, `Writing` the draft. Definitions see names
-//! and words in the place of numbers: `its_machine/specs/Parts.chan_of` is the channel that a
+//! and words in the place of numbers: `its_shared/specs/Parts.chan_of` is the channel that a
 //! machine has, `mark_of` the mark. `Tidy` (`specs/Tidy`) connects the two: the readers of each
 //! file are as many as the channels that read it, and each draft except the marked one is that of
 //! one channel. So the count of readers of a file shows whether it is locked, and no call looks
@@ -37,11 +37,11 @@
 //! removal) ends with `settle_posts`. A new write of a console, a holder, a link, the clock or a
 //! frame goes through one of these.
 //!
-//! Each record of what a write does (`Becomes`, `ConsoleBecomes`, ..) says `ringed : Ringed old →
-//! Ringed new`, and all laws on the lists to which slots belong are in `proofs/PlaceLaws`. Between
-//! calls of the monitor the lists agree with the plain machine: `Kept.rings`
-//! (`its_tick/specs/Waits`). It follows from `Tidy.ringed` by `its_tick/proofs/WaitsLaws.kept_is`,
-//! which builds every `Kept`.
+//! Each record of what a write does (`Becomes`, `ConsoleBecomes`, ..) says
+//! `on_lists : OnLists old → OnLists new`, and all laws on the lists to which slots belong are in
+//! `proofs/PlaceLaws`. Between calls of the monitor the lists agree with the plain machine:
+//! `Kept.wait_lists` (`its_tick/specs/Waits`). It follows from `Tidy.on_lists` by
+//! `its_tick/proofs/WaitsLaws.kept_is`, which builds every `Kept`.
 //!
 //! `specs/World.state_of` is the state of the stepped machine of a world, and `State.plain` of that
 //! the plain machine. Code that changes one slot says `Only old new slot x` (new is old, except for
@@ -77,16 +77,16 @@
 // - `storage.rt`: channels together with the files and drafts that they are on
 // - `pipes.rt`: channels together with the links that they are on
 // - `symbols.rt`: the symbols of jobs
-// - `rings.rt`: which wait list belongs to a reason
-// - `filing.rt`: the wait lists: slots are put on the lists to which they belong
+// - `wait_lists.rt`: which wait list belongs to a reason
+// - `placing.rt`: the wait lists: slots are put on the lists to which they belong
 mod alarms;
 mod calls;
 mod consoles;
-mod filing;
 mod pipes;
-mod rings;
+mod placing;
 mod storage;
 mod symbols;
+mod wait_lists;
 mod world;
 
 pub use its_word::NoMemory;

@@ -2,10 +2,10 @@
 //! and receive.
 
 ghost use Rattle.std.specs.Prelude.{◌≡◌, ◌<◌, true, Some, is_some, length, option_map, slice_get};
-ghost use Rattle.its_records.specs.Links.{most_links, most_linked};
-ghost use Rattle.its_frame.specs.declared.change.Change.TheVariants.{Join, Part, Receive, Send};
-ghost use Rattle.its_plain.specs.CallLink.{words_in};
-ghost use Rattle.its_plain.specs.Change.{after_end_close, link_or_new, with_end_opened, with_received, with_sent};
+ghost use Rattle.its_records.specs.Links.{most_links, most_link_words};
+ghost use Rattle.its_frame.specs.declared.change.Change.TheVariants.{Join, CloseEnd, Receive, Send};
+ghost use Rattle.its_plain.specs.Call.Link.{words_in};
+ghost use Rattle.its_plain.specs.Machine.Change.{after_end_close, link_or_new, with_end_opened, with_received, with_sent};
 ghost use Rattle.its_plain.specs.Machine.{Linked, Shut};
 ghost use Rattle.its_stepped.specs.Commit.{effect_on};
 ghost use Rattle.its_pipes.specs.Pipes.{piped};
@@ -55,12 +55,12 @@ impl World {
 
     /// Closes a channel of a slot's job that is on an end of a link, and the end with it. A link
     /// without an open end is gone with its words.
-    pub fn part(&mut self, slot: Slot, n: u8, link: u8, write: bool)
+    pub fn close_link(&mut self, slot: Slot, n: u8, link: u8, write: bool)
         requires channel { n < 16 }
         requires link { link < most_links }
         requires on { chan_in (state_of self.old) slot n ≡ Linked link write }
         requires tidy { Tidy self.old }
-        ensures row { state_of self.new ≡ effect_on (Part n link write) slot (state_of self.old) }
+        ensures row { state_of self.new ≡ effect_on (CloseEnd n link write) slot (state_of self.old) }
         ensures tidy { Tidy self.new }
         ensures pages { self.new.core.frames ≡ self.old.core.frames }
     {
@@ -83,7 +83,7 @@ impl World {
         requires { link < most_links }
         ensures { LinkWritten self.old self.new link (after_end_close write (piped self.old.pipes link)) }
     {
-        self.pipes.part(link, write);
+        self.pipes.close_end(link, write);
     }
 
     /// Puts a word at the end of a link, which has room.
@@ -91,7 +91,7 @@ impl World {
     pub fn send(&mut self, link: u8, word: Word)
         requires link { link < most_links }
         requires stands { is_some (piped self.old.pipes link) ≡ true }
-        requires room { length (words_in (piped self.old.pipes link)) < most_linked }
+        requires room { length (words_in (piped self.old.pipes link)) < most_link_words }
         ensures { LinkBecomes self.old self.new link (option_map (with_sent word) (piped self.old.pipes link)) }
     {
         self.write_sent(link, word);
@@ -102,7 +102,7 @@ impl World {
     fn write_sent(&mut self, link: u8, word: Word)
         requires link { link < most_links }
         requires stands { is_some (piped self.old.pipes link) ≡ true }
-        requires room { length (words_in (piped self.old.pipes link)) < most_linked }
+        requires room { length (words_in (piped self.old.pipes link)) < most_link_words }
         ensures { LinkWritten self.old self.new link (option_map (with_sent word) (piped self.old.pipes link)) }
     {
         self.pipes.send(link, word);

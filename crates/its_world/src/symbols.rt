@@ -3,11 +3,11 @@
 ghost use Rattle.std.specs.Prelude.{◌≡◌, ℕ, vec_len, is_none};
 ghost use Rattle.its_word.specs.Limits.{slots};
 ghost use Rattle.its_jobs.specs.Table.{job_at};
-ghost use Rattle.its_plain.specs.Change.{symbols_after_removal};
+ghost use Rattle.its_plain.specs.Machine.Change.{symbols_after_removal};
 ghost use Rattle.its_world.specs.World.{symbols_at};
 
 use its_jobs::Jobs;
-use its_machine::SymbolTable;
+use its_shared::SymbolTable;
 use its_word::SLOTS;
 
 /// Takes the symbols from the slots that have no job.

@@ -3,24 +3,21 @@
 ghost use Rattle.std.specs.Prelude.{◌≡◌, ◌<◌, ◌≤◌, ◌≢◌, ◌↔◌, ◌/◌, ◌^◌, ◌+◌, ℕ, [], ◌∷◌, ◌++◌, vec_len, length, slice_get, slice_index_or, true, false, Some, None, Ok, Err, IfOk, IfErr, OnOk, OnErr, IsTrue, is_some, option_copied};
 ghost use Rattle.its_word.specs.Console.{quiet_console, most_waiting};
 ghost use Rattle.its_word.specs.Limits.{slots, limit_of, most_symbols};
-ghost use Rattle.its_world.specs.Rings.{heads};
+ghost use Rattle.its_world.specs.WaitLists.{heads};
 
 use super::consoles::type_at;
-use super::rings::HEADS;
-use its_calls::Call;
+use super::wait_lists::HEADS;
 use its_console::Console;
 use its_core::Core;
 use its_files::Files;
+use its_in_call::Call;
 use its_jobs::{Jobs, limit_of};
 use its_links::Links;
-use its_machine::{SymbolTable, no_alarms, no_symbols, quiet_consoles};
 use its_pipes::Pipes;
 use its_records::Job;
-use its_word::{ConsoleNumber, NoAccess, NoMemory, SLOTS, Slot, Word};
+use its_shared::{SymbolTable, no_alarms, no_symbols, quiet_consoles};
+use its_word::{CONSOLES, ConsoleNumber, NoAccess, NoMemory, SLOTS, Slot, Word};
 use std::alloc::Global;
-
-/// How many consoles there are.
-pub(crate) const CONSOLES: usize = 8;
 
 /// The whole state: cores, jobs, for each slot its call in progress, if it is in one, the consoles,
 /// for each of them the slot of the job that holds it, the files and drafts, the clock in
@@ -37,7 +34,7 @@ pub struct World {
     pub holders: [Option<u8>; 8],
     pub files: Files,
     pub clock: u64,
-    pub rings: Links,
+    pub wait_lists: Links,
     pub version: u8,
     pub symbols: Vec<SymbolTable>,
     pub alarms: Vec<Option<(u64, u64)>>,
@@ -46,8 +43,8 @@ pub struct World {
     ghost alarm_places: { vec_len alarms ≡ slots },
     ghost slots: { vec_len frames ≡ slots },
     ghost consoles_count: { vec_len consoles ≡ 8 },
-    ghost ring_nodes: { rings.nodes ≡ vec_len frames },
-    ghost ring_lists: { length rings.lists ≡ heads },
+    ghost wait_lists_nodes: { wait_lists.nodes ≡ vec_len frames },
+    ghost wait_lists_heads: { length wait_lists.lists ≡ heads },
     ghost limited: { jobs.limit ≡ limit_of version },
     ghost numbered: { (1 ≤ version) × (version ≤ 2) },
 }
@@ -57,10 +54,10 @@ impl World {
     ghost use Rattle.its_jobs.specs.Table.{job_at, superior_at, NoJobs};
     ghost use Rattle.its_word.specs.Core.{store, can_store, put as put_at, page_of};
     ghost use Rattle.its_world.specs.World.{frame_at, console_at, holder_at, alarm_at, CoreBecomes, JobBecomes, FrameBecomes, PageBecomes, ConsoleBecomes, HolderBecomes, ClockBecomes, symbols_at, SymbolsBecome, VersionBecomes, typed_at, drained_at, call_in};
-    ghost use Rattle.its_plain.specs.Change.{after_take, after_put};
+    ghost use Rattle.its_plain.specs.Machine.Change.{after_take, after_put};
     ghost use Rattle.its_files.specs.Files.{no_files};
     ghost use Rattle.its_pipes.specs.Pipes.{piped};
-    ghost use Rattle.its_world.specs.Filed.{Ringed, SlotWritten, ConsoleWritten, HolderWritten, ClockWritten};
+    ghost use Rattle.its_world.specs.Filed.{OnLists, SlotWritten, ConsoleWritten, HolderWritten, ClockWritten};
 
     /// The world at the start of a session: no job, no page, no frame, nothing that waits at a
     /// console, no holder of one, clock 0, version 1, no symbol, no alarm, no link. Takes all the
@@ -74,7 +71,7 @@ impl World {
         ensures holders { IfOk result (λ w. (c : ℕ) → holder_at w.holders c ≡ None) }
         ensures files { IfOk result (λ w. w.files ≡ no_files) }
         ensures clock { IfOk result (λ w. w.clock ≡ 0) }
-        ensures ringed { IfOk result Ringed }
+        ensures on_lists { IfOk result OnLists }
         ensures version { IfOk result (λ w. w.version ≡ 1) }
         ensures symbols { IfOk result (λ w. (k : ℕ) → symbols_at w.symbols.items k ≡ []) }
         ensures alarms { IfOk result (λ w. (k : ℕ) → alarm_at w.alarms.items k ≡ None) }
@@ -85,7 +82,7 @@ impl World {
         let frames = no_frames(alloc, SLOTS)?;
         let consoles = quiet_consoles(alloc, CONSOLES)?;
         let files = Files::open(alloc)?;
-        let rings = Links::open(alloc, SLOTS as u32, HEADS)?;
+        let wait_lists = Links::open(alloc, SLOTS as u32, HEADS)?;
         let symbols = no_symbols(alloc, SLOTS)?;
         let alarms = no_alarms(alloc, SLOTS)?;
         let pipes = Pipes::open(alloc)?;
@@ -97,7 +94,7 @@ impl World {
             holders: [None; CONSOLES],
             files,
             clock: 0,
-            rings,
+            wait_lists,
             version: 1,
             symbols,
             alarms,
@@ -316,7 +313,7 @@ impl World {
 }
 
 /// So many places for calls, of jobs in user mode.
-#[tactic(auto, using(its_machine::proofs::OpenLaws::none_more))]
+#[tactic(auto, using(its_shared::proofs::OpenLaws::none_more))]
 fn no_frames(alloc: Global, n: usize) -> Result<Vec<Call>, NoMemory>
     ensures length { IfOk result (λ v. vec_len v ≡ n) }
     ensures none { IfOk result (λ v. (k : ℕ) → slice_index_or v.items k None ≡ None) }

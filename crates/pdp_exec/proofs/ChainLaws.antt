@@ -15,8 +15,8 @@ use Rattle.its_word.specs.declared.plan.Reached.{Reached}
 use Rattle.its_word.specs.declared.plan.ChainStep.{ChainStep}
 use Rattle.its_word.specs.declared.plan.ChainStep.TheVariants.{Found, Target}
 use Rattle.its_word.specs.Stores.{first_fault}
-use Rattle.its_plain.specs.UnitPlan.{Planned, read_of}
-use Rattle.its_plain.specs.Traced.{Traced, also, gives, goes_on, located, word}
+use Rattle.its_plain.specs.Unit.Plans.{Planned, read_of}
+use Rattle.its_plain.specs.Unit.Trace.{Traced, also, gives, goes_on, located, word}
 use Rattle.its_plain.specs.Unit.{Outcome, Called, Faulted, chain, context_of, decoded, done_by, followed, has_row, made, outcome_at, outcome_of, reached, row_of, site_of, chain_step, chain_step_at, unit}
 use Rattle.pdp_exec.specs.Answer.{IsCalled}
 use Rattle.pdp_exec.specs.Ready.{Stands, is_call, leads_on}
@@ -86,7 +86,9 @@ along_more c j i w used seen new v k a h e n =
     let y = then_reads (chain_step c j w used) (next_step c j (65 - (i + 1))) (Target v k) (sym e) in
     record {
       answer = sym (ap (λ m. m.answer) t ∙ x) ∙ a.answer;
-      places = ap (λ xs. xs ++ (chain (65 - (i + 1)) c j v k).reads) n ∙ append_assoc seen (chain_step c j w used).reads (chain (65 - (i + 1)) c j v k).reads ∙ ap (λ r. seen ++ r) (sym (ap (λ m. m.reads) t ∙ y)) ∙ a.places;
+      places = ap (λ xs. xs ++ (chain (65 - (i + 1)) c j v k).reads) n
+          ∙ append_assoc seen (chain_step c j w used).reads (chain (65 - (i + 1)) c j v k).reads
+          ∙ ap (λ r. seen ++ r) (sym (ap (λ m. m.reads) t ∙ y)) ∙ a.places;
     }
 
 pub along_found : (c : Core) (j : Job) (i w used : ℕ) (seen new : List ℕ) (r : Reached) → Along c j (65 - i) w used seen → i < 65
@@ -107,7 +109,8 @@ along_stops c j i w used seen new f a h e n =
     let t = chain_on i c j w used h in
     record {
       answer_is = sym (ap (λ m. m.answer) t ∙ stops_answer (chain_step c j w used) (next_step c j (65 - (i + 1))) f (sym e)) ∙ a.answer;
-      places_is = n ∙ ap (λ r. seen ++ r) (sym (ap (λ m. m.reads) t ∙ stops_reads (chain_step c j w used) (next_step c j (65 - (i + 1))) f (sym e))) ∙ a.places;
+      places_is = n ∙ ap (λ r. seen ++ r) (sym (ap (λ m. m.reads) t
+          ∙ stops_reads (chain_step c j w used) (next_step c j (65 - (i + 1))) f (sym e))) ∙ a.places;
     }
 
 -- the faults of the two, for `using`
@@ -127,7 +130,8 @@ along_over c j i w used seen a h =
     }
 
 -- an instruction that is no XCT is found in its own place
-pub step_plain : (c : Core) (i : Instruction) (x : Context) → leads_on i ≡ false → chain_step_at c i x ≡ gives (Found (record { instruction = i; context = x }))
+pub step_plain : (c : Core) (i : Instruction) (x : Context) → leads_on i ≡ false
+    → chain_step_at c i x ≡ gives (Found (record { instruction = i; context = x }))
 unfolding chain_step_at
 step_plain c Xct x h = cc
 step_plain c _ x h = refl
@@ -162,17 +166,20 @@ unfolding decoded
 is_decoded w i e h = rw (e, h) refl
 
 -- the unit, if the way to its instruction is known
-unit_at : (c : Core) (j : Job) (a : Result Reached Fault) (reads : List ℕ) → a ≡ (reached c j).answer → reads ≡ (reached c j).reads → unit c j ≡ outcome_at c j reads a
+unit_at : (c : Core) (j : Job) (a : Result Reached Fault) (reads : List ℕ) → a ≡ (reached c j).answer → reads ≡ (reached c j).reads
+    → unit c j ≡ outcome_at c j reads a
 unfolding unit
 unit_at c j a reads e f = ap (λ b. outcome_at c j (reached c j).reads b) (sym e) ∙ ap (λ r. outcome_at c j r a) (sym f)
 
 -- a call, with the site that the walk to its instruction gives
-pub unit_iot : (c : Core) (j : Job) (a : Result Reached Fault) (r : Reached) (reads : List ℕ) → a ≡ (reached c j).answer → reads ≡ (reached c j).reads → a ≡ Ok r → r.instruction ≡ Iot
+pub unit_iot : (c : Core) (j : Job) (a : Result Reached Fault) (r : Reached) (reads : List ℕ) → a ≡ (reached c j).answer
+    → reads ≡ (reached c j).reads → a ≡ Ok r → r.instruction ≡ Iot
     → unit c j ≡ Called (site_of r.context (Some r.context.a) reads)
 unfolding done_by
 unit_iot c j a r reads e f g h = unit_at c j a reads e f ∙ ap (outcome_at c j reads) g ∙ ap (λ i. done_by c j reads r.context i) h
 
-pub unit_call : (c : Core) (j : Job) (a : Result Reached Fault) (r : Reached) (reads : List ℕ) → a ≡ (reached c j).answer → reads ≡ (reached c j).reads → a ≡ Ok r → r.instruction ≡ Call
+pub unit_call : (c : Core) (j : Job) (a : Result Reached Fault) (r : Reached) (reads : List ℕ) → a ≡ (reached c j).answer
+    → reads ≡ (reached c j).reads → a ≡ Ok r → r.instruction ≡ Call
     → unit c j ≡ Called (site_of r.context None reads)
 unfolding done_by
 unit_call c j a r reads e f g h = unit_at c j a reads e f ∙ ap (outcome_at c j reads) g ∙ ap (λ i. done_by c j reads r.context i) h
@@ -194,8 +201,10 @@ is_called c j r e h = subst IsCalled (sym (ap (outcome_at c j (reached c j).read
 pub stands_at : (c : Core) (j : Job) (w : ℕ) (e : Address) → read_of c j.pc ≡ Ok w → (address c w 0).answer ≡ Ok e
     → Stands c j (opcode_of w) (context_of j w e (address c w 0).used)
 stands_at c j w e r a = record {
-  does = λ i o h p q. sym (unit_by c j (record { instruction = i; context = context_of j w e (address c w 0).used }) _ (plain_reached c j w i e r (is_decoded w i o h) p a) q refl);
-  calls = λ i o h p q. is_called c j (record { instruction = i; context = context_of j w e (address c w 0).used }) (plain_reached c j w i e r (is_decoded w i o h) p a) q;
+  does = λ i o h p q. sym (unit_by c j (record { instruction = i; context = context_of j w e (address c w 0).used }) _
+      (plain_reached c j w i e r (is_decoded w i o h) p a) q refl);
+  calls = λ i o h p q. is_called c j (record { instruction = i; context = context_of j w e (address c w 0).used })
+      (plain_reached c j w i e r (is_decoded w i o h) p a) q;
 }
 
 pub stands : (c : Core) (j : Job) (o : ℕ) (x : Context) (p : Planned) → Stands c j o x → has_row (instruction_of o) x.a ≡ true
@@ -217,7 +226,8 @@ never_called c j (Err f) h = h
 no_call : (c : Core) (j : Job) (r : Reached) → (reached c j).answer ≡ Ok r → is_call r.instruction ≡ false → IsCalled (unit c j) → ⊥
 no_call c j r e h q = never_called c j (row_of c r.context r.instruction) (subst IsCalled (unit_by c j r _ e h refl) q)
 
-pub no_other : (c : Core) (j : Job) (r : Reached) → Ok r ≡ (reached c j).answer → (r.instruction ≡ Iot → ⊥) → (r.instruction ≡ Call → ⊥) → IsCalled (unit c j) → ⊥
+pub no_other : (c : Core) (j : Job) (r : Reached) → Ok r ≡ (reached c j).answer → (r.instruction ≡ Iot → ⊥) → (r.instruction ≡ Call → ⊥)
+    → IsCalled (unit c j) → ⊥
 no_other c j r e m n q = no_call c j r (sym e) (other r.instruction m n) q
   where
     other : (i : Instruction) → (i ≡ Iot → ⊥) → (i ≡ Call → ⊥) → is_call i ≡ false

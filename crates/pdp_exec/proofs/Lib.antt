@@ -4,3 +4,4 @@ pub mod MakingLaws
 pub mod ReadLaws
 pub mod SeriesLaws
 pub mod NearLaws
+pub mod Groups

@@ -2,8 +2,8 @@
 use Rattle.std.specs.Prelude.{if◌then◌else◌, ◌≡◌, ◌+◌, ℕ, zero, suc, Bool, true, false, Option, Some, None, refl}
 use Rattle.std.proofs.Common.{◌∙◌, ap, arith, subst}
 use Rattle.its_records.specs.declared.jobs.Job.{Job}
-use Rattle.its_plain.specs.Interrupt.{deliverable}
-use Rattle.its_plain.specs.Job.{bit_of, with_pending}
+use Rattle.its_plain.specs.Unit.Interrupt.{deliverable}
+use Rattle.its_plain.specs.Machine.Registers.{bit_of, with_pending}
 use Rattle.its_plain.specs.Unit.{Outcome, Changed, Faulted, Called, unit}
 use Rattle.its_plain.proofs.UnitLaws.{unit_keeps}
 use Rattle.pdp_exec.specs.Units.{Left, after_outcome, after_unit, after_units, left, unit_unless}
@@ -54,7 +54,8 @@ pub unless_keeps : (b : Bool) (l m : Left) → unit_unless b l ≡ Some m → Ke
 unless_keeps true l m e = absurd cc
 unless_keeps false l m e = outcome_keeps l m (unit l.core l.job) refl e
 
-then_keeps : (n : ℕ) (l m : Left) → ((k : Left) → after_units n (Some k) ≡ Some m → Keeps k.job m.job) → (o : Option Left) → after_unit (Some l) ≡ o → after_units n o ≡ Some m → Keeps l.job m.job
+then_keeps : (n : ℕ) (l m : Left) → ((k : Left) → after_units n (Some k) ≡ Some m → Keeps k.job m.job) → (o : Option Left)
+    → after_unit (Some l) ≡ o → after_units n o ≡ Some m → Keeps l.job m.job
 then_keeps n l m rest (Some k) is e =
     let a = unless_keeps (deliverable l.job) l k is in
     let b = rest k e in

@@ -5,7 +5,7 @@ use Rattle.its_word.specs.Core.{Core}
 use Rattle.its_word.specs.declared.access.Fault.{Fault}
 use Rattle.its_records.specs.declared.jobs.Job.{Job}
 use Rattle.its_core.specs.Cores.{Cores, core_at}
-use Rattle.its_plain.specs.Job.{bit_of}
+use Rattle.its_plain.specs.Machine.Registers.{bit_of}
 use Rattle.its_plain.specs.Unit.{Outcome, Changed, Faulted, Called}
 use Rattle.pdp_exec.specs.declared.units.Ended.{Ended}
 use Rattle.pdp_exec.specs.declared.units.Ended.TheVariants as ends

@@ -10,7 +10,7 @@ use Rattle.its_word.specs.declared.instruction.Instruction.{Instruction}
 use Rattle.its_word.specs.declared.instruction.Instruction.TheVariants.{Iot, Call}
 use Rattle.its_records.specs.declared.calls.Site.{Site}
 use Rattle.its_plain.specs.Unit.{decoded}
-use Rattle.its_plain.specs.UnitPlan.{read_of}
+use Rattle.its_plain.specs.Unit.Plans.{read_of}
 use Rattle.pdp_exec.specs.declared.near.Near.{Near}
 
 abbrev pub near_site : ℕ → Near → Site

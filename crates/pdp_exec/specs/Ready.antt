@@ -11,7 +11,7 @@ use Rattle.its_word.specs.declared.plan.Context.{Context}
 use Rattle.its_word.specs.declared.plan.ChainStep.{ChainStep}
 use Rattle.its_word.specs.declared.plan.ChainStep.TheVariants.{Found, Target}
 use Rattle.its_plain.specs.Unit.{has_row, outcome_of, row_of, unit}
-use Rattle.its_plain.specs.UnitPlan.{ContextFits}
+use Rattle.its_plain.specs.Unit.Plans.{ContextFits}
 use Rattle.pdp_exec.specs.Answer.{IsCalled}
 
 -- an instruction with the numbers of its row and of its context, or a word with some of the budget

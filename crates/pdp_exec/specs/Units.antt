@@ -3,8 +3,8 @@
 use Rattle.std.specs.Prelude.{ℕ, zero, suc, Bool, true, false, Option, Some, None}
 use Rattle.its_word.specs.Core.{Core}
 use Rattle.its_records.specs.declared.jobs.Job.{Job}
-use Rattle.its_plain.specs.Interrupt.{deliverable}
-use Rattle.its_plain.specs.Job.{bit_of, with_pending}
+use Rattle.its_plain.specs.Unit.Interrupt.{deliverable}
+use Rattle.its_plain.specs.Machine.Registers.{bit_of, with_pending}
 use Rattle.its_plain.specs.Unit.{Outcome, Changed, Faulted, Called, unit}
 
 -- a core and registers

@@ -3,12 +3,12 @@
 ghost use Rattle.std.specs.Prelude.{◌≡◌, ◌<◌, ◌^◌};
 ghost use Rattle.its_core.specs.Cores.{core_at};
 ghost use Rattle.its_plain.specs.Unit.{outcome_of, unit as unit_of};
-ghost use Rattle.its_plain.specs.UnitArith.{arithmetic_row, boolean_row, shift_row};
-ghost use Rattle.its_plain.specs.UnitBytes.{byte_row};
-ghost use Rattle.its_plain.specs.UnitJumps.{branch_row, stack_row};
-ghost use Rattle.its_plain.specs.UnitMoves.{half_row, move_row};
-ghost use Rattle.its_plain.specs.UnitPlan.{ContextFits};
-ghost use Rattle.its_plain.specs.UnitTests.{test_row};
+ghost use Rattle.its_plain.specs.Unit.Arith.{arithmetic_row, boolean_row, shift_row};
+ghost use Rattle.its_plain.specs.Unit.Bytes.{byte_row};
+ghost use Rattle.its_plain.specs.Unit.Jumps.{branch_row, stack_row};
+ghost use Rattle.its_plain.specs.Unit.Moves.{half_row, move_row};
+ghost use Rattle.its_plain.specs.Unit.Plans.{ContextFits};
+ghost use Rattle.its_plain.specs.Unit.Tests.{test_row};
 ghost use Rattle.pdp_exec.specs.Answer.{InPlace};
 ghost use Rattle.pdp_exec.specs.Ready.{Stands};
 
@@ -24,7 +24,8 @@ use super::units::{Ended, fault_bit, rarely};
 use its_core::Core;
 use its_records::Job;
 use its_word::{
-    ArithmeticOp, BranchOp, ByteOp, Context, Fault, MaskOp, Mode, MoveOp, ShiftOp, Slot, StackOp,
+    ArithmeticOp, BooleanOp, BranchOp, ByteOp, Condition, Context, Fault, MaskOp, Mode, Modify,
+    MoveOp, ShiftOp, SkipWhen, Slot, StackOp,
 };
 
 /// Does what is planned for the unit of a job.
@@ -98,14 +99,20 @@ fn shifting(core: &mut Core, slot: Slot, job: &mut Job, x: &Context, op: ShiftOp
 
 /// SETZ to SETO.
 #[inline(always)]
-fn combining(core: &mut Core, slot: Slot, job: &mut Job, x: &Context, k: u32, mode: Mode) -> Ended
+fn combining(
+    core: &mut Core,
+    slot: Slot,
+    job: &mut Job,
+    x: &Context,
+    op: BooleanOp,
+    mode: Mode,
+) -> Ended
     requires pc { job.old.pc < 2 ^ 18 }
     requires fits { ContextFits x.now }
-    requires k { k < 16 }
-    requires unit { outcome_of (core_at core.old slot) job.old (boolean_row (core_at core.old slot) x.now k mode) ≡ unit_of (core_at core.old slot) job.old }
+    requires unit { outcome_of (core_at core.old slot) job.old (boolean_row (core_at core.old slot) x.now op mode) ≡ unit_of (core_at core.old slot) job.old }
     ensures { InPlace result (unit_of (core_at core.old slot) job.old) core.old core.new slot job.old job.new }
 {
-    made(booleans(core, slot, x, k, mode), core, slot, job)
+    made(booleans(core, slot, x, op, mode), core, slot, job)
 }
 
 /// BLT, AOBJP, AOBJN, JRST, JFCL.
@@ -138,17 +145,15 @@ fn testing(
     job: &mut Job,
     x: &Context,
     op: MaskOp,
-    k: u32,
-    change: u32,
+    when: SkipWhen,
+    modify: Modify,
 ) -> Ended
     requires pc { job.old.pc < 2 ^ 18 }
     requires fits { ContextFits x.now }
-    requires k { k < 4 }
-    requires change { change < 4 }
-    requires unit { outcome_of (core_at core.old slot) job.old (test_row (core_at core.old slot) x.now op k change) ≡ unit_of (core_at core.old slot) job.old }
+    requires unit { outcome_of (core_at core.old slot) job.old (test_row (core_at core.old slot) x.now op when modify) ≡ unit_of (core_at core.old slot) job.old }
     ensures { InPlace result (unit_of (core_at core.old slot) job.old) core.old core.new slot job.old job.new }
 {
-    made(tests_of(core, slot, x, op, k, change), core, slot, job)
+    made(tests_of(core, slot, x, op, when, modify), core, slot, job)
 }
 
 /// IBP, ILDB, LDB, IDPB, DPB.
@@ -175,52 +180,100 @@ fn often(core: &mut Core, slot: Slot, job: &mut Job, opcode: u32, context: Conte
 {
     let x = &context;
     match opcode {
-        0o205 => moving(core, slot, job, x, MoveOp::Swap, Mode::Immediate),
-        0o554 => halving(core, slot, job, x, 11, Mode::Basic),
-        0o242 => shifting(core, slot, job, x, ShiftOp::Lsh),
-        0o400 => combining(core, slot, job, x, 0, Mode::Basic),
-        0o402 => combining(core, slot, job, x, 0, Mode::Memory),
-        0o404 => combining(core, slot, job, x, 1, Mode::Basic),
-        0o405 => combining(core, slot, job, x, 1, Mode::Immediate),
-        0o434 => combining(core, slot, job, x, 7, Mode::Basic),
-        0o474 => combining(core, slot, job, x, 15, Mode::Basic),
-        0o321 => made(jumps(core, slot, x, 1), core, slot, job),
-        0o323 => made(jumps(core, slot, x, 3), core, slot, job),
-        0o325 => made(jumps(core, slot, x, 5), core, slot, job),
-        0o327 => made(jumps(core, slot, x, 7), core, slot, job),
-        0o340 => made(aoj(core, slot, x, 0), core, slot, job),
-        0o350 => made(aos(core, slot, x, 0), core, slot, job),
-        0o360 => made(soj(core, slot, x, 0), core, slot, job),
-        0o364 => made(soj(core, slot, x, 4), core, slot, job),
-        0o370 => made(sos(core, slot, x, 0), core, slot, job),
-        0o301 => made(cai(core, slot, x, 1), core, slot, job),
-        0o303 => made(cai(core, slot, x, 3), core, slot, job),
-        0o305 => made(cai(core, slot, x, 5), core, slot, job),
-        0o307 => made(cai(core, slot, x, 7), core, slot, job),
-        0o311 => made(cam(core, slot, x, 1), core, slot, job),
-        0o312 => made(cam(core, slot, x, 2), core, slot, job),
-        0o313 => made(cam(core, slot, x, 3), core, slot, job),
-        0o315 => made(cam(core, slot, x, 5), core, slot, job),
-        0o316 => made(cam(core, slot, x, 6), core, slot, job),
-        0o317 => made(cam(core, slot, x, 7), core, slot, job),
-        0o331 => made(skips(core, slot, x, 1), core, slot, job),
-        0o333 => made(skips(core, slot, x, 3), core, slot, job),
-        0o335 => made(skips(core, slot, x, 5), core, slot, job),
-        0o337 => made(skips(core, slot, x, 7), core, slot, job),
-        0o602 => testing(core, slot, job, x, MaskOp::Tr, 1, 0),
-        0o606 => testing(core, slot, job, x, MaskOp::Tr, 3, 0),
-        0o620 => testing(core, slot, job, x, MaskOp::Tr, 0, 1),
-        0o621 => testing(core, slot, job, x, MaskOp::Tl, 0, 1),
-        0o660 => testing(core, slot, job, x, MaskOp::Tr, 0, 3),
-        0o661 => testing(core, slot, job, x, MaskOp::Tl, 0, 3),
-        0o253 => jumping(core, slot, job, x, BranchOp::Aobjn),
-        0o261 => stacking(core, slot, job, x, StackOp::Push),
-        0o262 => stacking(core, slot, job, x, StackOp::Pop),
-        0o265 => stacking(core, slot, job, x, StackOp::Jsp),
-        0o135 => picking(core, slot, job, x, ByteOp::Ldb),
-        0o137 => picking(core, slot, job, x, ByteOp::Dpb),
-        0o040 => Ended::Call,
-        0o043 if x.a == 0 => Ended::Call,
+        0o205 => moving(core, slot, job, x, MoveOp::Swap, Mode::Immediate), // MOVSI
+        0o554 => halving(core, slot, job, x, 11, Mode::Basic), // HLRZ
+        0o242 => shifting(core, slot, job, x, ShiftOp::Lsh), // LSH
+        0o400 => combining(core, slot, job, x, BooleanOp::Setz, Mode::Basic), // SETZ
+        0o402 => combining(core, slot, job, x, BooleanOp::Setz, Mode::Memory), // SETZM
+        0o404 => combining(core, slot, job, x, BooleanOp::And, Mode::Basic), // AND
+        0o405 => combining(core, slot, job, x, BooleanOp::And, Mode::Immediate), // ANDI
+        0o434 => combining(core, slot, job, x, BooleanOp::Ior, Mode::Basic), // IOR
+        0o474 => combining(core, slot, job, x, BooleanOp::Seto, Mode::Basic), // SETO
+        0o321 => made(jumps(core, slot, x, Condition::L), core, slot, job), // JUMPL
+        0o323 => made(jumps(core, slot, x, Condition::Le), core, slot, job), // JUMPLE
+        0o325 => made(jumps(core, slot, x, Condition::Ge), core, slot, job), // JUMPGE
+        0o327 => made(jumps(core, slot, x, Condition::G), core, slot, job), // JUMPG
+        0o340 => made(aoj(core, slot, x, Condition::Never), core, slot, job), // AOJ
+        0o350 => made(aos(core, slot, x, Condition::Never), core, slot, job), // AOS
+        0o360 => made(soj(core, slot, x, Condition::Never), core, slot, job), // SOJ
+        0o364 => made(soj(core, slot, x, Condition::A), core, slot, job), // SOJA
+        0o370 => made(sos(core, slot, x, Condition::Never), core, slot, job), // SOS
+        0o301 => made(cai(core, slot, x, Condition::L), core, slot, job), // CAIL
+        0o303 => made(cai(core, slot, x, Condition::Le), core, slot, job), // CAILE
+        0o305 => made(cai(core, slot, x, Condition::Ge), core, slot, job), // CAIGE
+        0o307 => made(cai(core, slot, x, Condition::G), core, slot, job), // CAIG
+        0o311 => made(cam(core, slot, x, Condition::L), core, slot, job), // CAML
+        0o312 => made(cam(core, slot, x, Condition::E), core, slot, job), // CAME
+        0o313 => made(cam(core, slot, x, Condition::Le), core, slot, job), // CAMLE
+        0o315 => made(cam(core, slot, x, Condition::Ge), core, slot, job), // CAMGE
+        0o316 => made(cam(core, slot, x, Condition::N), core, slot, job), // CAMN
+        0o317 => made(cam(core, slot, x, Condition::G), core, slot, job), // CAMG
+        0o331 => made(skips(core, slot, x, Condition::L), core, slot, job), // SKIPL
+        0o333 => made(skips(core, slot, x, Condition::Le), core, slot, job), // SKIPLE
+        0o335 => made(skips(core, slot, x, Condition::Ge), core, slot, job), // SKIPGE
+        0o337 => made(skips(core, slot, x, Condition::G), core, slot, job), // SKIPG
+        0o602 => testing(
+            core,
+            slot,
+            job,
+            x,
+            MaskOp::Tr,
+            SkipWhen::AllZero,
+            Modify::Unmodified,
+        ), // TRNE
+        0o606 => testing(
+            core,
+            slot,
+            job,
+            x,
+            MaskOp::Tr,
+            SkipWhen::NotAllZero,
+            Modify::Unmodified,
+        ), // TRNN
+        0o620 => testing(
+            core,
+            slot,
+            job,
+            x,
+            MaskOp::Tr,
+            SkipWhen::NoSkip,
+            Modify::Zeros,
+        ), // TRZ
+        0o621 => testing(
+            core,
+            slot,
+            job,
+            x,
+            MaskOp::Tl,
+            SkipWhen::NoSkip,
+            Modify::Zeros,
+        ), // TLZ
+        0o660 => testing(
+            core,
+            slot,
+            job,
+            x,
+            MaskOp::Tr,
+            SkipWhen::NoSkip,
+            Modify::Ones,
+        ), // TRO
+        0o661 => testing(
+            core,
+            slot,
+            job,
+            x,
+            MaskOp::Tl,
+            SkipWhen::NoSkip,
+            Modify::Ones,
+        ), // TLO
+        0o253 => jumping(core, slot, job, x, BranchOp::Aobjn), // AOBJN
+        0o261 => stacking(core, slot, job, x, StackOp::Push), // PUSH
+        0o262 => stacking(core, slot, job, x, StackOp::Pop), // POP
+        0o265 => stacking(core, slot, job, x, StackOp::Jsp), // JSP
+        0o135 => picking(core, slot, job, x, ByteOp::Ldb), // LDB
+        0o137 => picking(core, slot, job, x, ByteOp::Dpb), // DPB
+        0o040 => Ended::Call, // .IOT
+        0o043 if x.a == 0 => Ended::Call, // .CALL
         _ => rarely(core, slot, job),
     }
 }
@@ -241,31 +294,47 @@ pub fn frequent(core: &mut Core, slot: Slot, job: &mut Job) -> Ended
     };
     let x = &context;
     match opcode {
-        0o200 => moving(core, slot, job, x, MoveOp::Plain, Mode::Basic),
-        0o201 => moving(core, slot, job, x, MoveOp::Plain, Mode::Immediate),
-        0o202 => moving(core, slot, job, x, MoveOp::Plain, Mode::Memory),
-        0o550 => halving(core, slot, job, x, 10, Mode::Basic),
-        0o270 => working(core, slot, job, x, ArithmeticOp::Add, Mode::Basic),
-        0o271 => working(core, slot, job, x, ArithmeticOp::Add, Mode::Immediate),
-        0o274 => working(core, slot, job, x, ArithmeticOp::Sub, Mode::Basic),
-        0o275 => working(core, slot, job, x, ArithmeticOp::Sub, Mode::Immediate),
-        0o322 => made(jumps(core, slot, x, 2), core, slot, job),
-        0o326 => made(jumps(core, slot, x, 6), core, slot, job),
-        0o344 => made(aoj(core, slot, x, 4), core, slot, job),
-        0o365 => made(soj(core, slot, x, 5), core, slot, job),
-        0o367 => made(soj(core, slot, x, 7), core, slot, job),
-        0o302 => made(cai(core, slot, x, 2), core, slot, job),
-        0o306 => made(cai(core, slot, x, 6), core, slot, job),
-        0o332 => made(skips(core, slot, x, 2), core, slot, job),
-        0o336 => made(skips(core, slot, x, 6), core, slot, job),
-        0o603 => testing(core, slot, job, x, MaskOp::Tl, 1, 0),
-        0o607 => testing(core, slot, job, x, MaskOp::Tl, 3, 0),
-        0o254 if x.a == 0 => jumping(core, slot, job, x, BranchOp::Jrst),
-        0o255 => jumping(core, slot, job, x, BranchOp::Jfcl),
-        0o260 => stacking(core, slot, job, x, StackOp::Pushj),
-        0o263 => stacking(core, slot, job, x, StackOp::Popj),
-        0o134 => picking(core, slot, job, x, ByteOp::Ildb),
-        0o136 => picking(core, slot, job, x, ByteOp::Idpb),
+        0o200 => moving(core, slot, job, x, MoveOp::Plain, Mode::Basic), // MOVE
+        0o201 => moving(core, slot, job, x, MoveOp::Plain, Mode::Immediate), // MOVEI
+        0o202 => moving(core, slot, job, x, MoveOp::Plain, Mode::Memory), // MOVEM
+        0o550 => halving(core, slot, job, x, 10, Mode::Basic), // HRRZ
+        0o270 => working(core, slot, job, x, ArithmeticOp::Add, Mode::Basic), // ADD
+        0o271 => working(core, slot, job, x, ArithmeticOp::Add, Mode::Immediate), // ADDI
+        0o274 => working(core, slot, job, x, ArithmeticOp::Sub, Mode::Basic), // SUB
+        0o275 => working(core, slot, job, x, ArithmeticOp::Sub, Mode::Immediate), // SUBI
+        0o322 => made(jumps(core, slot, x, Condition::E), core, slot, job), // JUMPE
+        0o326 => made(jumps(core, slot, x, Condition::N), core, slot, job), // JUMPN
+        0o344 => made(aoj(core, slot, x, Condition::A), core, slot, job), // AOJA
+        0o365 => made(soj(core, slot, x, Condition::Ge), core, slot, job), // SOJGE
+        0o367 => made(soj(core, slot, x, Condition::G), core, slot, job), // SOJG
+        0o302 => made(cai(core, slot, x, Condition::E), core, slot, job), // CAIE
+        0o306 => made(cai(core, slot, x, Condition::N), core, slot, job), // CAIN
+        0o332 => made(skips(core, slot, x, Condition::E), core, slot, job), // SKIPE
+        0o336 => made(skips(core, slot, x, Condition::N), core, slot, job), // SKIPN
+        0o603 => testing(
+            core,
+            slot,
+            job,
+            x,
+            MaskOp::Tl,
+            SkipWhen::AllZero,
+            Modify::Unmodified,
+        ), // TLNE
+        0o607 => testing(
+            core,
+            slot,
+            job,
+            x,
+            MaskOp::Tl,
+            SkipWhen::NotAllZero,
+            Modify::Unmodified,
+        ), // TLNN
+        0o254 if x.a == 0 => jumping(core, slot, job, x, BranchOp::Jrst), // JRST
+        0o255 => jumping(core, slot, job, x, BranchOp::Jfcl), // JFCL
+        0o260 => stacking(core, slot, job, x, StackOp::Pushj), // PUSHJ
+        0o263 => stacking(core, slot, job, x, StackOp::Popj), // POPJ
+        0o134 => picking(core, slot, job, x, ByteOp::Ildb), // ILDB
+        0o136 => picking(core, slot, job, x, ByteOp::Idpb), // IDPB
         _ => often(core, slot, job, opcode, context),
     }
 }

@@ -2,9 +2,9 @@
 //! transmission", "Program control" and "Pushdown list").
 ghost use Rattle.std.specs.Prelude.{◌≡◌, ◌<◌, ◌^◌, if◌then◌else◌, ◌==◌};
 ghost use Rattle.its_core.specs.Cores.{core_at};
-ghost use Rattle.its_plain.specs.Job.{flags_of, pc_word};
-ghost use Rattle.its_plain.specs.UnitPlan.{ContextFits, both_down, both_up};
-ghost use Rattle.its_plain.specs.UnitJumps.{branch_row, with_count, is_negative, named_by, restored, stack_row, transferred};
+ghost use Rattle.its_plain.specs.Machine.Registers.{flags_of, pc_word};
+ghost use Rattle.its_plain.specs.Unit.Plans.{ContextFits, both_down, both_up};
+ghost use Rattle.its_plain.specs.Unit.Jumps.{branch_row, with_count, is_negative, named_by, restored, stack_row, transferred};
 
 use super::plans::{
     Draft, any_on, complete, jump, next, stay, to, with_flags, with_pending, without,
@@ -76,16 +76,17 @@ fn named(a: u32) -> u32
 
 /// BLT, AOBJP, AOBJN, JRST, JFCL.
 #[inline(always)]
-#[tactic(auto, unfolding(its_plain::specs::UnitJumps::branch_row))]
+#[tactic(auto, unfolding(its_plain::specs::Unit::Jumps::branch_row))]
 pub fn branches(core: &Core, slot: Slot, x: &Context, op: BranchOp) -> Result<Draft, Fault>
     requires fits { ContextFits x.now }
     ensures { result ≡ branch_row (core_at core.now slot) x.now op }
 {
     let a = ac_word(core, slot, x);
     match op {
-        BranchOp::Blt => Ok(transfer(x, a, read(core, slot, a.left())?)),
-        BranchOp::Aobjp => Ok(jump(x, one(to(x.a, up(a))), 0, !negative(up(a)))),
-        BranchOp::Aobjn => Ok(jump(x, one(to(x.a, up(a))), 0, negative(up(a)))),
+        BranchOp::Blt => Ok(transfer(x, a, read(core, slot, a.left())?)), // BLT
+        BranchOp::Aobjp => Ok(jump(x, one(to(x.a, up(a))), 0, !negative(up(a)))), // AOBJP
+        BranchOp::Aobjn => Ok(jump(x, one(to(x.a, up(a))), 0, negative(up(a)))), // AOBJN
+        // JRST
         BranchOp::Jrst => {
             let flags = if x.a == 2 {
                 restore(x, x.flags_word)
@@ -94,6 +95,7 @@ pub fn branches(core: &Core, slot: Slot, x: &Context, op: BranchOp) -> Result<Dr
             };
             Ok(with_flags(complete(x, none(), 0, x.e), flags))
         }
+        // JFCL
         BranchOp::Jfcl => {
             let mask = named(x.a);
             let plan = jump(x, none(), 0, any_on(x.flags, mask));
@@ -117,7 +119,7 @@ fn count(end: u32, pointer: Word, plan: Draft) -> Draft
 
 /// PUSHJ, PUSH, POP, POPJ, JSR, JSP, JSA, JRA.
 #[inline(always)]
-#[tactic(auto, unfolding(its_plain::specs::UnitJumps::stack_row))]
+#[tactic(auto, unfolding(its_plain::specs::Unit::Jumps::stack_row))]
 pub fn stack(core: &Core, slot: Slot, x: &Context, op: StackOp) -> Result<Draft, Fault>
     requires fits { ContextFits x.now }
     ensures { result ≡ stack_row (core_at core.now slot) x.now op }
@@ -125,10 +127,12 @@ pub fn stack(core: &Core, slot: Slot, x: &Context, op: StackOp) -> Result<Draft,
     let a = ac_word(core, slot, x);
     let after = x.pc + 1;
     Ok(match op {
+        // PUSHJ
         StackOp::Pushj => {
             let stores = two(to(x.a, up(a)), to(up(a).right(), pc_word(x.flags, after)));
             count(PUSHED_OUT, up(a), complete(x, stores, 0, x.e))
         }
+        // PUSH
         StackOp::Push => {
             let w = read(core, slot, x.e)?;
             count(
@@ -137,6 +141,7 @@ pub fn stack(core: &Core, slot: Slot, x: &Context, op: StackOp) -> Result<Draft,
                 next(x, two(to(x.a, up(a)), to(up(a).right(), w)), 0),
             )
         }
+        // POP
         StackOp::Pop => {
             let w = read(core, slot, a.right())?;
             count(
@@ -145,6 +150,7 @@ pub fn stack(core: &Core, slot: Slot, x: &Context, op: StackOp) -> Result<Draft,
                 next(x, two(to(x.a, down(a)), to(x.e, w)), 0),
             )
         }
+        // POPJ
         StackOp::Popj => {
             let w = read(core, slot, a.right())?;
             count(
@@ -153,14 +159,15 @@ pub fn stack(core: &Core, slot: Slot, x: &Context, op: StackOp) -> Result<Draft,
                 complete(x, one(to(x.a, down(a))), 0, w.right()),
             )
         }
-        StackOp::Jsr => complete(x, one(to(x.e, pc_word(x.flags, after))), 0, x.e + 1),
-        StackOp::Jsp => complete(x, one(to(x.a, pc_word(x.flags, after))), 0, x.e),
+        StackOp::Jsr => complete(x, one(to(x.e, pc_word(x.flags, after))), 0, x.e + 1), // JSR
+        StackOp::Jsp => complete(x, one(to(x.a, pc_word(x.flags, after))), 0, x.e), // JSP
+        // JSA
         StackOp::Jsa => complete(
             x,
             two(to(x.e, a), to(x.a, Word::pair(x.e, after))),
             0,
             x.e + 1,
         ),
-        StackOp::Jra => complete(x, one(to(x.a, read(core, slot, a.left())?)), 0, x.e),
+        StackOp::Jra => complete(x, one(to(x.a, read(core, slot, a.left())?)), 0, x.e), // JRA
     })
 }

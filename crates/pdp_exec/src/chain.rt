@@ -4,8 +4,8 @@ ghost use Rattle.its_core.specs.Cores.{core_at};
 ghost use Rattle.its_word.specs.Address.{is_indirect};
 ghost use Rattle.its_word.specs.Limits.{budget};
 ghost use Rattle.its_word.specs.Opcode.{IsRow, ac_of, opcode_of};
-ghost use Rattle.its_plain.specs.UnitPlan.{ContextFits};
-ghost use Rattle.its_plain.specs.Traced.{word as word_of};
+ghost use Rattle.its_plain.specs.Unit.Plans.{ContextFits};
+ghost use Rattle.its_plain.specs.Unit.Trace.{word as word_of};
 ghost use Rattle.its_plain.specs.Unit.{chain, decoded, has_row, reached, target_of, chain_step as step_of, chain_step_at};
 ghost use Rattle.pdp_exec.specs.Ready.{HasFew, IsReady, Stands};
 
@@ -110,7 +110,7 @@ pub fn at_hand(core: &Core, slot: Slot, job: &Job) -> Option<AtHand>
 }
 
 /// The word at an address, which is noted; Mpv if its page is absent.
-#[tactic(auto, unfolding(its_plain::specs::Traced::word))]
+#[tactic(auto, unfolding(its_plain::specs::Unit::Trace::word))]
 fn noted(core: &Core, slot: Slot, a: u32, reads: &mut Places) -> Result<Word, Fault>
     requires address { a < 2 ^ 18 }
     requires room { length reads.old.items < 160 }
@@ -123,7 +123,7 @@ fn noted(core: &Core, slot: Slot, a: u32, reads: &mut Places) -> Result<Word, Fa
 }
 
 /// The target of an XCT; Ilo if the budget is at its end.
-#[tactic(auto, using(its_plain::proofs::TracedLaws::joined, its_plain::proofs::TracedLaws::ended), unfolding(its_plain::specs::Unit::target_of, its_plain::specs::Traced::also))]
+#[tactic(auto, using(its_plain::proofs::TracedLaws::joined, its_plain::proofs::TracedLaws::ended), unfolding(its_plain::specs::Unit::target_of, its_plain::specs::Unit::Trace::also))]
 fn target(core: &Core, slot: Slot, x: &Context, reads: &mut Places) -> Result<ChainStep, Fault>
     requires fits { ContextFits x.now }
     requires few { length reads.old.items ≤ 2 * x.now.used + 2 }
@@ -168,7 +168,7 @@ fn step_by(
 }
 
 /// The place to which an instruction word leads, under what is left of the budget.
-#[tactic(auto, using(its_plain::proofs::TracedLaws::joined, its_plain::proofs::TracedLaws::ended), unfolding(its_plain::specs::Unit::chain_step, its_plain::specs::Traced::also, its_plain::specs::Traced::located))]
+#[tactic(auto, using(crate::proofs::Groups::chain_step_laws), unfolding(its_plain::specs::Unit::chain_step, its_plain::specs::Unit::Trace::also, its_plain::specs::Unit::Trace::located))]
 fn chain_step(
     core: &Core,
     slot: Slot,

@@ -16,7 +16,7 @@ use its_word::{ADDRESSES, Fault, NAMED_FLAGS, NoAccess, Slot, Store};
 
 /// Performs one store, if it is possible.
 #[inline(always)]
-#[tactic(auto, using(crate::proofs::MakingLaws::refused_absent, crate::proofs::MakingLaws::refused_read_only, crate::proofs::MakingLaws::not_refused), unfolding(its_word::specs::Stores::first_fault, its_word::specs::Stores::stored))]
+#[tactic(auto, using(crate::proofs::Groups::make_one_laws), unfolding(its_word::specs::Stores::first_fault, its_word::specs::Stores::stored))]
 fn make_one(core: &mut Core, slot: Slot, s: Store) -> Result<(), Fault>
     ensures made { result_err result ≡ first_fault (core_at core.old slot) (s ∷ []) }
     ensures stored { OnOk result (Only (core_at core.old) (core_at core.new) slot (stored (core_at core.old slot) (s ∷ []))) }

@@ -2,9 +2,9 @@
 //! data transmission").
 ghost use Rattle.std.specs.Prelude.{◌≡◌, ◌<◌};
 ghost use Rattle.its_core.specs.Cores.{core_at};
-ghost use Rattle.its_plain.specs.UnitPlan.{ContextFits, moved_from, moved_to};
+ghost use Rattle.its_plain.specs.Unit.Plans.{ContextFits, moved_from, moved_to};
 ghost use Rattle.pdp_exec.specs.Stores.{list_of};
-ghost use Rattle.its_plain.specs.UnitMoves.{exch_row, half_row, half_to, move_row, moved, swapped};
+ghost use Rattle.its_plain.specs.Unit.Moves.{exch_row, half_row, half_to, move_row, moved, swapped};
 
 use super::plans::{Draft, next, to};
 use super::reads::{ac_word, read};
@@ -16,7 +16,7 @@ use pdp_logic::half;
 
 /// The source of a move or a half move.
 #[inline(always)]
-#[tactic(auto, unfolding(its_plain::specs::UnitPlan::moved_from))]
+#[tactic(auto, unfolding(its_plain::specs::Unit::Plans::moved_from))]
 fn source(core: &Core, slot: Slot, x: &Context, mode: Mode) -> Result<Word, Fault>
     requires fits { ContextFits x.now }
     ensures { result ≡ moved_from (core_at core.now slot) x.now mode }
@@ -31,7 +31,7 @@ fn source(core: &Core, slot: Slot, x: &Context, mode: Mode) -> Result<Word, Faul
 
 /// The destination of the result of a move or a half move.
 #[inline(always)]
-#[tactic(auto, unfolding(its_plain::specs::UnitPlan::moved_to))]
+#[tactic(auto, unfolding(its_plain::specs::Unit::Plans::moved_to))]
 fn stores(x: &Context, mode: Mode, w: Word) -> Stores
     ensures { list_of result ≡ moved_to x.now mode w }
 {
@@ -53,21 +53,21 @@ pub fn swap(w: Word) -> Word
 }
 
 #[inline(always)]
-#[tactic(auto, unfolding(its_plain::specs::UnitMoves::moved))]
+#[tactic(auto, unfolding(its_plain::specs::Unit::Moves::moved))]
 fn moved_by(op: MoveOp, s: Word) -> Result2
     ensures { result ≡ moved op s }
 {
     match op {
-        MoveOp::Plain => Result2::one_word(s, 0),
-        MoveOp::Swap => Result2::one_word(swap(s), 0),
-        MoveOp::Negate => neg(s),
-        MoveOp::Magnitude => magnitude(s),
+        MoveOp::Plain => Result2::one_word(s, 0), // MOVE, MOVEI, MOVEM, MOVES
+        MoveOp::Swap => Result2::one_word(swap(s), 0), // MOVS, MOVSI, MOVSM, MOVSS
+        MoveOp::Negate => neg(s), // MOVN, MOVNI, MOVNM, MOVNS
+        MoveOp::Magnitude => magnitude(s), // MOVM, MOVMI, MOVMM, MOVMS
     }
 }
 
 /// MOVE, MOVS, MOVN, MOVM.
 #[inline(always)]
-#[tactic(auto, unfolding(its_plain::specs::UnitMoves::move_row))]
+#[tactic(auto, unfolding(its_plain::specs::Unit::Moves::move_row))]
 pub fn moves(core: &Core, slot: Slot, x: &Context, op: MoveOp, mode: Mode) -> Result<Draft, Fault>
     requires fits { ContextFits x.now }
     ensures { result ≡ move_row (core_at core.now slot) x.now op mode }
@@ -79,7 +79,7 @@ pub fn moves(core: &Core, slot: Slot, x: &Context, op: MoveOp, mode: Mode) -> Re
 
 /// EXCH.
 #[inline(always)]
-#[tactic(auto, unfolding(its_plain::specs::UnitMoves::exch_row))]
+#[tactic(auto, unfolding(its_plain::specs::Unit::Moves::exch_row))]
 pub fn exchange(core: &Core, slot: Slot, x: &Context) -> Result<Draft, Fault>
     requires fits { ContextFits x.now }
     ensures { result ≡ exch_row (core_at core.now slot) x.now }
@@ -91,7 +91,7 @@ pub fn exchange(core: &Core, slot: Slot, x: &Context) -> Result<Draft, Fault>
 
 /// The destination of a half move, whose other half may stay.
 #[inline(always)]
-#[tactic(auto, unfolding(its_plain::specs::UnitMoves::half_to))]
+#[tactic(auto, unfolding(its_plain::specs::Unit::Moves::half_to))]
 fn destination(core: &Core, slot: Slot, x: &Context, mode: Mode) -> Result<Word, Fault>
     requires fits { ContextFits x.now }
     ensures { result ≡ half_to (core_at core.now slot) x.now mode }
@@ -106,7 +106,7 @@ fn destination(core: &Core, slot: Slot, x: &Context, mode: Mode) -> Result<Word,
 
 /// HLL to HLRE, by their place in the order of the opcodes.
 #[inline(always)]
-#[tactic(auto, unfolding(its_plain::specs::UnitMoves::half_row))]
+#[tactic(auto, unfolding(its_plain::specs::Unit::Moves::half_row))]
 pub fn halves(core: &Core, slot: Slot, x: &Context, k: u32, mode: Mode) -> Result<Draft, Fault>
     requires fits { ContextFits x.now }
     requires k { k < 16 }

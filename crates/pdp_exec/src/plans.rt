@@ -1,6 +1,6 @@
 //! What an instruction that completes does.
 ghost use Rattle.std.specs.Prelude.{◌≡◌, ℕ, ◌+◌, ◌%◌, ◌^◌, if◌then◌else◌};
-ghost use Rattle.its_plain.specs.UnitPlan.{ContextFits, completes, is_on, jump as jump_of, next as next_of, skip as skip_of, to as to_place, to_ac_but_0, without as flags_without};
+ghost use Rattle.its_plain.specs.Unit.Plans.{ContextFits, completes, is_on, jump as jump_of, next as next_of, skip as skip_of, to as to_place, to_ac_but_0, without as flags_without};
 ghost use Rattle.pdp_exec.specs.Stores.{list_of};
 
 use super::stores::{Stores, none, one};

@@ -2,14 +2,14 @@
 ghost use Rattle.std.specs.Prelude.{◌≡◌, ◌<◌, ◌≤◌, ◌^◌};
 ghost use Rattle.its_core.specs.Cores.{core_at};
 ghost use Rattle.its_word.specs.Core.{acc_at};
-ghost use Rattle.its_plain.specs.UnitPlan.{ContextFits, ac, next_ac, read_of};
+ghost use Rattle.its_plain.specs.Unit.Plans.{ContextFits, ac, next_ac, read_of};
 
 use its_core::Core;
 use its_word::{Context, Fault, Slot, Word};
 
 /// The word at an address; Mpv if its page is absent.
 #[inline(always)]
-#[tactic(auto, unfolding(its_plain::specs::UnitPlan::read_of))]
+#[tactic(auto, unfolding(its_plain::specs::Unit::Plans::read_of))]
 pub fn read(core: &Core, slot: Slot, a: u32) -> Result<Word, Fault>
     requires address { a < 2 ^ 18 }
     ensures { result ≡ read_of (core_at core.now slot) a }
@@ -28,7 +28,7 @@ fn acc(core: &Core, slot: Slot, a: u32) -> Word
 
 /// The accumulator that A names.
 #[inline(always)]
-#[tactic(auto, unfolding(its_plain::specs::UnitPlan::ac))]
+#[tactic(auto, unfolding(its_plain::specs::Unit::Plans::ac))]
 pub fn ac_word(core: &Core, slot: Slot, x: &Context) -> Word
     requires fits { ContextFits x.now }
     ensures { result ≡ ac (core_at core.now slot) x.now }
@@ -38,7 +38,7 @@ pub fn ac_word(core: &Core, slot: Slot, x: &Context) -> Word
 
 /// The accumulator after it.
 #[inline(always)]
-#[tactic(auto, unfolding(its_plain::specs::UnitPlan::next_ac))]
+#[tactic(auto, unfolding(its_plain::specs::Unit::Plans::next_ac))]
 pub fn next_ac_word(core: &Core, slot: Slot, x: &Context) -> Word
     requires fits { ContextFits x.now }
     ensures { result ≡ next_ac (core_at core.now slot) x.now }

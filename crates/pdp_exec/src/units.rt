@@ -2,8 +2,8 @@
 ghost use Rattle.std.specs.Prelude.{◌≡◌, ◌≢◌, ◌<◌, ◌≤◌, ◌^◌, ℕ, false, length, Ok, IfErr, IfOk, OnErr, OnOk};
 ghost use Rattle.its_core.specs.Cores.{core_at};
 ghost use Rattle.its_word.specs.Opcode.{IsRow};
-ghost use Rattle.its_plain.specs.Job.{bit_of};
-ghost use Rattle.its_plain.specs.UnitPlan.{ContextFits};
+ghost use Rattle.its_plain.specs.Machine.Registers.{bit_of};
+ghost use Rattle.its_plain.specs.Unit.Plans.{ContextFits};
 ghost use Rattle.its_plain.specs.Unit.{Called, Changed, Faulted, break_row, outcome_of, reached, row_of, site_of, unit as unit_of};
 ghost use Rattle.pdp_exec.specs.Answer.{Answers, UnitEnds, EndsSame, InPlace, IsCalled, Unchanged};
 ghost use Rattle.pdp_exec.specs.Ready.{IsReady, is_call};
@@ -54,10 +54,10 @@ fn row(core: &Core, slot: Slot, x: &Context, i: Instruction) -> Result<Draft, Fa
         Instruction::Shift { op } => shifts(core, slot, x, op),
         Instruction::Branch { op } => branches(core, slot, x, op),
         Instruction::Stack { op } => stack(core, slot, x, op),
-        Instruction::Compare { op, c } => comparisons(core, slot, x, op, c),
-        Instruction::Boolean { k, mode } => booleans(core, slot, x, k, mode),
+        Instruction::Compare { op, condition } => comparisons(core, slot, x, op, condition),
+        Instruction::Boolean { op, mode } => booleans(core, slot, x, op, mode),
         Instruction::Half { k, mode } => halves(core, slot, x, k, mode),
-        Instruction::Test { mask, k, c } => tests_of(core, slot, x, mask, k, c),
+        Instruction::Test { mask, skip, modify } => tests_of(core, slot, x, mask, skip, modify),
         Instruction::Byte { op } => bytes(core, slot, x, op),
         Instruction::Break => breaks(x),
         Instruction::Xct | Instruction::Illegal => Err(Fault::Ilo),

@@ -36,7 +36,8 @@ left_keeps d w k =
     rw whole (mod-mul-add (w / 2 ^ d) (2 ^ (d + k)) (w % 2 ^ d * 2 ^ k) low)
 
 -- the two parts of a rotation share no bit, and fill the width
-rotated_parts : (d w k : ℕ) → w < 2 ^ (d + k) → (bit_or (w * 2 ^ k % 2 ^ (d + k)) (w / 2 ^ d) ≡ w * 2 ^ k % 2 ^ (d + k) + w / 2 ^ d) × (w * 2 ^ k % 2 ^ (d + k) + w / 2 ^ d < 2 ^ (d + k))
+rotated_parts : (d w k : ℕ) → w < 2 ^ (d + k) → (bit_or (w * 2 ^ k % 2 ^ (d + k)) (w / 2 ^ d) ≡ w * 2 ^ k % 2 ^ (d + k) + w / 2 ^ d)
+    × (w * 2 ^ k % 2 ^ (d + k) + w / 2 ^ d < 2 ^ (d + k))
 rotated_parts d w k below =
     let turned : d + k ≡ k + d = omega arith in
     let high : w / 2 ^ d < 2 ^ k = shr_below w k d (rw turned at below) in
@@ -44,7 +45,8 @@ rotated_parts d w k below =
     let sum : w % 2 ^ d * 2 ^ k + w / 2 ^ d < 2 ^ k * 2 ^ d = mul-add-lt (w % 2 ^ d) (2 ^ k) (w / 2 ^ d) (2 ^ d) mask high in
     rw left_keeps (or_shifted (w % 2 ^ d) k (w / 2 ^ d) high, rw (turned, pow-add) sum)
 
-pub rotated_whole : (n w k : ℕ) → k ≤ n → w < 2 ^ n → (bit_or (w * 2 ^ k % 2 ^ n) (w / 2 ^ (n - k)) ≡ w * 2 ^ k % 2 ^ n + w / 2 ^ (n - k)) × (w * 2 ^ k % 2 ^ n + w / 2 ^ (n - k) < 2 ^ n)
+pub rotated_whole : (n w k : ℕ) → k ≤ n → w < 2 ^ n → (bit_or (w * 2 ^ k % 2 ^ n) (w / 2 ^ (n - k)) ≡ w * 2 ^ k % 2 ^ n + w / 2 ^ (n - k))
+    × (w * 2 ^ k % 2 ^ n + w / 2 ^ (n - k) < 2 ^ n)
 rotated_whole n w k within below =
     let e : n - k + k ≡ n = omega arith in
     subst (λ m. (bit_or (w * 2 ^ k % 2 ^ m) (w / 2 ^ (n - k)) ≡ w * 2 ^ k % 2 ^ m + w / 2 ^ (n - k)) × (w * 2 ^ k % 2 ^ m + w / 2 ^ (n - k) < 2 ^ m)) e

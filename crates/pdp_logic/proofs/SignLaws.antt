@@ -52,7 +52,8 @@ right_in n s m k bit below within few =
     let high : s * (2 ^ k - 1) < 2 ^ k = (copies_in s k bit (omega arith)).1 in
     let shift : s * (2 ^ k - 1) * 2 ^ (n - k) % 2 ^ 128 ≡ s * (2 ^ k - 1) * 2 ^ (n - k) = shl_whole (s * (2 ^ k - 1)) k (n - k) 128 high (omega arith) in
     let joined = or_shifted (s * (2 ^ k - 1)) (n - k) (m / 2 ^ k) low in
-    let quotient : (s * (2 ^ k - 1) * (2 ^ (n - k) * 2 ^ k) + m) / 2 ^ k ≡ s * (2 ^ k - 1) * 2 ^ (n - k) + m / 2 ^ k = rw factored (mul-add-div_right (pow_pos k) (s * (2 ^ k - 1) * 2 ^ (n - k)) m) in
+    let quotient : (s * (2 ^ k - 1) * (2 ^ (n - k) * 2 ^ k) + m) / 2 ^ k ≡ s * (2 ^ k - 1) * 2 ^ (n - k) + m / 2 ^ k =
+    rw factored (mul-add-div_right (pow_pos k) (s * (2 ^ k - 1) * 2 ^ (n - k)) m) in
     let sum = mul-add-lt (s * (2 ^ k - 1)) (2 ^ (n - k)) (m / 2 ^ k) (2 ^ k) high low in
     rw (power, quotient, shift) (joined, sum)
 

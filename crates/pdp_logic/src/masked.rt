@@ -1,38 +1,45 @@
 //! Tests of AC under a mask.
-ghost use Rattle.std.specs.Prelude.{◌≡◌, ◌<◌};
+//!
+//! ```text
+//! TRN    TLN    TRNE   TLNE   TRNA   TLNA   TRNN   TLNN
+//! TDN    TSN    TDNE   TSNE   TDNA   TSNA   TDNN   TSNN
+//! TRZ    TLZ    TRZE   TLZE   TRZA   TLZA   TRZN   TLZN
+//! TDZ    TSZ    TDZE   TSZE   TDZA   TSZA   TDZN   TSZN
+//! TRC    TLC    TRCE   TLCE   TRCA   TLCA   TRCN   TLCN
+//! TDC    TSC    TDCE   TSCE   TDCA   TSCA   TDCN   TSCN
+//! TRO    TLO    TROE   TLOE   TROA   TLOA   TRON   TLON
+//! TDO    TSO    TDOE   TSOE   TDOA   TSOA   TDON   TSON
+//! ```
+ghost use Rattle.std.specs.Prelude.{◌≡◌};
 ghost use Rattle.its_word.specs.Logic.{changed_of, tested_of};
 ghost use Rattle.its_word.specs.Result2.{one_word};
 
-use its_word::{Result2, Word};
+use its_word::{Modify, Result2, SkipWhen, Word};
 
-/// Whether TR, TL, TD or TS skips, before AC is changed, by the condition k: 0 never, 1 (E) if all
-/// masked bits of AC are 0, 2 (A) always, 3 (N) if not all are 0.
+/// Whether TR, TL, TD or TS skips, before AC is changed, as `skip` says.
 #[tactic(auto, unfolding(its_word::specs::Logic::tested_of))]
-pub fn tested(k: u32, a: Word, mask: Word) -> bool
-    requires { k < 4 }
-    ensures { result ≡ tested_of k a mask }
+pub fn tested(skip: SkipWhen, a: Word, mask: Word) -> bool
+    ensures { result ≡ tested_of skip a mask }
 {
     let all_zero = a & mask == Word::ZERO;
-    match k {
-        0 => false,
-        1 => all_zero,
-        2 => true,
-        _ => !all_zero,
+    match skip {
+        SkipWhen::NoSkip => false,
+        SkipWhen::AllZero => all_zero,
+        SkipWhen::Always => true,
+        SkipWhen::NotAllZero => !all_zero,
     }
 }
 
-/// What TR, TL, TD or TS leaves in AC, by the modification c: 0 (N) AC as it is, 1 (Z) with the
-/// masked bits cleared, 2 (C) complemented, 3 (O) set. No flags.
+/// What a test leaves in AC, with the masked bits as `modify` says. No flags.
 #[tactic(auto, unfolding(its_word::specs::Logic::changed_of))]
-pub fn changed(c: u32, a: Word, mask: Word) -> Result2
-    requires { c < 4 }
-    ensures { result ≡ one_word (changed_of c a mask) 0 }
+pub fn changed(modify: Modify, a: Word, mask: Word) -> Result2
+    ensures { result ≡ one_word (changed_of modify a mask) 0 }
 {
-    let word = match c {
-        0 => a,
-        1 => a & !mask,
-        2 => a ^ mask,
-        _ => a | mask,
+    let word = match modify {
+        Modify::Unmodified => a,
+        Modify::Zeros => a & !mask,
+        Modify::Complement => a ^ mask,
+        Modify::Ones => a | mask,
     };
     Result2::one_word(word, 0)
 }

@@ -98,7 +98,7 @@ TICK 0 5 = T 0 4. 1w
 DRAIN 0 1 = D 0 101
 PEEK 0 = P 0 WAITING 465156516350 1 - - -
 TICK 0 1 = T 0 1*
-#; a job that waits is unwound and stopped: it stands in no ring, and a byte that comes is for the other
+#; a job that waits is unwound and stopped: it is on no list, and a byte that comes is for the other
 LOAD U H 0 = J 0
 !LEAVER
 LOAD U A 0 = J 1

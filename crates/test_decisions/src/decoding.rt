@@ -1,6 +1,6 @@
 //! Blocks at 0, which are in the accumulators, and what comes of their decoding. Numbers are octal.
 ghost use Rattle.std.specs.Prelude.{◌<◌, ◌^◌, IfSome};
-ghost use Rattle.its_plain.specs.Footprint.{SiteFits};
+ghost use Rattle.its_plain.specs.Call.Footprint.{SiteFits};
 
 use arrayvec::ArrayVec;
 use its_core::Core;

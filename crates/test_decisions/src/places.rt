@@ -1,7 +1,7 @@
 //! A call is entered and left, again and again in one place. Numbers are octal.
 
 use arrayvec::ArrayVec;
-use its_calls::{Call, View};
+use its_in_call::{Call, View};
 use its_records::Site;
 use std::process::Abort;
 use std::test::Fail;

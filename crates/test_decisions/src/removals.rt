@@ -144,7 +144,7 @@ fn inferiors(rt: HostRuntime) -> Result<(), Fail> {
 /// is gone are closed. Each of the first four consoles is held by the job with its number: those
 /// that are gone leave it to the superior of the root, or to nobody.
 #[test]
-#[tactic(auto, using(its_commit::proofs::IdleLaws::idle_sound, its_commit::proofs::IdleLaws::idle_frames, its_commit::proofs::IdleLaws::idle_page, its_commit::proofs::IdleLaws::idle_tidy, its_records::proofs::FreeLaws::limit_first))]
+#[tactic(auto, using(crate::proofs::Groups::trees_laws))]
 fn trees(rt: HostRuntime) -> Result<(), Fail> {
     let open = Some(on(1));
     let shut = Some(Channel::Closed);
@@ -198,7 +198,7 @@ fn trees(rt: HostRuntime) -> Result<(), Fail> {
 
 /// Jobs that are in no call stay as they are, with those below them.
 #[test]
-#[tactic(auto, using(its_commit::proofs::IdleLaws::idle_sound, its_commit::proofs::IdleLaws::idle_frames, its_commit::proofs::IdleLaws::idle_page, its_commit::proofs::IdleLaws::idle_tidy, its_records::proofs::FreeLaws::limit_first))]
+#[tactic(auto, using(crate::proofs::Groups::nothing_to_unwind_laws))]
 fn nothing_to_unwind(rt: HostRuntime) -> Result<(), Fail> {
     let mut w = World::open(rt.alloc())?;
     w.jobs = jobs(&rt, rt.alloc(), [None, Some(0), Some(1), None], 1)?;

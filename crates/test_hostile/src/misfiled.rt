@@ -1,13 +1,13 @@
-//! A slot that is put back into a wait ring, though its call can go on: its tick asks the ring
+//! A slot that is put back into a wait list, though its call can go on: its tick asks the list
 //! alone.
 
 ghost use Rattle.std.specs.Prelude.{◌≡◌, ◌<◌, true, IsTrue, IfOk, length};
 ghost use Rattle.its_links.specs.Lists.{list_at, count};
 ghost use Rattle.its_monitor.specs.Kept.{Kept};
 ghost use Rattle.its_world.specs.World.{call_in};
-ghost use Rattle.its_tick.specs.Ticks.{InRing, is_waiting};
+ghost use Rattle.its_tick.specs.Ticks.{OnWaitList, is_waiting};
 
-use its_calls::View;
+use its_in_call::View;
 use its_links::Links;
 use its_monitor::Monitor;
 use its_records::{Pace, Refusal};
@@ -59,18 +59,18 @@ fn last_of(m: &mut Monitor, slot: Slot, n: u32) -> Pace
 
 /// Puts a slot on the list of those that wait for input of console 0, wherever it was.
 #[tactic(auto, using(crate::proofs::MisfiledLaws::at_end))]
-fn put_in(rings: &mut Links, slot: Slot)
-    requires node { slot < rings.old.nodes }
-    requires head { 2 < length rings.old.lists }
-    ensures stands { 0 < count slot (list_at rings.new.lists 2) }
-    ensures nodes { rings.new.nodes ≡ rings.old.nodes }
-    ensures heads { length rings.new.lists ≡ length rings.old.lists }
+fn put_in(wait_lists: &mut Links, slot: Slot)
+    requires node { slot < wait_lists.old.nodes }
+    requires head { 2 < length wait_lists.old.lists }
+    ensures stands { 0 < count slot (list_at wait_lists.new.lists 2) }
+    ensures nodes { wait_lists.new.nodes ≡ wait_lists.old.nodes }
+    ensures heads { length wait_lists.new.lists ≡ length wait_lists.old.lists }
 {
     let node = u32::from(slot.number());
-    if rings.linked(node) {
-        rings.unlink(node);
+    if wait_lists.linked(node) {
+        wait_lists.unlink(node);
     }
-    rings.push_back(INPUT, node);
+    wait_lists.push_back(INPUT, node);
 }
 
 /// Whether the call of a slot was found not ready.
@@ -82,16 +82,16 @@ fn waits(w: &World, slot: Slot) -> bool
 
 /// Puts a slot back into the list of those that wait for input of console 0; whether its call was
 /// found not ready.
-#[tactic(auto, using(crate::proofs::MisfiledLaws::in_ring))]
+#[tactic(auto, using(crate::proofs::MisfiledLaws::on_wait_list))]
 fn put_back(w: &mut World, slot: Slot) -> bool
-    ensures { IsTrue result → InRing w.new slot }
+    ensures { IsTrue result → OnWaitList w.new slot }
 {
-    put_in(&mut w.rings, slot);
+    put_in(&mut w.wait_lists, slot);
     waits(w, slot)
 }
 
 #[test]
-fn a_slot_in_a_wrong_ring(rt: HostRuntime) -> Result<(), Fail> {
+fn a_slot_on_a_wrong_list(rt: HostRuntime) -> Result<(), Fail> {
     let mut m = Monitor::open(rt.alloc())?;
     let slot = started(&rt, &mut m)?;
     assert_eq!(rt; last_of(&mut m, slot, 11), Pace::Wait);

@@ -3,9 +3,9 @@
 ghost use Rattle.its_direct.specs.Plain.{Tidy};
 
 use its_direct::{Begun, Plain, Spot};
-use its_machine::{MOST_SYMBOLS, SymbolTable};
 use its_records::{Event, Refusal};
-use its_word::{ConsoleNumber, ILO, Slot, Word};
+use its_shared::SymbolTable;
+use its_word::{ConsoleNumber, ILO, MOST_SYMBOLS, Slot, Word};
 use std::process::Abort;
 use std::test::Fail;
 
@@ -49,11 +49,13 @@ fn run_line(rt: &impl Abort, p: &mut Plain, slot: Slot, line: Line) -> Result<Ca
         Line::Stop => p.stop(slot)?,
         Line::Cont => p.cont(slot)?,
         Line::Int(v) => p.interrupt(slot, Word::new(v), Word::ZERO)?,
-        Line::State => p.state(slot)?,
+        Line::State => {
+            p.shown(slot)?;
+        }
         Line::Exam(a, n) => {
             assert!(rt; a <= 0o777777);
-            assert!(rt; n <= 0o777777);
-            p.exam(slot, a, n)?;
+            assert!(rt; n <= 8);
+            p.words(slot, a, n)?;
         }
         Line::Words(a, w) => {
             assert!(rt; a < 0o777777);
@@ -88,7 +90,7 @@ static LINES: [(Line, Result<Came, Refusal>); 17] = [
     (Line::Deposit(2, 0o201040_000005), Ok(Came::Done)),
     (Line::Deposit(3, 0o040140_000100), Ok(Came::Done)),
     (Line::Deposit(0o2000, 0), Err(Refusal::NoPage)),
-    (Line::Exam(0, 0o20), Ok(Came::Done)),
+    (Line::Exam(0o10, 8), Ok(Came::Done)),
     (Line::Exam(0o17, 2), Err(Refusal::NoPage)),
     (Line::Words(0o1777, 1), Ok(Came::Done)),
     (Line::ReadOnly(1), Ok(Came::Done)),

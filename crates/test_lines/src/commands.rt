@@ -44,6 +44,9 @@ DRAINED 10
 # gen 000000000001 = END= LINES 134
 STEPS 50
 DRAINED 10
+# gen 101 = END= LINES 3406
+STEPS 3050
+DRAINED 1010
 # check = @= OK 6
 # check = = OK 0
 # check = STATE 0
@@ -116,6 +119,39 @@ X = 200
 GO 100
 =
 ? 4 UNDEF
+%JOB U J -
+
+LOC 100
+
+MOVEI 1,5
+GO 100
+
+=
+VERSION 2
+LOAD U J -
+000100/ 201040000005
+GO 000100
+END
+%
+=
+? 2 CUT
+%JOB U J -
+LOC 100
+FOO 1,5
+GO 100
+=
+? 3 SYNTAX
+%JOB U J -
+MOVEI 20,1
+GO 100
+=
+? 2 RANGE
+%JOB U J -
+A = 1
+A = 2
+GO 100
+=
+? 3 TWICE
 %=
 ? 1 CUT
 ";
@@ -169,6 +205,28 @@ fn texts(rt: HostRuntime) -> Result<(), Fail> {
         assert_eq!(rt; got.status == Status::Refused, refused, "at {row}");
         assert_eq!(rt; got.status == Status::Done, !refused, "at {row}");
     }
+    Ok(())
+}
+
+/// Texts of 3000 words: one without its last line, and a whole one.
+#[test]
+fn long_texts(rt: HostRuntime) -> Result<(), Fail> {
+    let alloc = rt.alloc();
+    let mut text = "JOB U J -\nLOC 100\n".to_string(alloc)?;
+    for _ in 0..3000 {
+        text.push_str("WORD 1\n")?;
+    }
+    let cut = obey(alloc, " asm", text.as_bytes(), 512, (&[], &[]))?;
+    assert_eq!(rt; cut.status, Status::Refused);
+    assert_eq!(rt; cut.wrote.as_slice(), b"? 5673 CUT\n".as_slice());
+    text.push_str("GO 100\n")?;
+    let made = obey(alloc, " asm", text.as_bytes(), 512, (&[], &[]))?;
+    assert_eq!(rt; made.status, Status::Done);
+    assert!(rt;
+        made.wrote
+            .starts_with(b"VERSION 2\nLOAD U J -\n000100/ 000000000001 ")
+    );
+    assert!(rt; made.wrote.ends_with(b"\nGO 000100\nEND\n"));
     Ok(())
 }
 

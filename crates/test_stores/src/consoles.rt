@@ -1,12 +1,12 @@
-//! The two rings of a console.
+//! The two circular buffers of a console.
 
 use its_console::Console;
 use std::process::Abort;
 use std::test::Fail;
 
-/// Bytes go through each ring in order, more of them than it holds, and the rings do not mix.
+/// Bytes go through each buffer in order, more of them than it holds, and they do not mix.
 #[test]
-fn rings(rt: HostRuntime) -> Result<(), Fail> {
+fn buffers(rt: HostRuntime) -> Result<(), Fail> {
     let mut console = Console::open(rt.alloc())?;
     assert_eq!(rt; console.waiting(), (0, 0));
     assert_eq!(rt; console.first(), None);

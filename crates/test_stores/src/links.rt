@@ -20,9 +20,9 @@ fn join(rt: &impl Abort, pipes: &mut Pipes, l: u8, write: bool, slot: u8) {
     pipes.join(l, write, slot, 1, word(u32::from(l)), word(7));
 }
 
-fn part(rt: &impl Abort, pipes: &mut Pipes, l: u8, write: bool) {
+fn close_end(rt: &impl Abort, pipes: &mut Pipes, l: u8, write: bool) {
     assert!(rt; usize::from(l) < LINKS);
-    pipes.part(l, write);
+    pipes.close_end(l, write);
 }
 
 fn send(rt: &impl Abort, pipes: &mut Pipes, l: u8, n: u32) {
@@ -76,14 +76,14 @@ fn words(rt: HostRuntime) -> Result<(), Fail> {
     assert_eq!(rt; pipes.first_word(3), Some(word(0)));
     assert_eq!(rt; receive(&rt, &mut pipes, 3), Some(word(0)));
     send(&rt, &mut pipes, 3, 64);
-    part(&rt, &mut pipes, 3, true);
+    close_end(&rt, &mut pipes, 3, true);
     for n in 1..65 {
         assert_eq!(rt; looks(&pipes, 3)[1], false, "{n}");
         assert_eq!(rt; receive(&rt, &mut pipes, 3), Some(word(n)), "{n}");
     }
     assert_eq!(rt; receive(&rt, &mut pipes, 3), None);
     assert_eq!(rt; looks(&pipes, 3), [false, true, false, false]);
-    part(&rt, &mut pipes, 3, false);
+    close_end(&rt, &mut pipes, 3, false);
     assert_eq!(rt; pipes.link(3), None);
     Ok(())
 }
@@ -98,10 +98,10 @@ fn parts(rt: HostRuntime) -> Result<(), Fail> {
         join(&rt, &mut pipes, l, true, 4);
         send(&rt, &mut pipes, l, 9);
     }
-    part(&rt, &mut pipes, 15, false);
+    close_end(&rt, &mut pipes, 15, false);
     assert_eq!(rt; looks(&pipes, 15), [false, false, false, true]);
     assert_eq!(rt; pipes.words_waiting(15), 1);
-    part(&rt, &mut pipes, 15, true);
+    close_end(&rt, &mut pipes, 15, true);
     assert_eq!(rt; pipes.link(15), None);
     assert_eq!(rt; pipes.words_waiting(0), 1);
     join(&rt, &mut pipes, 15, false, 2);
@@ -123,8 +123,8 @@ fn numbers(rt: HostRuntime) -> Result<(), Fail> {
     }
     assert_eq!(rt; pipes.link_named(word(16), word(7)), None);
     assert_eq!(rt; pipes.link_named(word(3), word(3)), None);
-    part(&rt, &mut pipes, 9, false);
-    part(&rt, &mut pipes, 4, false);
+    close_end(&rt, &mut pipes, 9, false);
+    close_end(&rt, &mut pipes, 4, false);
     assert_eq!(rt; pipes.free_link(), Some(4));
     assert_eq!(rt; pipes.link_named(word(4), word(7)), None);
     Ok(())

@@ -1,6 +1,6 @@
 //! Assembly texts with their results, over a source that cuts them and fails.
 
-use its_assembly::{Made, Unmade, assemble_source};
+use its_asm_command::{Made, Unmade, assemble_source};
 use its_io::MemSource;
 use std::alloc::Global;
 use std::test::Fail;

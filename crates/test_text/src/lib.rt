@@ -1,7 +1,7 @@
 //! Lines of a session, texts of the assembler, words, sources and sinks. What they are read as,
-//! what is refused, and what is written (`its_session`, `its_asm`, `its_assembly`); the words and
-//! mnemonics in them (`its_word`, `its_chart`); and the objects that they are read from and written
-//! to (`its_reader`, `its_io`).
+//! what is refused, and what is written (`its_session`, `its_asm`, `its_asm_command`); the words
+//! and mnemonics in them (`its_word`, `its_chart`); and the objects that they are read from and
+//! written to (`its_reader`, `its_io`).
 #![tactic(auto)]
 
 #[cfg(test)]

@@ -1,5 +1,5 @@
 //! Objects in memory, safe ones, and those of the process.
-ghost use Rattle.std.specs.Prelude.{◌≤◌, length, IfOk};
+ghost use Rattle.std.specs.Prelude.{◌≡◌, ◌≤◌, true, length, IfOk};
 
 use its_io::{
     Failed, MemSink, MemSource, RealSink, RealSource, SafeSink, SafeSource, Sink, Source, write_all,
@@ -8,6 +8,7 @@ use std::test::Fail;
 
 /// Reads once into the first `space` bytes of the buffer, or all of them.
 fn read_some<S: Source>(source: &mut S, buf: &mut [u8], space: usize) -> Result<usize, Failed>
+    requires { S.readable source.old ≡ true }
     ensures { IfOk result (λ count. count ≤ length buf.new) }
 {
     let space = space.min(buf.len());

@@ -1,6 +1,7 @@
 //! The lines of a source.
 
-ghost use Rattle.std.specs.Prelude.{◌≡◌, ◌≤◌, IfOk};
+ghost use Rattle.std.specs.Prelude.{◌≡◌, ◌≤◌, true, IfOk};
+ghost use Rattle.its_reader.specs.Bytes.{Onward};
 ghost use Rattle.its_reader.specs.Texts.{ReadyTexts};
 ghost use Rattle.its_session.specs.Events.{most_lines};
 
@@ -17,9 +18,11 @@ fn is_next<S: Source>(
     line: &str,
 ) -> Result<(), Fail>
     requires ready { ReadyTexts texts.old (S.left src.old) }
+    requires onward { Onward texts.old.ended (S.readable src.old) }
     requires few { texts.old.number ≤ most_lines }
     requires most { texts.old.most ≤ 1543 }
     ensures ready { IfOk result (λ _. ReadyTexts texts.new (S.left src.new)) }
+    ensures onward { IfOk result (λ _. Onward texts.new.ended (S.readable src.new)) }
     ensures number { IfOk result (λ _. texts.new.number ≤ most_lines) }
     ensures most { texts.new.most ≡ texts.old.most }
 {
@@ -47,7 +50,9 @@ fn lines_with_their_ends(rt: HostRuntime) -> Result<(), Fail> {
 }
 
 /// What comes first of a source whose lines have 1543 bytes at most.
-fn first<S: Source>(src: &mut S) -> Result<Next, Failed> {
+fn first<S: Source>(src: &mut S) -> Result<Next, Failed>
+    requires { S.readable src.old ≡ true }
+{
     let mut texts = Texts::new(1543);
     texts.next(src)
 }

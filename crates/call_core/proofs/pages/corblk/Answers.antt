@@ -1,7 +1,7 @@
 -- An inferior, through a channel that has leave to write.
 use Rattle.std.proofs.Common.{sym, ◌∙◌, ap, arith}
-use Rattle.its_plain.specs.CallBasic.{is_oneself}
-use Rattle.its_machine.specs.Called.{channel_under}
+use Rattle.its_plain.specs.Call.Basic.{is_oneself}
+use Rattle.its_shared.specs.Called.{channel_under}
 use Rattle.call_core.proofs.OtherLaws.{through}
 use Rattle.call_core.proofs.pages.corblk.Goals as goal
 

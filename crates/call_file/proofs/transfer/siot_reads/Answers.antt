@@ -1,19 +1,20 @@
 -- A test stops it, or a word is moved.
 use Rattle.std.specs.Prelude.{true, not, is_some, unwrap_or}
 use Rattle.std.proofs.Common.{◌∙◌, ap}
-use Rattle.its_plain.specs.Arguments.{input}
-use Rattle.its_plain.specs.CallFile.{siot_reads, siot_read}
-use Rattle.its_plain.specs.Transfer.{next_pointer}
-use Rattle.its_plain.specs.View.{view}
+use Rattle.its_plain.specs.Call.Arguments.{input}
+use Rattle.its_plain.specs.Call.File.{siot_reads, siot_read}
+use Rattle.its_plain.specs.Call.Transfer.{next_pointer}
+use Rattle.its_plain.specs.Machine.View.{view}
 use Rattle.its_world.specs.World.{state_of}
 use Rattle.call_basic.specs.Seen.{seen_by}
 use Rattle.call_basic.proofs.PartLaws.{part_few, part_moves, part_stops}
-use Rattle.its_machine.proofs.StopLaws.{ended}
+use Rattle.its_shared.proofs.StopLaws.{ended}
 use Rattle.call_file.proofs.transfer.siot_reads.Goals as goal
 
 pub siot_read-requires-clause-few : goal.siot_read-requires-clause-few
 siot_read-requires-clause-few c =
-    part_few (seen_by c.args.w.now c.args.slot c.args.job.now c.args.ask.now) c.args.job.now c.args.ask.now c.is_none.result c.next_byte.result c.args.at c.in-Ok.next c.word_at-word.result
+    part_few (seen_by c.args.w.now c.args.slot c.args.job.now c.args.ask.now) c.args.job.now c.args.ask.now c.is_none.result
+    c.next_byte.result c.args.at c.in-Ok.next c.word_at-word.result
     (c.next_byte.ensures.stops c.args.job.now) c.in-Ok.is c.is_none.ensures c.word_at-word.ensures.few
 
 pub returns-in-Err : goal.returns-in-Err

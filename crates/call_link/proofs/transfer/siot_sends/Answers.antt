@@ -1,26 +1,31 @@
 -- A test stops it, or a word is sent.
 use Rattle.std.specs.Prelude.{false, refl}
-use Rattle.its_plain.specs.Arguments.{input}
-use Rattle.its_plain.specs.CallLink.{siot_send}
+use Rattle.its_plain.specs.Call.Arguments.{input}
+use Rattle.its_plain.specs.Call.Link.{siot_send}
 use Rattle.call_basic.specs.Seen.{seen_by}
 use Rattle.call_basic.proofs.PartLaws.{part_moves, part_stops, part_sized}
-use Rattle.its_plain.specs.Transfer.{next_pointer}
+use Rattle.its_plain.specs.Call.Transfer.{next_pointer}
 use Rattle.call_link.proofs.transfer.siot_sends.Goals as goal
 
 pub siot_send-requires : goal.siot_send-requires
 siot_send-requires c =
     let v = seen_by c.args.w.now c.args.slot c.args.job.now c.args.ask.now in
     let a = c.args.ask.now in
-    record { size = part_sized v c.args.job.now a false false c.next_byte.result (c.next_byte.ensures.stops c.args.job.now) c.in-Ok.next c.in-Ok.is c.next_byte.ensures.next }
+    record {
+      size = part_sized v c.args.job.now a false false c.next_byte.result (c.next_byte.ensures.stops c.args.job.now) c.in-Ok.next
+          c.in-Ok.is c.next_byte.ensures.next;
+    }
 
 pub returns-in-Err : goal.returns-in-Err
 returns-in-Err c =
     let v = seen_by c.args.w.now c.args.slot c.args.job.now c.args.ask.now in
     let a = c.args.ask.now in
-    part_stops v c.args.job.now a false false c.next_byte.result (c.next_byte.ensures.stops c.args.job.now) false c.in-Err.stop (siot_send v a (next_pointer (input a 1)) (input a 2) c.args.link) refl c.in-Err.is
+    part_stops v c.args.job.now a false false c.next_byte.result (c.next_byte.ensures.stops c.args.job.now) false c.in-Err.stop
+    (siot_send v a (next_pointer (input a 1)) (input a 2) c.args.link) refl c.in-Err.is
 
 pub returns-in-Ok : goal.returns-in-Ok
 returns-in-Ok c =
     let v = seen_by c.args.w.now c.args.slot c.args.job.now c.args.ask.now in
     let a = c.args.ask.now in
-    part_moves v c.args.job.now a false false c.next_byte.result (c.next_byte.ensures.stops c.args.job.now) false c.in-Ok.next (λ n. siot_send v a n (input a 2) c.args.link) _ refl c.in-Ok.is c.next_byte.ensures.next c.siot_send.ensures
+    part_moves v c.args.job.now a false false c.next_byte.result (c.next_byte.ensures.stops c.args.job.now) false c.in-Ok.next
+    (λ n. siot_send v a n (input a 2) c.args.link) _ refl c.in-Ok.is c.next_byte.ensures.next c.siot_send.ensures

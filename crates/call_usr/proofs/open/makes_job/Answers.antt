@@ -1,7 +1,7 @@
 -- The least slot that is free is the least in which the call sees no job.
 use Rattle.std.proofs.Common.{sym, ◌∙◌, ap}
-use Rattle.its_plain.specs.CallUsr.{makes_job}
-use Rattle.its_plain.specs.View.{view}
+use Rattle.its_plain.specs.Call.Usr.{makes_job}
+use Rattle.its_plain.specs.Machine.View.{view}
 use Rattle.its_world.specs.World.{state_of}
 use Rattle.call_basic.specs.Seen.{seen_by}
 use Rattle.call_usr.proofs.NameLaws.{outlines_free}

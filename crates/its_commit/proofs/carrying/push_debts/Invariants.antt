@@ -1,5 +1,5 @@
 use Rattle.std.proofs.Common.{◌≡◌, ◌++◌, ◌+◌, ◌-◌, length, map}
-use Rattle.its_plain.specs.Arguments.{debts}
+use Rattle.its_plain.specs.Call.Arguments.{debts}
 use Rattle.its_stepped.specs.Commit.{owed_store}
 use Rattle.its_commit.proofs.carrying.push_debts.Given as goal
 

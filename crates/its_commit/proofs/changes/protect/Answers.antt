@@ -10,5 +10,6 @@ returns-clause-row c =
 
 pub returns-clause-tidy : goal.returns-clause-tidy
 returns-clause-tidy c =
-    page_written c.args.w.now _ c.args.slot c.args.page _ c.requires.can (core_becomes _ _ _ _ (rw c.new.ensures at c.protect.ensures.marked) c.protect.ensures.reserved c.protect.ensures.frames refl)
+    page_written c.args.w.now _ c.args.slot c.args.page _ c.requires.can
+    (core_becomes _ _ _ _ (rw c.new.ensures at c.protect.ensures.marked) c.protect.ensures.reserved c.protect.ensures.frames refl)
     c.requires.tidy

@@ -7,4 +7,5 @@ returns-in_default-clause-row c = variable_missing _ _ _ _ _ (c.copied.ensures �
 
 pub returns-in-Some-clause-tidy : goal.returns-in-Some-clause-tidy
 returns-in-Some-clause-tidy c =
-    variable_tidy c.args.w.now _ c.args.slot _ _ _ c.in-Some.job _ (c.copied.ensures ∙ c.numbered.ensures.job) c.in-Some.is c.with_variable.ensures (rw c.new.ensures at c.put_registers.ensures) c.requires.tidy
+    variable_tidy c.args.w.now _ c.args.slot _ _ _ c.in-Some.job _ (c.copied.ensures ∙ c.numbered.ensures.job) c.in-Some.is
+    c.with_variable.ensures (rw c.new.ensures at c.put_registers.ensures) c.requires.tidy

@@ -5,7 +5,8 @@ use Rattle.its_commit.proofs.RemovalLaws.{slot_emptied, tidy_bare}
 use Rattle.its_commit.proofs.removal.empty.Goals as goal
 
 pub returns-clause-empty : goal.returns-clause-empty
-returns-clause-empty c = slot_emptied c.args.w.now c.shut_all.new.w c.drop_core.new.w c.leave_call.new.self _ c.args.slot c.shut_all.ensures.closed c.shut_all.ensures.tidy c.drop_core.ensures.dropped
+returns-clause-empty c = slot_emptied c.args.w.now c.shut_all.new.w c.drop_core.new.w c.leave_call.new.self _ c.args.slot
+    c.shut_all.ensures.closed c.shut_all.ensures.tidy c.drop_core.ensures.dropped
     c.leave_call.ensures c.put_alarm.ensures c.shut_all.ensures.pages c.drop_core.ensures.frames
 
 pub returns-clause-tidy : goal.returns-clause-tidy

@@ -1,4 +1,4 @@
-use Rattle.its_plain.specs.Change.{superiors, is_gone}
+use Rattle.its_plain.specs.Machine.Change.{superiors, is_gone}
 use Rattle.its_world.specs.Tidy.{Tidy}
 use Rattle.its_world.specs.World.{state_of}
 use Rattle.its_commit.specs.Removal.{Swept}

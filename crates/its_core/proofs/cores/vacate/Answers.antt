@@ -10,28 +10,35 @@ loop-page-init c = (sym (emptied_none (256 * c.args.slot) c.args.places.now.item
 
 pub loop-page-preserved : goal.loop-page-preserved
 loop-page-preserved c =
-    let P : Option Mapped → Type 0 = λ o. o ≡ slice_index_or (emptied (256 * c.args.slot) c.loop-page.page c.args.places.now.items) (256 * c.args.slot + c.loop-page.page) o in
+    let P : Option Mapped → Type 0 = λ o. o ≡ slice_index_or (emptied (256 * c.args.slot) c.loop-page.page c.args.places.now.items)
+    (256 * c.args.slot + c.loop-page.page) o in
     let read = subst P (sym c.take.ensures.value) (rw (c.loop-page.invariant.0, c.place_index.ensures) at c.index_mut.ensures.value) in (
-      rw (c.loop-page.invariant.0, c.place_index.ensures, c.take.ensures.after) (emptied_more (256 * c.args.slot) c.loop-page.page c.args.places.now.items (omega arith)),
+      rw (c.loop-page.invariant.0, c.place_index.ensures, c.take.ensures.after)
+          (emptied_more (256 * c.args.slot) c.loop-page.page c.args.places.now.items (omega arith)),
       elim c.if-is_some.branch [
         | then-is_some w ↦
-            w.number-is ∙ count_step c.args.places.now.items c.args.slot c.loop-page.page c.take.result true c.loop-page.number c.requires (omega arith) read (sym c.is_some.ensures ∙ w.if-is_some.true) c.loop-page.invariant.1
+            w.number-is ∙ count_step c.args.places.now.items c.args.slot c.loop-page.page c.take.result true c.loop-page.number c.requires
+            (omega arith) read (sym c.is_some.ensures ∙ w.if-is_some.true) c.loop-page.invariant.1
         | else-is_some w ↦
-            let n = count_step c.args.places.now.items c.args.slot c.loop-page.page c.take.result false c.loop-page.number c.requires (omega arith) read (sym c.is_some.ensures ∙ w.if-is_some.false) c.loop-page.invariant.1 in
+            let n = count_step c.args.places.now.items c.args.slot c.loop-page.page c.take.result false c.loop-page.number c.requires
+            (omega arith) read (sym c.is_some.ensures ∙ w.if-is_some.false) c.loop-page.invariant.1 in
             omega arith
       ],
     )
 
 pub returns-after-is_some-clause-number : goal.returns-after-is_some-clause-number
 returns-after-is_some-clause-number c =
-    let P : Option Mapped → Type 0 = λ o. o ≡ slice_index_or (emptied (256 * c.args.slot) c.loop-page.page c.args.places.now.items) (256 * c.args.slot + c.loop-page.page) o in
+    let P : Option Mapped → Type 0 = λ o. o ≡ slice_index_or (emptied (256 * c.args.slot) c.loop-page.page c.args.places.now.items)
+    (256 * c.args.slot + c.loop-page.page) o in
     let read = subst P (sym c.take.ensures.value) (rw (c.loop-page.invariant.0, c.place_index.ensures) at c.index_mut.ensures.value) in
     let last : c.loop-page.page + 1 ≡ 256 = omega arith in
     let counted : c.if-is_some.number ≡ count_by is_some (take (c.loop-page.page + 1) (row c.args.places.now.items c.args.slot)) = elim c.if-is_some.branch [
       | then-is_some w ↦
-          w.number-is ∙ count_step c.args.places.now.items c.args.slot c.loop-page.page c.take.result true c.loop-page.number c.requires (omega arith) read (sym c.is_some.ensures ∙ w.if-is_some.true) c.loop-page.invariant.1
+          w.number-is ∙ count_step c.args.places.now.items c.args.slot c.loop-page.page c.take.result true c.loop-page.number c.requires
+          (omega arith) read (sym c.is_some.ensures ∙ w.if-is_some.true) c.loop-page.invariant.1
       | else-is_some w ↦
-          let n = count_step c.args.places.now.items c.args.slot c.loop-page.page c.take.result false c.loop-page.number c.requires (omega arith) read (sym c.is_some.ensures ∙ w.if-is_some.false) c.loop-page.invariant.1 in
+          let n = count_step c.args.places.now.items c.args.slot c.loop-page.page c.take.result false c.loop-page.number c.requires
+          (omega arith) read (sym c.is_some.ensures ∙ w.if-is_some.false) c.loop-page.invariant.1 in
           omega arith
     ] in
     counted ∙ ap (λ n. count_by is_some (take n (row c.args.places.now.items c.args.slot))) last ∙ count_all c.args.places.now.items c.args.slot c.requires
@@ -39,4 +46,6 @@ returns-after-is_some-clause-number c =
 pub returns-after-is_some-clause-emptied : goal.returns-after-is_some-clause-emptied
 returns-after-is_some-clause-emptied c =
     let last : c.loop-page.page + 1 ≡ 256 = omega arith in
-    rw (c.loop-page.invariant.0, c.place_index.ensures, c.take.ensures.after) (emptied_more (256 * c.args.slot) c.loop-page.page c.args.places.now.items (omega arith) ∙ ap (λ n. emptied (256 * c.args.slot) n c.args.places.now.items) last)
+    rw (c.loop-page.invariant.0, c.place_index.ensures, c.take.ensures.after)
+    (emptied_more (256 * c.args.slot) c.loop-page.page c.args.places.now.items (omega arith)
+    ∙ ap (λ n. emptied (256 * c.args.slot) n c.args.places.now.items) last)

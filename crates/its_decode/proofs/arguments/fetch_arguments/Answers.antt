@@ -17,7 +17,8 @@ pub loop-w-preserved : goal.loop-w-preserved
 loop-w-preserved c = record {
   used = c.fetch_argument.ensures.more.1;
   room = let f = c.fetch_argument.ensures.few in let r = c.loop-w.invariant.room in omega arith;
-  gathering = gathering_more _ _ _ _ _ _ _ _ _ _ c.loop-w.invariant.gathering c.w-item.is c.loop-w-test.true c.in_ok-fetch_argument.ensures.fetched c.fetch_argument.ensures.reads;
+  gathering = gathering_more _ _ _ _ _ _ _ _ _ _ c.loop-w.invariant.gathering c.w-item.is c.loop-w-test.true
+      c.in_ok-fetch_argument.ensures.fetched c.fetch_argument.ensures.reads;
 }
 
 pub returns-clause-gathered : goal.returns-clause-gathered

@@ -12,4 +12,5 @@ returns-in-Some-clause-asks c =
 pub returns-in_ok-fetch_ask-in-None-clause-asks : goal.returns-in_ok-fetch_ask-in-None-clause-asks
 unfolding fetch_of
 returns-in_ok-fetch_ask-in-None-clause-asks c =
-    both_parts _ _ _ _ (ap (fetch_by (core_at c.args.core.now c.args.slot) c.args.site.now c.args.block.now) c.in-None.is ∙ c.in_ok-fetch_ask-in-None.ensures.fetched)
+    both_parts _ _ _ _ (ap (fetch_by (core_at c.args.core.now c.args.slot) c.args.site.now c.args.block.now) c.in-None.is
+    ∙ c.in_ok-fetch_ask-in-None.ensures.fetched)

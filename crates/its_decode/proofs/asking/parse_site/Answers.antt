@@ -9,4 +9,5 @@ pub returns-in_err-parse_block-in-None-clause-ask : goal.returns-in_err-parse_bl
 unfolding parse_of
 returns-in_err-parse_block-in-None-clause-ask c =
     let p = err_from_is_err_and c.from_residual.result c.from_residual.ensures.1 in
-    rw (p.1, p.2) (unparsed _ _ _ (ap (parse_by (core_at c.args.core.now c.args.slot) c.args.site.now) c.in-None.is ∙ c.in_err-parse_block-in-None.ensures.fault))
+    rw (p.1, p.2) (unparsed _ _ _ (ap (parse_by (core_at c.args.core.now c.args.slot) c.args.site.now) c.in-None.is
+    ∙ c.in_err-parse_block-in-None.ensures.fault))

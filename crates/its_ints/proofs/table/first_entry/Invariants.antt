@@ -1,6 +1,6 @@
 use Rattle.std.proofs.Common.{◌≡◌, ◌+◌, ◌-◌, ◌*◌}
 use Rattle.its_core.specs.Cores.{core_at}
-use Rattle.its_plain.specs.Interrupt.{first_entry}
+use Rattle.its_plain.specs.Unit.Interrupt.{first_entry}
 use Rattle.its_ints.proofs.table.first_entry.Given as goal
 
 abbrev pub invariant-loop-k : goal.invariant-loop-k

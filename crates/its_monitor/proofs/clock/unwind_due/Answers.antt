@@ -13,10 +13,13 @@ loop-slot-preserved c = record {
   rousing = elim c.if-is_due.branch [
     | then-is_due w ↦
         subst (λ (v : World). Rousing c.args.clock (c.loop-slot.slot + 1) c.args.w.now v) (sym w.w-is)
-        (rousing_more c.args.clock c.loop-slot.slot c.args.w.now c.loop-slot.w _ c.is_due.result c.loop-slot-test.true c.loop-slot.invariant.rousing (rw c.new-slot.ensures at c.is_due.ensures) w.if-is_due.true
-        (rw c.new-slot.ensures at w.unwind.ensures.unwinds) w.unwind.ensures.same w.unwind.ensures.sound w.unwind.ensures.tidy (rw c.new-slot.ensures at w.unwind.ensures.pages))
+        (rousing_more c.args.clock c.loop-slot.slot c.args.w.now c.loop-slot.w _ c.is_due.result c.loop-slot-test.true
+        c.loop-slot.invariant.rousing (rw c.new-slot.ensures at c.is_due.ensures) w.if-is_due.true
+        (rw c.new-slot.ensures at w.unwind.ensures.unwinds) w.unwind.ensures.same w.unwind.ensures.sound w.unwind.ensures.tidy
+        (rw c.new-slot.ensures at w.unwind.ensures.pages))
     | else-is_due w ↦
         subst (λ (v : World). Rousing c.args.clock (c.loop-slot.slot + 1) c.args.w.now v) (sym w.w-is)
-        (rousing_skip c.args.clock c.loop-slot.slot c.args.w.now c.loop-slot.w c.is_due.result c.loop-slot-test.true c.loop-slot.invariant.rousing (rw c.new-slot.ensures at c.is_due.ensures) w.if-is_due.false)
+        (rousing_skip c.args.clock c.loop-slot.slot c.args.w.now c.loop-slot.w c.is_due.result c.loop-slot-test.true
+        c.loop-slot.invariant.rousing (rw c.new-slot.ensures at c.is_due.ensures) w.if-is_due.false)
   ];
 }

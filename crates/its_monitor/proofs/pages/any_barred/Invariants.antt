@@ -1,6 +1,6 @@
 use Rattle.std.proofs.Common.{◌≡◌, ◌+◌, ◌-◌}
 use Rattle.its_core.specs.Cores.{core_at}
-use Rattle.its_plain.specs.OperatorJobs.{any_barred}
+use Rattle.its_plain.specs.Operator.Jobs.{any_barred}
 use Rattle.its_monitor.proofs.pages.any_barred.Given as goal
 
 abbrev pub invariant-loop-k : goal.invariant-loop-k

@@ -15,7 +15,8 @@ loop-inferior-smaller c =
 
 pub loop-inferior-preserved : goal.loop-inferior-preserved
 loop-inferior-preserved c = record {
-  unwinding = unwinding_more _ _ _ _ _ _ c.loop-inferior.invariant.unwinding c.below.ensures.tree c.in-Some.ensures.job c.unwind.ensures.unwinds c.unwind.ensures.same c.unwind.ensures.sound
+  unwinding = unwinding_more _ _ _ _ _ _ c.loop-inferior.invariant.unwinding c.below.ensures.tree c.in-Some.ensures.job
+      c.unwind.ensures.unwinds c.unwind.ensures.same c.unwind.ensures.sound
       c.unwind.ensures.pages;
   tidy = c.unwind.ensures.tidy;
 }

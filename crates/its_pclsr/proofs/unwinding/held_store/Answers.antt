@@ -9,5 +9,6 @@ unreachable-requires c = held_there _ _ _ _ _ _ c.requires.pays c.get.ensures.wo
 
 pub returns : goal.returns
 returns c =
-    held_stored _ c.args.ask.now _ c.args.byte _ _ _ _ _ c.get.ensures.word c.in-Ok.is c.index-deref-1.is c.deref.ensures.0 (enough _ 2 c.requires.pays.debts.read)
+    held_stored _ c.args.ask.now _ c.args.byte _ _ _ _ _ c.get.ensures.word c.in-Ok.is c.index-deref-1.is c.deref.ensures.0
+    (enough _ 2 c.requires.pays.debts.read)
     (c.deposit.ensures ∙ (λ i. deposit_of (sym c.index-deref-1.is i).value c.in-Ok.word (c.value.ensures.value i)))

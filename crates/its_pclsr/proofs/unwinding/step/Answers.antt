@@ -32,7 +32,8 @@ returns-then-is_some-clause-row c =
 
 pub returns-then-owes-eq0-clause-row : goal.returns-then-owes-eq0-clause-row
 returns-then-owes-eq0-clause-row c =
-    holding_dropped _ _ _ c.frame.ensures c.requires.sound _ _ _ _ c.in-Holding.is _ (sym c.is_some.ensures ∙ c.if-is_some.false) c.if-owes-eq0.true c.leave_call-then-owes-eq0.ensures
+    holding_dropped _ _ _ c.frame.ensures c.requires.sound _ _ _ _ c.in-Holding.is _ (sym c.is_some.ensures ∙ c.if-is_some.false)
+    c.if-owes-eq0.true c.leave_call-then-owes-eq0.ensures
 
 pub returns-then-owes-eq0-clause-tidy : goal.returns-then-owes-eq0-clause-tidy
 returns-then-owes-eq0-clause-tidy c = tidy_kept _ _ _ _ _ c.leave_call-then-owes-eq0.ensures c.requires.tidy
@@ -44,14 +45,17 @@ pub pay_held-requires-clause-job : goal.pay_held-requires-clause-job
 pay_held-requires-clause-job c = job_there _ _ _ c.frame.ensures c.requires.sound _ _ c.in-Holding.is refl
 
 pub pay_held-requires-clause-can : goal.pay_held-requires-clause-can
-pay_held-requires-clause-can c = first_can _ _ _ (holding_pays _ _ _ c.frame.ensures c.requires.sound _ _ _ _ c.in-Holding.is).debts.stored c.first_owed-store.ensures
+pay_held-requires-clause-can c = first_can _ _ _ (holding_pays _ _ _ c.frame.ensures c.requires.sound _ _ _ _ c.in-Holding.is).debts.stored
+    c.first_owed-store.ensures
 
 pub returns-else-owes-eq0-clause-row : goal.returns-else-owes-eq0-clause-row
 returns-else-owes-eq0-clause-row c =
-    holding_paid _ _ _ c.frame.ensures c.requires.sound _ _ _ _ c.in-Holding.is _ _ (sym c.is_some.ensures ∙ c.if-is_some.false) c.if-owes-eq0.false c.first_owed-store.ensures c.pay_held.ensures.row
+    holding_paid _ _ _ c.frame.ensures c.requires.sound _ _ _ _ c.in-Holding.is _ _ (sym c.is_some.ensures ∙ c.if-is_some.false)
+    c.if-owes-eq0.false c.first_owed-store.ensures c.pay_held.ensures.row
 
 pub returns-then-owes-eq0-2-clause-row : goal.returns-then-owes-eq0-2-clause-row
-returns-then-owes-eq0-2-clause-row c = waiting_dropped _ _ _ c.frame.ensures c.requires.sound _ _ _ c.in-Waiting.is _ c.if-owes-eq0-2.true c.leave_call-then-owes-eq0-2.ensures
+returns-then-owes-eq0-2-clause-row c = waiting_dropped _ _ _ c.frame.ensures c.requires.sound _ _ _ c.in-Waiting.is _ c.if-owes-eq0-2.true
+    c.leave_call-then-owes-eq0-2.ensures
 
 pub returns-then-owes-eq0-2-clause-tidy : goal.returns-then-owes-eq0-2-clause-tidy
 returns-then-owes-eq0-2-clause-tidy c = tidy_kept _ _ _ _ _ c.leave_call-then-owes-eq0-2.ensures c.requires.tidy
@@ -68,7 +72,8 @@ pay-requires-clause-can c =
 
 pub returns-else-owes-eq0-2-clause-row : goal.returns-else-owes-eq0-2-clause-row
 returns-else-owes-eq0-2-clause-row c =
-    waiting_paid _ _ _ c.frame.ensures c.requires.sound _ _ _ c.in-Waiting.is _ _ c.if-owes-eq0-2.false c.first_owed-store-else-owes-eq0-2.ensures c.pay.ensures.row
+    waiting_paid _ _ _ c.frame.ensures c.requires.sound _ _ _ c.in-Waiting.is _ _ c.if-owes-eq0-2.false
+    c.first_owed-store-else-owes-eq0-2.ensures c.pay.ensures.row
 
 pub held_store-store-requires : goal.held_store-store-requires
 held_store-store-requires c = record { pays = moving_pays _ _ _ c.frame.ensures c.requires.sound _ _ _ _ c.in-Moving.is }
@@ -81,4 +86,5 @@ pay_held-requires-in-Moving-clause-can c =
     moving_can _ _ _ _ _ _ (moving_pays _ _ _ c.frame.ensures c.requires.sound _ _ _ _ c.in-Moving.is) c.held_store-store.ensures
 
 pub returns-in-Moving-clause-row : goal.returns-in-Moving-clause-row
-returns-in-Moving-clause-row c = moving_row _ _ _ c.frame.ensures c.requires.sound _ _ _ _ _ _ c.in-Moving.is c.held_store-store.ensures c.pay_held-in-Moving.ensures.row
+returns-in-Moving-clause-row c = moving_row _ _ _ c.frame.ensures c.requires.sound _ _ _ _ _ _ c.in-Moving.is c.held_store-store.ensures
+    c.pay_held-in-Moving.ensures.row

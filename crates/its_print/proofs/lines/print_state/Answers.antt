@@ -11,5 +11,8 @@ returns-clause-text c =
     let first : c.push.new.self.items ≡ codes "S" = c.push.ensures.items ∙ ap (λ (t : List ℕ). t ++ 83 ∷ []) c.requires in
     c.push-2.ensures.items ∙ ap (λ t. t ++ 10 ∷ []) (
     c.put_symbol.ensures.text
-    ∙ ap (λ t. spaced t (symbol_fields c.args.version c.args.show.now.symbol)) (c.put_job.ensures.text ∙ ap (λ t. spaced t (job_fields c.args.show.now)) (c.put_number.ensures.text ∙ ap (λ (n : ℕ). spaced c.push.new.self.items (digits_of n ∷ [])) (c.from.ensures ∙ c.number.ensures.value) ∙ ap (λ t. spaced t (digits_of c.args.s ∷ [])) first))
+    ∙ ap (λ t. spaced t (symbol_fields c.args.version c.args.show.now.symbol))
+    (c.put_job.ensures.text ∙ ap (λ t. spaced t (job_fields c.args.show.now))
+    (c.put_number.ensures.text ∙ ap (λ (n : ℕ). spaced c.push.new.self.items (digits_of n ∷ []))
+    (c.from.ensures ∙ c.number.ensures.value) ∙ ap (λ t. spaced t (digits_of c.args.s ∷ [])) first))
     ∙ sym text)

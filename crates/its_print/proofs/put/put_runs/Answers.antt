@@ -25,9 +25,11 @@ loop-run-preserved c =
     let more = run_length rest c.loop-run.run-index none c.loop-run-test.true in
     elim c.if-next-last.branch [
       | then-next-last w ↦
-          (let same = run_goes_on c.loop-run.count c.loop-run.last rest c.loop-run.run-index none c.loop-run-test.true (sym c.letter-next.ensures ∙ w.if-next-last.true) in
+          (let same = run_goes_on c.loop-run.count c.loop-run.last rest c.loop-run.run-index none c.loop-run-test.true
+          (sym c.letter-next.ensures ∙ w.if-next-last.true) in
           record { text = cc; some = omega arith; few = omega (arith, more); len = omega (arith, more, ap array_vec_len w.out-is) })
       | else-next-last w ↦
-          (let other = run_ends c.loop-run.out.items c.loop-run.count c.loop-run.last rest c.loop-run.run-index none c.loop-run-test.true (λ e. w.if-next-last.false (c.letter-next.ensures ∙ e)) in
+          (let other = run_ends c.loop-run.out.items c.loop-run.count c.loop-run.last rest c.loop-run.run-index none c.loop-run-test.true
+          (λ e. w.if-next-last.false (c.letter-next.ensures ∙ e)) in
           record { text = cc; some = omega arith; few = omega (arith, more); len = omega (arith, more, ap array_vec_len w.out-is) })
     ]

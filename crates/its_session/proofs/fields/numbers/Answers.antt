@@ -5,5 +5,6 @@ use Rattle.its_session.proofs.fields.numbers.Goals as goal
 
 pub returns-in_err-number : goal.returns-in_err-number
 returns-in_err-number c =
-    let bad = not_numbers c.args.words.now c.loop-word.word-index c.in_err-number.field-0.0 c.loop-word-test.true (sym c.number.ensures ∙ c.in_err-number.was) in
+    let bad = not_numbers c.args.words.now c.loop-word.word-index c.in_err-number.field-0.0 c.loop-word-test.true
+    (sym c.number.ensures ∙ c.in_err-number.was) in
     grind (arith, common_steps)

@@ -13,7 +13,8 @@ carry_part-requires-clause-awake c = part_awake c.args.w.now c.args.slot _ _ _ _
 pub carry_part-requires-clause-ready : goal.carry_part-requires-clause-ready
 carry_part-requires-clause-ready c =
     can_make _ c.in-Some.part.moved _ _ c.change_of.ensures
-    (part_makes c.args.w.now c.args.slot _ _ _ _ c.standing.ensures c.in-Some.is c.requires.kept c.requires.stands c.requires.clear c.part.ensures.unmarked c.part.ensures.alone c.part.ensures.goes)
+    (part_makes c.args.w.now c.args.slot _ _ _ _ c.standing.ensures c.in-Some.is c.requires.kept c.requires.stands c.requires.clear
+    c.part.ensures.unmarked c.part.ensures.alone c.part.ensures.goes)
 
 pub returns-in-Some-clause-carried : goal.returns-in-Some-clause-carried
 returns-in-Some-clause-carried c =
@@ -23,21 +24,25 @@ returns-in-Some-clause-carried c =
     let pages = part_pages c.args.w.now c.carry_part.new.w c.args.slot _ c.in-Some.part.moved c.change_of.ensures c.carry_part.ensures.pages in
     let same = pages ∙ moved_pages c.in-Some.part.moved c.args.slot _ _ in
     record {
-      row = trial_made c.args.w.now c.args.w.now c.args.slot c.requires.kept c.requires.stands c.requires.clear readies c.carry_part.new.w (going c.in-Some.part) _ decides carried refl;
+      row = trial_made c.args.w.now c.args.w.now c.args.slot c.requires.kept c.requires.stands c.requires.clear readies c.carry_part.new.w
+          (going c.in-Some.part) _ decides carried refl;
       frame = still_framed c.args.w.now c.carry_part.new.w c.args.slot c.in-Some.part c.requires.stands carried;
       pages = same;
       still = pages_still c.args.w.now c.carry_part.new.w c.args.slot same
-          (trial_pages c.args.w.now c.args.w.now c.args.slot c.requires.kept c.requires.stands c.requires.clear readies c.carry_part.new.w (going c.in-Some.part) decides
+          (trial_pages c.args.w.now c.args.w.now c.args.slot c.requires.kept c.requires.stands c.requires.clear readies c.carry_part.new.w
+          (going c.in-Some.part) decides
           (part_reach c.args.w.now c.args.slot _ _ _ _ c.standing.ensures c.in-Some.is c.part.ensures.alone) pages);
       tidy = c.carry_part.ensures.tidy;
     }
 
 pub returns-in-Some-clause-due : goal.returns-in-Some-clause-due
 returns-in-Some-clause-due c =
-    found_due c.args.w.now c.args.slot _ _ c.part.result true (ap is_some c.in-Some.is) c.requires.stands (stands_job c.args.w.now c.args.slot c.requires.kept.sound c.requires.stands) c.standing.ensures
+    found_due c.args.w.now c.args.slot _ _ c.part.result true (ap is_some c.in-Some.is) c.requires.stands
+    (stands_job c.args.w.now c.args.slot c.requires.kept.sound c.requires.stands) c.standing.ensures
     c.part.ensures.next
 
 pub returns-in-None-clause-due : goal.returns-in-None-clause-due
 returns-in-None-clause-due c =
-    found_due c.args.w.now c.args.slot _ _ c.part.result false (ap is_some c.in-None.is) c.requires.stands (stands_job c.args.w.now c.args.slot c.requires.kept.sound c.requires.stands) c.standing.ensures
+    found_due c.args.w.now c.args.slot _ _ c.part.result false (ap is_some c.in-None.is) c.requires.stands
+    (stands_job c.args.w.now c.args.slot c.requires.kept.sound c.requires.stands) c.standing.ensures
     c.part.ensures.next

@@ -3,26 +3,33 @@ use Rattle.its_tick.proofs.TrialLaws.{trial_pages}
 use Rattle.its_tick.proofs.calls.attempt.Goals as goal
 
 pub decide_in-decision-requires-clause-job : goal.decide_in-decision-requires-clause-job
-decide_in-decision-requires-clause-job c = mid_job c.args.w.now c.make_ready.new.w c.args.slot c.requires.kept c.requires.stands c.requires.clear c.make_ready.ensures.row
+decide_in-decision-requires-clause-job c = mid_job c.args.w.now c.make_ready.new.w c.args.slot c.requires.kept c.requires.stands
+    c.requires.clear c.make_ready.ensures.row
 
 pub decide_in-decision-requires-clause-stands : goal.decide_in-decision-requires-clause-stands
-decide_in-decision-requires-clause-stands c = mid_stands c.args.w.now c.make_ready.new.w c.args.slot c.requires.kept c.requires.stands c.requires.clear c.make_ready.ensures.row
+decide_in-decision-requires-clause-stands c = mid_stands c.args.w.now c.make_ready.new.w c.args.slot c.requires.kept c.requires.stands
+    c.requires.clear c.make_ready.ensures.row
 
 pub decide_in-decision-requires-clause-unmarked : goal.decide_in-decision-requires-clause-unmarked
-decide_in-decision-requires-clause-unmarked c = mid_unmarked c.args.w.now c.make_ready.new.w c.args.slot c.requires.kept c.requires.stands c.requires.clear c.make_ready.ensures.row
+decide_in-decision-requires-clause-unmarked c = mid_unmarked c.args.w.now c.make_ready.new.w c.args.slot c.requires.kept c.requires.stands
+    c.requires.clear c.make_ready.ensures.row
 
 pub decide_in-decision-requires-clause-forest : goal.decide_in-decision-requires-clause-forest
-decide_in-decision-requires-clause-forest c = mid_forest c.args.w.now c.make_ready.new.w c.args.slot c.requires.kept c.requires.stands c.requires.clear c.make_ready.ensures.row
+decide_in-decision-requires-clause-forest c = mid_forest c.args.w.now c.make_ready.new.w c.args.slot c.requires.kept c.requires.stands
+    c.requires.clear c.make_ready.ensures.row
 
 pub carry_out-requires-clause-job : goal.carry_out-requires-clause-job
-carry_out-requires-clause-job c = mid_job c.args.w.now c.make_ready.new.w c.args.slot c.requires.kept c.requires.stands c.requires.clear c.make_ready.ensures.row
+carry_out-requires-clause-job c = mid_job c.args.w.now c.make_ready.new.w c.args.slot c.requires.kept c.requires.stands c.requires.clear
+    c.make_ready.ensures.row
 
 pub carry_out-requires-clause-stands : goal.carry_out-requires-clause-stands
-carry_out-requires-clause-stands c = mid_stands c.args.w.now c.make_ready.new.w c.args.slot c.requires.kept c.requires.stands c.requires.clear c.make_ready.ensures.row
+carry_out-requires-clause-stands c = mid_stands c.args.w.now c.make_ready.new.w c.args.slot c.requires.kept c.requires.stands
+    c.requires.clear c.make_ready.ensures.row
 
 pub carry_out-requires-clause-ready : goal.carry_out-requires-clause-ready
 carry_out-requires-clause-ready c =
-    mid_ready c.args.w.now c.make_ready.new.w c.args.slot c.requires.kept c.requires.stands c.requires.clear c.make_ready.ensures.row _ c.decide_in-decision.ensures
+    mid_ready c.args.w.now c.make_ready.new.w c.args.slot c.requires.kept c.requires.stands c.requires.clear c.make_ready.ensures.row _
+    c.decide_in-decision.ensures
 
 pub returns-clause-row : goal.returns-clause-row
 returns-clause-row c =

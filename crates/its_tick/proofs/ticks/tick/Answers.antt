@@ -27,8 +27,8 @@ returns-then-waits_on-clause-pages c = λ k. pages_blocked c.args.w.now c.args.s
 pub returns-then-waits_on-clause-kept : goal.returns-then-waits_on-clause-kept
 returns-then-waits_on-clause-kept c = λ k. k
 
-pub returns-then-waits_on-clause-ring : goal.returns-then-waits_on-clause-ring
-returns-then-waits_on-clause-ring c = λ r. (refl, refl)
+pub returns-then-waits_on-clause-list : goal.returns-then-waits_on-clause-list
+returns-then-waits_on-clause-list c = λ r. (refl, refl)
 
 pub returns-then-waits_on-clause-waits : goal.returns-then-waits_on-clause-waits
 returns-then-waits_on-clause-waits c = λ h. ((λ e. stands c), (λ b. refl))
@@ -60,8 +60,8 @@ returns-clause-pages c = λ k. c.go_on.ensures.pages
 pub returns-clause-kept : goal.returns-clause-kept
 returns-clause-kept c = λ k. c.go_on.ensures.kept
 
-pub returns-clause-ring : goal.returns-clause-ring
-returns-clause-ring c = λ r. absurd (c.waits_on.ensures.no c.if-waits_on.false r)
+pub returns-clause-list : goal.returns-clause-list
+returns-clause-list c = λ r. absurd (c.waits_on.ensures.no c.if-waits_on.false r)
 
 pub returns-clause-waits : goal.returns-clause-waits
 returns-clause-waits c = λ h. (

@@ -4,7 +4,7 @@ use Rattle.its_tick.proofs.ticks.waits_on.Goals as goal
 pub is_blocked-requires : goal.is_blocked-requires
 is_blocked-requires c = record {
   stands = elim c.requires.can [
-    | inl k ↦ inr (k.tidy.ringed.each c.args.slot)
+    | inl k ↦ inr (k.tidy.on_lists.each c.args.slot)
     | inr r ↦ inl r.stands
   ];
 }

@@ -1,5 +1,6 @@
 use Rattle.std.proofs.Common.{◌≡◌, ◌≤◌, ◌+◌, ◌-◌}
 use Rattle.its_session.specs.Events.{most_lines}
+use Rattle.its_reader.specs.Bytes.{Onward}
 use Rattle.its_reader.specs.Texts.{ReadyTexts}
 use Rattle.its_verify.specs.Keeping.{KeptSo}
 use Rattle.its_verify.proofs.keeping.keep.Given as goal
@@ -7,6 +8,7 @@ use Rattle.its_verify.proofs.keeping.keep.Given as goal
 abbrev pub invariant-loop-session : goal.invariant-loop-session
 invariant-loop-session g l = record {
   ready : ReadyTexts l.texts (g.S.Source.left l.src);
+  onward : Onward l.texts.ended (g.S.Source.readable l.src);
   few : l.texts.number ≤ most_lines;
   most : l.texts.most ≡ 255;
   so_far : KeptSo l.fn.texts l.texts l.session.items (g.S.Source.left l.fn.src) (g.S.Source.left l.src);

@@ -5,5 +5,6 @@ use Rattle.its_word.proofs.text.read_octal.Goals as goal
 
 pub returns : goal.returns
 returns c =
-    let read = octal_read c.args.text.now c.loop-byte.byte-index c.loop-byte.number (grind (arith, nat_tests)) (omega arith) (omega arith) c.loop-byte.invariant.value c.loop-byte.invariant.below c.loop-byte.invariant.digits in
+    let read = octal_read c.args.text.now c.loop-byte.byte-index c.loop-byte.number (grind (arith, nat_tests)) (omega arith) (omega arith)
+    c.loop-byte.invariant.value c.loop-byte.invariant.below c.loop-byte.invariant.digits in
     (read.0, c.new-2.ensures ∙ read.1)

@@ -5,5 +5,6 @@ use Rattle.its_word.proofs.text.read_sixbit.Goals as goal
 
 pub returns : goal.returns
 returns c =
-    let read = name_read c.args.text.now c.loop-byte.byte-index c.loop-byte.codes (grind (arith, nat_tests)) (omega arith) (omega arith) c.loop-byte.invariant.value c.loop-byte.invariant.below c.loop-byte.invariant.characters in
+    let read = name_read c.args.text.now c.loop-byte.byte-index c.loop-byte.codes (grind (arith, nat_tests)) (omega arith) (omega arith)
+    c.loop-byte.invariant.value c.loop-byte.invariant.below c.loop-byte.invariant.characters in
     (read.0, c.new-2.ensures ∙ read.1)

@@ -15,22 +15,26 @@ loop-step-init c = record {
 
 -- a step faults
 pub returns-in_err-r-clause-reads : goal.returns-in_err-r-clause-reads
-returns-in_err-r-clause-reads c = (along_stops _ _ _ _ _ _ _ _ c.loop-step.invariant.along c.loop-step-test.true c.in_err-r.ensures.step c.chain_step.ensures.reads).places_is
+returns-in_err-r-clause-reads c = (along_stops _ _ _ _ _ _ _ _ c.loop-step.invariant.along c.loop-step-test.true c.in_err-r.ensures.step
+    c.chain_step.ensures.reads).places_is
 
 -- the instruction is found
 pub returns-in-Found-clause-found : goal.returns-in-Found-clause-found
 returns-in-Found-clause-found c =
-    (along_found _ _ _ _ _ _ _ _ c.loop-step.invariant.along c.loop-step-test.true (ap Ok (sym c.in-Found.is) ∙ c.in_ok-r.ensures.step) c.chain_step.ensures.reads).answer_is
+    (along_found _ _ _ _ _ _ _ _ c.loop-step.invariant.along c.loop-step-test.true (ap Ok (sym c.in-Found.is) ∙ c.in_ok-r.ensures.step)
+    c.chain_step.ensures.reads).answer_is
 
 pub returns-in-Found-clause-reads : goal.returns-in-Found-clause-reads
 returns-in-Found-clause-reads c =
-    (along_found _ _ _ _ _ _ _ _ c.loop-step.invariant.along c.loop-step-test.true (ap Ok (sym c.in-Found.is) ∙ c.in_ok-r.ensures.step) c.chain_step.ensures.reads).places_is
+    (along_found _ _ _ _ _ _ _ _ c.loop-step.invariant.along c.loop-step-test.true (ap Ok (sym c.in-Found.is) ∙ c.in_ok-r.ensures.step)
+    c.chain_step.ensures.reads).places_is
 
 pub loop-step-preserved : goal.loop-step-preserved
 loop-step-preserved c = record {
   used = rw c.in-Target.is at c.in_ok-r.ensures.ready;
   few = rw c.in-Target.is at c.in_ok-r.ensures.few;
-  along = along_more _ _ _ _ _ _ _ _ _ c.loop-step.invariant.along c.loop-step-test.true (ap Ok (sym c.in-Target.is) ∙ c.in_ok-r.ensures.step) c.chain_step.ensures.reads;
+  along = along_more _ _ _ _ _ _ _ _ _ c.loop-step.invariant.along c.loop-step-test.true
+      (ap Ok (sym c.in-Target.is) ∙ c.in_ok-r.ensures.step) c.chain_step.ensures.reads;
 }
 
 -- there is no step left

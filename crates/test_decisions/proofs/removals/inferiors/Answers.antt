@@ -1,10 +1,11 @@
 use Rattle.std.proofs.Common.{refl}
-use Rattle.its_world.proofs.PlaceLaws.{idle_ringed}
+use Rattle.its_world.proofs.PlaceLaws.{idle_on_lists}
 use Rattle.its_commit.proofs.IdleLaws.{idle_tidy}
 use Rattle.test_decisions.proofs.removals.inferiors.Goals as goal
 
 pub made-requires : goal.made-requires
 made-requires g c = record {
-  tidy = idle_tidy _ c.in_ok-w.ensures.cores c.in_ok-w.ensures.files c.in_ok-w.ensures.alarms c.in_ok-w.ensures.clock c.in_ok-w.ensures.symbols c.in_ok-w-2.ensures.jobs
-      (idle_ringed _ _ c.in_ok-w.ensures.ringed c.in_ok-w.ensures.frames refl refl);
+  tidy = idle_tidy _ c.in_ok-w.ensures.cores c.in_ok-w.ensures.files c.in_ok-w.ensures.alarms c.in_ok-w.ensures.clock
+      c.in_ok-w.ensures.symbols c.in_ok-w-2.ensures.jobs
+      (idle_on_lists _ _ c.in_ok-w.ensures.on_lists c.in_ok-w.ensures.frames refl refl);
 }

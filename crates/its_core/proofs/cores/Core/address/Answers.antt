@@ -8,17 +8,20 @@ use Rattle.its_word.proofs.AddressLaws.{Ended, along_direct, along_spent, along_
 use Rattle.its_core.proofs.cores.Core.address.Goals as goal
 
 -- the three ways out
-direct : (c : goal.Then-not-is_indirect) → Ended (core_at c.args.self.now c.args.slot) c.args.w c.args.used.now c.args.reads.now.items (Ok (record { e = c.indexed-e.result.0; flags_word = c.indexed-e.result.1 })) c.loop-slot.used c.note_index.new.reads.items
+direct : (c : goal.Then-not-is_indirect) → Ended (core_at c.args.self.now c.args.slot) c.args.w c.args.used.now c.args.reads.now.items
+    (Ok (record { e = c.indexed-e.result.0; flags_word = c.indexed-e.result.1 })) c.loop-slot.used c.note_index.new.reads.items
 direct c =
     let i : is_indirect c.loop-slot.word ≡ false = sym c.is_indirect.ensures ∙ c.if-not-is_indirect.true in
     rw (c.indexed-e.ensures.e, c.indexed-e.ensures.last, c.note_index.ensures) (along_direct _ _ _ _ _ _ _ _ c.loop-slot.invariant i)
 
-spent : (c : goal.Then-used-eq-BUDGET) → Ended (core_at c.args.self.now c.args.slot) c.args.w c.args.used.now c.args.reads.now.items (Err Ilo) c.loop-slot.used c.note_index.new.reads.items
+spent : (c : goal.Then-used-eq-BUDGET) → Ended (core_at c.args.self.now c.args.slot) c.args.w c.args.used.now c.args.reads.now.items
+    (Err Ilo) c.loop-slot.used c.note_index.new.reads.items
 spent c =
     let i : is_indirect c.loop-slot.word ≡ true = sym c.is_indirect.ensures ∙ c.if-not-is_indirect.false in
     rw c.note_index.ensures (along_spent _ _ _ _ _ _ _ _ c.loop-slot.invariant i c.if-used-eq-BUDGET.true)
 
-absent : (c : goal.In_default) → Ended (core_at c.args.self.now c.args.slot) c.args.w c.args.used.now c.args.reads.now.items (Err Mpv) (c.loop-slot.used + 1) c.push.new.self.items
+absent : (c : goal.In_default) → Ended (core_at c.args.self.now c.args.slot) c.args.w c.args.used.now c.args.reads.now.items (Err Mpv)
+    (c.loop-slot.used + 1) c.push.new.self.items
 absent c =
     let i : is_indirect c.loop-slot.word ≡ true = sym c.is_indirect.ensures ∙ c.if-not-is_indirect.false in
     let none : word_at (core_at c.args.self.now c.args.slot) c.indexed-e.result.0 ≡ None = got_none _ _ (sym c.get.ensures.word ∙ c.in_default.is) in

@@ -16,8 +16,11 @@ clear_frame_quarter-requires-clause-ready c =
 
 pub invariant_of-self : goal.invariant_of-self
 invariant_of-self c =
-    let e : slice_index_or c.self.inside.held.items c.args.slot None ≡ Some c.held_in-h.result = cc in
-    (rw (c.clear_frame_quarter.ensures.words, c.index.ensures.value, c.quarters_clear.ensures) (clear_quarter_pool _ _ _ _ _ _ c.self.invariant.0 c.args.slot c.args.q c.held_in-h.result c.within.ensures c.requires.quarter e), c.clear_frame_quarter.ensures.most ∙ c.self.invariant.1)
+    let e : slice_index_or c.self.inside.held.items c.args.slot None ≡ Some c.held_in-h.result = cc in (
+      rw (c.clear_frame_quarter.ensures.words, c.index.ensures.value, c.quarters_clear.ensures)
+          (clear_quarter_pool _ _ _ _ _ _ c.self.invariant.0 c.args.slot c.args.q c.held_in-h.result c.within.ensures c.requires.quarter e),
+      c.clear_frame_quarter.ensures.most ∙ c.self.invariant.1,
+    )
 
 pub returns-clause-reserved : goal.returns-clause-reserved
 returns-clause-reserved c =
@@ -32,11 +35,13 @@ returns-clause-quarters c =
 pub returns-clause-cores : goal.returns-clause-cores
 returns-clause-cores c =
     let e : slice_index_or c.self.inside.held.items c.args.slot None ≡ Some c.held_in-h.result = cc in
-    rw (c.clear_frame_quarter.ensures.words, ← c.self.view_is) (clear_cores _ _ _ _ _ _ c.self.invariant.0 _ c.args.slot (256 * c.args.q) c.held_in-h.result e (omega arith))
+    rw (c.clear_frame_quarter.ensures.words, ← c.self.view_is)
+    (clear_cores _ _ _ _ _ _ c.self.invariant.0 _ c.args.slot (256 * c.args.q) c.held_in-h.result e (omega arith))
 
 pub returns-clause-frames : goal.returns-clause-frames
 returns-clause-frames c =
     let e : slice_index_or c.self.inside.held.items c.args.slot None ≡ Some c.held_in-h.result = cc in
     let a = held_words _ _ _ _ _ _ c.self.invariant.0 c.args.slot c.held_in-h.result e in
     rw (c.index.ensures.value, c.clear_frame_quarter.ensures.words, ← c.self.view_is)
-    (quarter_frames _ _ _ _ _ _ c.self.invariant.0 _ c.args.slot _ c.held_in-h.result (length-zeroed (1024 * c.held_in-h.result.frame + 256 * c.args.q) 256 c.self.inside.words.words (omega arith)) e)
+    (quarter_frames _ _ _ _ _ _ c.self.invariant.0 _ c.args.slot _ c.held_in-h.result
+    (length-zeroed (1024 * c.held_in-h.result.frame + 256 * c.args.q) 256 c.self.inside.words.words (omega arith)) e)

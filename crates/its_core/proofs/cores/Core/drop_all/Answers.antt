@@ -12,12 +12,17 @@ overflow_sub-self c =
 
 pub invariant_of-self : goal.invariant_of-self
 invariant_of-self c =
-    let w : c.clear.new.words.items ≡ zeroed (16 * c.args.slot) 16 c.self.inside.accs.items = c.clear.ensures ∙ ap (λ i. zeroed i 16 c.self.inside.accs.items) (omega arith) in
-    (rw (w, c.vacate.ensures.emptied, c.vacate.ensures.number, c.splice.ensures.lists, c.list_of.ensures) (dropped_pool _ _ _ _ _ _ c.self.invariant.0 c.args.slot c.within.ensures), c.self.invariant.1)
+    let w : c.clear.new.words.items ≡ zeroed (16 * c.args.slot) 16 c.self.inside.accs.items = c.clear.ensures
+    ∙ ap (λ i. zeroed i 16 c.self.inside.accs.items) (omega arith) in (
+      rw (w, c.vacate.ensures.emptied, c.vacate.ensures.number, c.splice.ensures.lists, c.list_of.ensures)
+          (dropped_pool _ _ _ _ _ _ c.self.invariant.0 c.args.slot c.within.ensures),
+      c.self.invariant.1,
+    )
 
 pub returns-clause-dropped : goal.returns-clause-dropped
 returns-clause-dropped c =
-    let w : c.clear.new.words.items ≡ zeroed (16 * c.args.slot) 16 c.self.inside.accs.items = c.clear.ensures ∙ ap (λ i. zeroed i 16 c.self.inside.accs.items) (omega arith) in
+    let w : c.clear.new.words.items ≡ zeroed (16 * c.args.slot) 16 c.self.inside.accs.items = c.clear.ensures
+    ∙ ap (λ i. zeroed i 16 c.self.inside.accs.items) (omega arith) in
     rw (w, c.vacate.ensures.emptied, ← c.self.view_is) (dropped_only _ _ _ _ _ _ c.self.invariant.0 _ c.args.slot c.within.ensures)
 
 pub returns-clause-reserved : goal.returns-clause-reserved

@@ -22,8 +22,11 @@ push_back-requires-clause-apart c =
 
 pub invariant_of-self : goal.invariant_of-self
 invariant_of-self c =
-    let e : slice_index_or c.self.inside.held.items c.args.slot None ≡ Some c.held_in-h.result = cc in
-    (rw (c.index.ensures.value, c.push_back.ensures.lists) (give_pool _ _ _ _ _ _ c.self.invariant.0 c.args.slot c.held_in-h.result c.within.ensures e), c.self.invariant.1)
+    let e : slice_index_or c.self.inside.held.items c.args.slot None ≡ Some c.held_in-h.result = cc in (
+      rw (c.index.ensures.value, c.push_back.ensures.lists) (give_pool _ _ _ _ _ _ c.self.invariant.0 c.args.slot c.held_in-h.result
+          c.within.ensures e),
+      c.self.invariant.1,
+    )
 
 pub returns-clause-reserved : goal.returns-clause-reserved
 returns-clause-reserved c = rw (c.index.ensures.value, ← c.self.view_is) (set_only _ _ _ _ _ _ c.self.invariant.0 _ c.args.slot None c.within.ensures)
@@ -33,7 +36,8 @@ returns-clause-quarters c = clear_only _ _ _ _ (returns-clause-reserved c)
 
 pub returns-clause-cores : goal.returns-clause-cores
 returns-clause-cores c =
-    rw (← c.self.view_is) (held_cores c.self.inside.accs.items c.self.inside.places.items c.self.inside.held.items _ c.self.inside.words.words c.self.inside.lists _)
+    rw (← c.self.view_is) (held_cores c.self.inside.accs.items c.self.inside.places.items c.self.inside.held.items _
+    c.self.inside.words.words c.self.inside.lists _)
 
 pub returns-clause-frames : goal.returns-clause-frames
 returns-clause-frames c =

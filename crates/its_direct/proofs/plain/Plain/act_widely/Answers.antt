@@ -1,6 +1,6 @@
 use Rattle.std.proofs.Common.{sym, subst, Bool}
 use Rattle.its_jobs.specs.Table.{superior_at}
-use Rattle.its_plain.specs.CallStep.{acted}
+use Rattle.its_plain.specs.Call.Step.{acted}
 use Rattle.its_decide.specs.Reach.{slots_of}
 use Rattle.its_direct.specs.Plain.{machine_of}
 use Rattle.its_direct.specs.Steps.{Makes}

@@ -20,4 +20,5 @@ returns-clause-tidy c =
 pub unreachable-requires : goal.unreachable-requires
 unreachable-requires c =
     let b = c.seen.ensures.blocks in
-    added_room c.args.self.now c.seen.ensures.whole c.requires.tidy c.args.id c.requires.file (omega arith) c.args.w (sym c.in-Err.ensures.full) c.requires.room
+    added_room c.args.self.now c.seen.ensures.whole c.requires.tidy c.args.id c.requires.file (omega arith) c.args.w
+    (sym c.in-Err.ensures.full) c.requires.room

@@ -16,13 +16,15 @@ loop-slot-preserved c =
     elim c.if-is_removed.branch [
       | then-is_removed w ↦ record {
         closed = subst (λ (p : Plain). ClosesTree (in_tree (superior_at old.jobs) r) old p (k + 1)) (sym w.self-is)
-            (tree_gone old now w.close_all.new.self r k _ (rw (c.number.ensures.value, c.new-slot.ensures) at c.is_removed.ensures) w.if-is_removed.true c.loop-slot.invariant.closed
+            (tree_gone old now w.close_all.new.self r k _ (rw (c.number.ensures.value, c.new-slot.ensures) at c.is_removed.ensures)
+            w.if-is_removed.true c.loop-slot.invariant.closed
             (rw c.new-slot.ensures at w.close_all.ensures.closed));
         tidy = subst Tidy (sym w.self-is) w.close_all.ensures.tidy;
       }
       | else-is_removed w ↦ record {
         closed = subst (λ (p : Plain). ClosesTree (in_tree (superior_at old.jobs) r) old p (k + 1)) (sym w.self-is)
-            (tree_kept old now r k _ (rw (c.number.ensures.value, c.new-slot.ensures) at c.is_removed.ensures) w.if-is_removed.false c.loop-slot.invariant.closed);
+            (tree_kept old now r k _ (rw (c.number.ensures.value, c.new-slot.ensures) at c.is_removed.ensures) w.if-is_removed.false
+            c.loop-slot.invariant.closed);
         tidy = subst Tidy (sym w.self-is) c.loop-slot.invariant.tidy;
       }
     ]

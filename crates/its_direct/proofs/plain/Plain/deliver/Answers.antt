@@ -17,8 +17,11 @@ returns-then-stops-clause-row c =
     let is = c.deliver-stops.ensures.job in
     let e = c.touch_none.ensures in
     let up = delivery_superior _ _ _ _ _ _ _ c.requires.job a b is e in
-    delivery_step c.args.self.now c.inform_superior.new.self c.args.slot c.args.job c.requires.job c.requires.runs c.requires.due _ (sym c.deliver-stops.ensures.stops ∙ c.if-stops.true)
-    (told_machine c.args.self.now c.touch_none.new.self c.inform_superior.new.self c.args.slot _ up (superior_apart c.args.self.now.jobs c.args.slot c.tree.ensures) (delivery_machine _ _ _ _ _ _ _ c.requires.job a b is e) c.inform_superior.ensures.row)
+    delivery_step c.args.self.now c.inform_superior.new.self c.args.slot c.args.job c.requires.job c.requires.runs c.requires.due _
+    (sym c.deliver-stops.ensures.stops ∙ c.if-stops.true)
+    (told_machine c.args.self.now c.touch_none.new.self c.inform_superior.new.self c.args.slot _ up
+    (superior_apart c.args.self.now.jobs c.args.slot c.tree.ensures) (delivery_machine _ _ _ _ _ _ _ c.requires.job a b is e)
+    c.inform_superior.ensures.row)
     (λ k. c.inform_superior.ensures.touched k ∙ told_slots k up)
     (c.inform_superior.ensures.place ∙ delivery_place _ _ _ _ _ _ _ c.requires.job a b is e)
 
@@ -28,7 +31,8 @@ returns-else-stops-clause-row c =
     let b = c.put_job.ensures in
     let is = c.deliver-stops.ensures.job in
     let e = c.touch_none.ensures in
-    delivery_step c.args.self.now c.touch_none.new.self c.args.slot c.args.job c.requires.job c.requires.runs c.requires.due _ (sym c.deliver-stops.ensures.stops ∙ c.if-stops.false)
+    delivery_step c.args.self.now c.touch_none.new.self c.args.slot c.args.job c.requires.job c.requires.runs c.requires.due _
+    (sym c.deliver-stops.ensures.stops ∙ c.if-stops.false)
     (delivery_machine _ _ _ _ _ _ _ c.requires.job a b is e)
     (still_touched c.touch_none.new.self.touched (superior_at c.args.self.now.jobs c.args.slot) (ap (λ (p : Plain). p.touched) e))
     (delivery_place _ _ _ _ _ _ _ c.requires.job a b is e)

@@ -4,7 +4,8 @@ use Rattle.its_direct.proofs.plain.Plain.load.Goals as goal
 
 pub returns-in-Ok-clause-done : goal.returns-in-Ok-clause-done
 returns-in-Ok-clause-done c =
-    load_done c.args.self.now _ c.hold_console.new.self c.set_place.new.self c.touch_only.new.self _ c.args.u c.args.j c.args.console c.within.ensures c.in-Ok.ensures.slot
+    load_done c.args.self.now _ c.hold_console.new.self c.set_place.new.self c.touch_only.new.self _ c.args.u c.args.j c.args.console
+    c.within.ensures c.in-Ok.ensures.slot
     (rw c.numbered.ensures.value at c.in-Ok.ensures.made)
     c.hold_console.ensures.row c.set_place.ensures c.touch_only.ensures
 

@@ -6,18 +6,21 @@ pub returns-in_default-clause-refused : goal.returns-in_default-clause-refused
 returns-in_default-clause-refused c = line_refused c.args.self.now c.args.slot c.args.a c.args.words.now c.requires.some (sym c.job.ensures ∙ c.in_default.is)
 
 pub returns-then-any_barred-clause-refused : goal.returns-then-any_barred-clause-refused
-returns-then-any_barred-clause-refused c = line_barred c.args.self.now c.args.slot c.args.a c.args.words.now _ (sym c.job.ensures ∙ c.in-Some.is) _ c.any_barred.ensures c.if-any_barred.true
+returns-then-any_barred-clause-refused c = line_barred c.args.self.now c.args.slot c.args.a c.args.words.now _
+    (sym c.job.ensures ∙ c.in-Some.is) _ c.any_barred.ensures c.if-any_barred.true
 
 pub returns-then-mapped-pages_made-gt-MAPPED_PAGES-clause-refused : goal.returns-then-mapped-pages_made-gt-MAPPED_PAGES-clause-refused
 returns-then-mapped-pages_made-gt-MAPPED_PAGES-clause-refused c =
     line_full c.args.self.now c.args.slot c.args.a c.args.words.now _ (sym c.job.ensures ∙ c.in-Some.is) _ c.any_barred.ensures c.if-any_barred.false
-    c.requires.tidy c.within.ensures c.requires.end (c.mapped.ensures.whole c.args.slot c.within.ensures) _ _ c.mapped.ensures.number c.mapped.ensures.most c.pages_made.ensures.number
+    c.requires.tidy c.within.ensures c.requires.end (c.mapped.ensures.whole c.args.slot c.within.ensures) _ _ c.mapped.ensures.number
+    c.mapped.ensures.most c.pages_made.ensures.number
     c.if-mapped-pages_made-gt-MAPPED_PAGES.true
 
 pub store_words-requires-clause-room : goal.store_words-requires-clause-room
 store_words-requires-clause-room c =
     line_room c.args.self.now c.args.slot c.args.a c.args.words.now _ (sym c.job.ensures ∙ c.in-Some.is) _ c.any_barred.ensures c.if-any_barred.false
-    c.requires.tidy c.within.ensures c.requires.end (c.mapped.ensures.whole c.args.slot c.within.ensures) _ _ c.mapped.ensures.number c.mapped.ensures.most c.pages_made.ensures.number
+    c.requires.tidy c.within.ensures c.requires.end (c.mapped.ensures.whole c.args.slot c.within.ensures) _ _ c.mapped.ensures.number
+    c.mapped.ensures.most c.pages_made.ensures.number
     c.if-mapped-pages_made-gt-MAPPED_PAGES.false
 
 pub returns-clause-done : goal.returns-clause-done

@@ -11,7 +11,8 @@ unreachable-requires c = none_full c.args.self.now c.args.slot c.requires.free c
 
 pub returns-clause-row : goal.returns-clause-row
 returns-clause-row c =
-    inferior_made c.args.self.now _ c.args.maker c.args.slot _ c.args.u c.args.j _ c.requires.tidy c.requires.free c.in-Ok.ensures.slot c.console_of-console.ensures c.in-Ok.ensures.job c.in-Ok.ensures.superior refl
+    inferior_made c.args.self.now _ c.args.maker c.args.slot _ c.args.u c.args.j _ c.requires.tidy c.requires.free c.in-Ok.ensures.slot
+    c.console_of-console.ensures c.in-Ok.ensures.job c.in-Ok.ensures.superior refl
     (record { is = refl })
 
 pub returns-clause-tidy : goal.returns-clause-tidy

@@ -14,10 +14,12 @@ move_one-requires-clause-part c =
 
 pub returns-clause-row : goal.returns-clause-row
 returns-clause-row c =
-    moved_row c.args.self.now c.move_one.new.self c.args.slot c.args.ask.now c.renew.new.ask c.args.moved.now.shift c.args.moved.now.held c.args.moved.now.next c.args.moved.now.left c.requires.kept c.requires.at
+    moved_row c.args.self.now c.move_one.new.self c.args.slot c.args.ask.now c.renew.new.ask c.args.moved.now.shift c.args.moved.now.held
+    c.args.moved.now.next c.args.moved.now.left c.requires.kept c.requires.at
     c.requires.decides c.move_one.ensures.row c.renew.ensures
 
 pub returns-clause-kept : goal.returns-clause-kept
 returns-clause-kept c =
-    moved_kept c.args.self.now c.move_one.new.self c.args.slot c.args.ask.now c.renew.new.ask c.args.moved.now.shift c.args.moved.now.held c.args.moved.now.next c.args.moved.now.left c.requires.kept c.requires.at
+    moved_kept c.args.self.now c.move_one.new.self c.args.slot c.args.ask.now c.renew.new.ask c.args.moved.now.shift c.args.moved.now.held
+    c.args.moved.now.next c.args.moved.now.left c.requires.kept c.requires.at
     c.requires.decides c.move_one.ensures.row c.renew.ensures c.requires.outside c.move_one.ensures.tidy

@@ -1,5 +1,5 @@
 use Rattle.std.proofs.Common.{refl}
-use Rattle.its_machine.proofs.StandLaws.{drafts_below}
+use Rattle.its_shared.proofs.StandLaws.{drafts_below}
 use Rattle.its_direct.proofs.ChannelLaws.{open_draft_comes, chan_shut, store_first}
 use Rattle.its_direct.proofs.plain.Plain.open_draft.Goals as goal
 
@@ -13,5 +13,6 @@ pub returns : goal.returns
 returns c =
     let e = c.draft-draft.ensures in
     let b = store_first c.args.self.now _ _ c.args.slot c.args.n _ _ (record { is = refl }) c.set_channel.ensures in
-    let k = open_draft_comes c.args.self.now c.set_channel.new.self c.args.slot c.args.n c.within.ensures c.requires.channel c.requires.tidy c.draft-draft.new.self c.draft-draft.result c.args.d c.args.x c.args.y b c.requires.job c.requires.closed e.free e.made e.directory e.entry e.words in
+    let k = open_draft_comes c.args.self.now c.set_channel.new.self c.args.slot c.args.n c.within.ensures c.requires.channel c.requires.tidy
+    c.draft-draft.new.self c.draft-draft.result c.args.d c.args.x c.args.y b c.requires.job c.requires.closed e.free e.made e.directory e.entry e.words in
     record { row = k.row; tidy = k.tidy }

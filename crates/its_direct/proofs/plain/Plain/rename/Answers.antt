@@ -1,6 +1,6 @@
 use Rattle.std.proofs.Common.{refl, sym}
 use Rattle.std.specs.Prelude.{◌∷◌, []}
-use Rattle.its_machine.proofs.ShowLaws.{rename_can, found_file}
+use Rattle.its_shared.proofs.ShowLaws.{rename_can, found_file}
 use Rattle.its_direct.specs.Plain.{machine_of}
 use Rattle.its_direct.proofs.ChannelLaws.{rename_comes, shows}
 use Rattle.its_direct.proofs.plain.Plain.rename.Goals as goal
@@ -9,14 +9,17 @@ pub unreachable-requires : goal.unreachable-requires
 unreachable-requires c =
     let p = c.args.self.now in
     let f = c.in-Some.ensures in
-    rename_can (machine_of p) p.files p.jobs (shows p) c.seen.ensures.whole c.requires.tidy.across c.args.d c.args.x c.args.y c.in-Some.file c.args.new_x c.args.new_y c.requires.unread c.requires.fresh (sym f.found) f.names c.in-Err.field-0 c.in-Err.ensures.fault
+    rename_can (machine_of p) p.files p.jobs (shows p) c.seen.ensures.whole c.requires.tidy.across c.args.d c.args.x c.args.y c.in-Some.file
+    c.args.new_x c.args.new_y c.requires.unread c.requires.fresh (sym f.found) f.names c.in-Err.field-0 c.in-Err.ensures.fault
 
 pub returns-in-Ok : goal.returns-in-Ok
 returns-in-Ok c =
     let e = c.in-Ok.ensures in
     let f = c.in-Some.ensures in
-    let k = rename_comes c.args.self.now _ c.requires.tidy c.args.d c.args.x c.args.y c.rename.new.self c.in-Some.file c.args.new_x c.args.new_y (sym f.found) c.seen.ensures.whole f.file e.ok e.directory e.entry e.words (record { is = refl }) in
+    let k = rename_comes c.args.self.now _ c.requires.tidy c.args.d c.args.x c.args.y c.rename.new.self c.in-Some.file c.args.new_x
+    c.args.new_y (sym f.found) c.seen.ensures.whole f.file e.ok e.directory e.entry e.words (record { is = refl }) in
     record { row = k.row; tidy = k.tidy }
 
 pub returns-in_default : goal.returns-in_default
-returns-in_default c = let p = c.args.self.now in absurd (found_file (machine_of p) p.files p.jobs (shows p) (c.args.d ∷ c.args.x ∷ c.args.y ∷ []) c.requires.file c.in_default.ensures.found)
+returns-in_default c = let p = c.args.self.now in absurd (found_file (machine_of p) p.files p.jobs (shows p)
+    (c.args.d ∷ c.args.x ∷ c.args.y ∷ []) c.requires.file c.in_default.ensures.found)

@@ -10,5 +10,6 @@ returns c =
     let u = used_is i.words.words i.links.lists i.lengths.items c.self.invariant.lengths_long in
     let f = ap (λ xs. length (free_blocks xs)) (chains_are i.words.words i.links.lists i.lengths.items) in
     let h = c.self.invariant.used in
-    let e : length (free_blocks (stored_in i.words.words i.links.lists i.lengths.items).chains) + blocks_used (stored_in i.words.words i.links.lists i.lengths.items) ≡ 2048 = omega arith in
+    let e : length (free_blocks (stored_in i.words.words i.links.lists i.lengths.items).chains) + blocks_used
+    (stored_in i.words.words i.links.lists i.lengths.items) ≡ 2048 = omega arith in
     subst (λ s. length (free_blocks s.chains) + blocks_used s ≡ 2048) c.self.view_is e

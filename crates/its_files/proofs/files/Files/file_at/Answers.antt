@@ -9,4 +9,5 @@ pub returns-clause-file : goal.returns-clause-file
 returns-clause-file c =
     let i = c.self.inside in
     subst (λ s. IfSome c.number_at.result (λ id. is_file (entry_at s id) ≡ true)) c.self.view_is
-    (listed_if i.entries.items i.order.items i.mark i.blocks.texts c.self.invariant c.args.k c.number_at.result (c.number_at.ensures ∙ ap (λ o. slice_get o c.args.k) c.as_slice.ensures.value))
+    (listed_if i.entries.items i.order.items i.mark i.blocks.texts c.self.invariant c.args.k c.number_at.result
+    (c.number_at.ensures ∙ ap (λ o. slice_get o c.args.k) c.as_slice.ensures.value))

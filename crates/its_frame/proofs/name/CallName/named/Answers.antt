@@ -5,7 +5,49 @@ use Rattle.its_frame.proofs.name.CallName.named.Goals as goal
 
 pub returns-in_default : goal.returns-in_default
 returns-in_default c = let v = c.value.ensures.value in
-    unnamed c.args.name (λ e. omega arith, (λ e. omega arith, (λ e. omega arith, (λ e. omega arith, (λ e. omega arith, (λ e. omega arith, (λ e. omega arith, (λ e. omega arith, (λ e. omega arith, (λ e. omega arith, (λ e. omega arith, (λ e. omega arith, (λ e. omega arith, (λ e. omega arith, (λ e. omega arith, (λ e. omega arith, (λ e. omega arith, (λ e. omega arith, (λ e. omega arith, (λ e. omega arith, record {}))))))))))))))))))))
+    unnamed c.args.name (
+      λ e. omega arith,
+      (
+        λ e. omega arith,
+        (
+          λ e. omega arith,
+          (
+            λ e. omega arith,
+            (
+              λ e. omega arith,
+              (
+                λ e. omega arith,
+                (
+                  λ e. omega arith,
+                  (
+                    λ e. omega arith,
+                    (
+                      λ e. omega arith,
+                      (
+                        λ e. omega arith,
+                        (
+                          λ e. omega arith,
+                          (
+                            λ e. omega arith,
+                            (
+                              λ e. omega arith,
+                              (
+                                λ e. omega arith,
+                                (λ e. omega arith, (λ e. omega arith, (λ e. omega arith, (λ e. omega arith, (λ e. omega arith, (λ e. omega arith, record {})))))),
+                              ),
+                            ),
+                          ),
+                        ),
+                      ),
+                    ),
+                  ),
+                ),
+              ),
+            ),
+          ),
+        ),
+      ),
+    )
 
 pub returns-in-43515539456 : goal.returns-in-43515539456
 returns-in-43515539456 c = named_is _ _ Hang c.value.ensures.value c.in-43515539456.is

@@ -9,6 +9,7 @@ use Rattle.its_jobs.proofs.table.Jobs.is_below.Goals as goal
 
 pub returns-else-from-lt-SLOTS : goal.returns-else-from-lt-SLOTS
 returns-else-from-lt-SLOTS c =
-    let past : is_below (superior_at c.args.self.now) c.args.slot c.args.job ≡ false = rw (← c.self.view_is) (past_below _ c.args.slot c.args.job c.self.invariant.tree.superior_count (omega arith)) in
+    let past : is_below (superior_at c.args.self.now) c.args.slot c.args.job ≡ false =
+    rw (← c.self.view_is) (past_below _ c.args.slot c.args.job c.self.invariant.tree.superior_count (omega arith)) in
     let less : nat_lt c.from.result slots ≡ false = grind (arith, nat_tests) in
     less ∙ sym past

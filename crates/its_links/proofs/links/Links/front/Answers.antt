@@ -10,7 +10,8 @@ pub node_after-requires : goal.node_after-requires
 node_after-requires c = let o = open_links _ _ _ c.self.view_is c.self.invariant in let t = o.total in omega arith
 
 pub returns-clause-front : goal.returns-clause-front
-returns-clause-front c = front_is _ _ _ (open_links _ _ _ c.self.view_is c.self.invariant) c.args.head c.node_after.result c.requires c.node_after.ensures.some c.node_after.ensures.none
+returns-clause-front c = front_is _ _ _ (open_links _ _ _ c.self.view_is c.self.invariant) c.args.head c.node_after.result c.requires
+    c.node_after.ensures.some c.node_after.ensures.none
 
 pub returns-clause-within : goal.returns-clause-within
 returns-clause-within c =

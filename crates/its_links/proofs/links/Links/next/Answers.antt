@@ -11,4 +11,5 @@ node_after-requires c =
     omega arith
 
 pub returns : goal.returns
-returns c = λ h before after is. next_is _ _ _ (open_links _ _ _ c.self.view_is c.self.invariant) h c.args.node before after c.node_after.result is c.node_after.ensures.some c.node_after.ensures.none
+returns c = λ h before after is. next_is _ _ _ (open_links _ _ _ c.self.view_is c.self.invariant) h c.args.node before after
+    c.node_after.result is c.node_after.ensures.some c.node_after.ensures.none

@@ -8,4 +8,5 @@ unlink-requires c = let o = c.in_ok-node.ensures.once in omega arith
 pub returns-clause-lists : goal.returns-clause-lists
 returns-clause-lists c =
     c.unlink.ensures.lists
-    ∙ ap (λ ls. record { nodes = c.args.self.now.nodes; lists = ls }) (first_out _ c.args.head c.in_ok-node.node c.requires (sym c.in_ok-node.ensures.front) c.in_ok-node.ensures.once)
+    ∙ ap (λ ls. record { nodes = c.args.self.now.nodes; lists = ls })
+    (first_out _ c.args.head c.in_ok-node.node c.requires (sym c.in_ok-node.ensures.front) c.in_ok-node.ensures.once)

@@ -16,12 +16,14 @@ exchange-requires-clause-q c = let o = open_links _ _ _ c.self.view_is c.self.in
 pub invariant_of-self : goal.invariant_of-self
 invariant_of-self c =
     let o = open_links _ _ _ c.self.view_is c.self.invariant in
-    (push_closed _ _ _ o c.exchange.new.self c.args.head c.args.node c.before-last.result c.requires.head c.requires.node c.requires.apart c.before-last.ensures.only c.exchange.ensures.count c.exchange.ensures.exchanged).invariant
+    (push_closed _ _ _ o c.exchange.new.self c.args.head c.args.node c.before-last.result c.requires.head c.requires.node c.requires.apart
+    c.before-last.ensures.only c.exchange.ensures.count c.exchange.ensures.exchanged).invariant
 
 pub returns-clause-lists : goal.returns-clause-lists
 returns-clause-lists c =
     let o = open_links _ _ _ c.self.view_is c.self.invariant in
-    (push_closed _ _ _ o c.exchange.new.self c.args.head c.args.node c.before-last.result c.requires.head c.requires.node c.requires.apart c.before-last.ensures.only c.exchange.ensures.count c.exchange.ensures.exchanged).view
+    (push_closed _ _ _ o c.exchange.new.self c.args.head c.args.node c.before-last.result c.requires.head c.requires.node c.requires.apart
+    c.before-last.ensures.only c.exchange.ensures.count c.exchange.ensures.exchanged).view
 
 pub returns-clause-heads : goal.returns-clause-heads
 returns-clause-heads c = ap (λ v. length v.lists) (returns-clause-lists c) ∙ length-set _ _ _

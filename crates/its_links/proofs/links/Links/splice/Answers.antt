@@ -25,12 +25,16 @@ exchange-requires-2-clause-q c = let o = open_links _ _ _ c.self.view_is c.self.
 pub invariant_of-self : goal.invariant_of-self
 invariant_of-self c =
     let o = open_links _ _ _ c.self.view_is c.self.invariant in
-    (splice_closed _ _ _ o c.exchange.new.self c.exchange-2.new.self c.args.from c.args.to c.before-seam.result c.before-last.result c.requires.from c.requires.to c.requires.two c.before-seam.ensures.only c.before-last.ensures.only c.exchange.ensures.count c.exchange.ensures.exchanged c.exchange-2.ensures.count c.exchange-2.ensures.exchanged).invariant
+    (splice_closed _ _ _ o c.exchange.new.self c.exchange-2.new.self c.args.from c.args.to c.before-seam.result c.before-last.result
+    c.requires.from c.requires.to c.requires.two c.before-seam.ensures.only c.before-last.ensures.only c.exchange.ensures.count
+    c.exchange.ensures.exchanged c.exchange-2.ensures.count c.exchange-2.ensures.exchanged).invariant
 
 pub returns-clause-lists : goal.returns-clause-lists
 returns-clause-lists c =
     let o = open_links _ _ _ c.self.view_is c.self.invariant in
-    (splice_closed _ _ _ o c.exchange.new.self c.exchange-2.new.self c.args.from c.args.to c.before-seam.result c.before-last.result c.requires.from c.requires.to c.requires.two c.before-seam.ensures.only c.before-last.ensures.only c.exchange.ensures.count c.exchange.ensures.exchanged c.exchange-2.ensures.count c.exchange-2.ensures.exchanged).view
+    (splice_closed _ _ _ o c.exchange.new.self c.exchange-2.new.self c.args.from c.args.to c.before-seam.result c.before-last.result
+    c.requires.from c.requires.to c.requires.two c.before-seam.ensures.only c.before-last.ensures.only c.exchange.ensures.count
+    c.exchange.ensures.exchanged c.exchange-2.ensures.count c.exchange-2.ensures.exchanged).view
 
 pub returns-clause-heads : goal.returns-clause-heads
 returns-clause-heads c = ap (λ v. length v.lists) (returns-clause-lists c) ∙ length-set _ _ _ ∙ length-set _ _ _

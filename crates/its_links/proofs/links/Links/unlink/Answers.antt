@@ -16,12 +16,14 @@ before-before-requires c =
 pub invariant_of-self : goal.invariant_of-self
 invariant_of-self c =
     let o = open_links _ _ _ c.self.view_is c.self.invariant in
-    (unlink_closed _ _ _ o c.exchange.new.self c.args.node c.before-before.result c.requires c.before-before.ensures.only c.exchange.ensures.count c.exchange.ensures.exchanged).invariant
+    (unlink_closed _ _ _ o c.exchange.new.self c.args.node c.before-before.result c.requires c.before-before.ensures.only
+    c.exchange.ensures.count c.exchange.ensures.exchanged).invariant
 
 pub returns-clause-lists : goal.returns-clause-lists
 returns-clause-lists c =
     let o = open_links _ _ _ c.self.view_is c.self.invariant in
-    (unlink_closed _ _ _ o c.exchange.new.self c.args.node c.before-before.result c.requires c.before-before.ensures.only c.exchange.ensures.count c.exchange.ensures.exchanged).view
+    (unlink_closed _ _ _ o c.exchange.new.self c.args.node c.before-before.result c.requires c.before-before.ensures.only
+    c.exchange.ensures.count c.exchange.ensures.exchanged).view
 
 pub returns-clause-within : goal.returns-clause-within
 returns-clause-within c = node_below _ _ _ (open_links _ _ _ c.self.view_is c.self.invariant) c.args.node c.requires

@@ -6,8 +6,10 @@ returns-in-Some-clause-refused c = deposit_refused _ _ _ _ _ _ c.in_ok-present.e
 
 pub returns-clause-done : goal.returns-clause-done
 returns-clause-done c =
-    deposit_done _ _ _ _ _ _ c.requires.kept c.calm.ensures (deposit_can _ _ _ _ _ c.requires.kept c.in_ok-present.ensures.some c.calm.ensures c.undepositable.ensures c.in-None.is) c.store.ensures
+    deposit_done _ _ _ _ _ _ c.requires.kept c.calm.ensures (deposit_can _ _ _ _ _ c.requires.kept c.in_ok-present.ensures.some
+    c.calm.ensures c.undepositable.ensures c.in-None.is) c.store.ensures
 
 pub returns-clause-kept : goal.returns-clause-kept
 returns-clause-kept c =
-    deposit_kept _ _ _ _ _ _ c.requires.kept c.calm.ensures (deposit_can _ _ _ _ _ c.requires.kept c.in_ok-present.ensures.some c.calm.ensures c.undepositable.ensures c.in-None.is) c.store.ensures
+    deposit_kept _ _ _ _ _ _ c.requires.kept c.calm.ensures (deposit_can _ _ _ _ _ c.requires.kept c.in_ok-present.ensures.some
+    c.calm.ensures c.undepositable.ensures c.in-None.is) c.store.ensures

@@ -12,14 +12,16 @@ returns-in-Some-clause-refused c = load_refused _ _ _ _ _ _ c.in_ok-present.ensu
 
 pub unreachable-requires : goal.unreachable-requires
 unreachable-requires c =
-    load_writable _ _ _ _ c.args.w _ c.calm.ensures (load_clear _ _ _ _ _ _ c.requires.kept c.in_ok-present.ensures.some c.calm.ensures c.unloadable.ensures c.in-None.is)
+    load_writable _ _ _ _ c.args.w _ c.calm.ensures (load_clear _ _ _ _ _ _ c.requires.kept c.in_ok-present.ensures.some c.calm.ensures
+    c.unloadable.ensures c.in-None.is)
     (c.in-Err-ReadOnly.ensures.refused ∙ ap Err c.in-Err-ReadOnly.field-0-is)
 
 pub load_page-requires-clause-room : goal.load_page-requires-clause-room
 load_page-requires-clause-room c =
     let absent = c.in-Err-Absent.ensures.absent (ap Err c.in-Err-Absent.field-0-is) in
     subst (λ (w : World). pages_mapped (core_at w.core) < most_pages) (sym c.in-Err-Absent.ensures.same)
-    (load_room _ _ _ _ c.args.w c.calm.ensures (load_clear _ _ _ _ _ _ c.requires.kept c.in_ok-present.ensures.some c.calm.ensures c.unloadable.ensures c.in-None.is) absent.0 absent.1)
+    (load_room _ _ _ _ c.args.w c.calm.ensures (load_clear _ _ _ _ _ _ c.requires.kept c.in_ok-present.ensures.some c.calm.ensures
+    c.unloadable.ensures c.in-None.is) absent.0 absent.1)
 
 pub load_page-requires-clause-unreserved : goal.load_page-requires-clause-unreserved
 load_page-requires-clause-unreserved c =
@@ -29,11 +31,13 @@ pub returns-in-Ok-clause-done : goal.returns-in-Ok-clause-done
 returns-in-Ok-clause-done c = load_stored _ _ _ _ _ _ c.requires.kept c.calm.ensures c.in-Ok.ensures.allowed c.in-Ok.ensures.stored
 
 pub returns-in-Ok-clause-plain : goal.returns-in-Ok-clause-plain
-returns-in-Ok-clause-plain c = load_plain _ c.calm.new.w _ _ _ _ c.requires.kept (load_stored _ _ _ _ _ _ c.requires.kept c.calm.ensures c.in-Ok.ensures.allowed c.in-Ok.ensures.stored)
+returns-in-Ok-clause-plain c = load_plain _ c.calm.new.w _ _ _ _ c.requires.kept
+    (load_stored _ _ _ _ _ _ c.requires.kept c.calm.ensures c.in-Ok.ensures.allowed c.in-Ok.ensures.stored)
 
 pub returns-in-Ok-clause-kept : goal.returns-in-Ok-clause-kept
 returns-in-Ok-clause-kept c =
-    load_kept _ _ _ _ _ _ _ c.requires.kept c.calm.ensures c.in-Ok.ensures.stored (load_stored _ _ _ _ _ _ c.requires.kept c.calm.ensures c.in-Ok.ensures.allowed c.in-Ok.ensures.stored)
+    load_kept _ _ _ _ _ _ _ c.requires.kept c.calm.ensures c.in-Ok.ensures.stored
+    (load_stored _ _ _ _ _ _ c.requires.kept c.calm.ensures c.in-Ok.ensures.allowed c.in-Ok.ensures.stored)
 
 pub returns-in-Err-Absent-clause-done : goal.returns-in-Err-Absent-clause-done
 returns-in-Err-Absent-clause-done c =
@@ -47,7 +51,8 @@ returns-in-Err-Absent-clause-plain c = load_plain _ c.calm.new.w c.load_page.new
 
 pub returns-in-Err-Absent-clause-kept : goal.returns-in-Err-Absent-clause-kept
 returns-in-Err-Absent-clause-kept c =
-    made_kept _ _ c.load_page.new.w _ _ _ _ c.requires.kept c.calm.ensures (made_as _ _ c.load_page.new.w _ _ _ c.in-Err-Absent.ensures.same c.load_page.ensures.loaded) (returns-in-Err-Absent-clause-done c)
+    made_kept _ _ c.load_page.new.w _ _ _ _ c.requires.kept c.calm.ensures
+    (made_as _ _ c.load_page.new.w _ _ _ c.in-Err-Absent.ensures.same c.load_page.ensures.loaded) (returns-in-Err-Absent-clause-done c)
 
 pub returns-in-Ok-clause-pages : goal.returns-in-Ok-clause-pages
 returns-in-Ok-clause-pages c = stored_frames _ _ _ _ _ c.requires.kept c.calm.ensures _ c.in-Ok.ensures.allowed c.in-Ok.ensures.stored
@@ -56,4 +61,5 @@ pub returns-in-Err-Absent-clause-pages : goal.returns-in-Err-Absent-clause-pages
 returns-in-Err-Absent-clause-pages c =
     let absent = c.in-Err-Absent.ensures.absent (ap Err c.in-Err-Absent.field-0-is) in
     made_frames _ _ c.load_page.new.w _ _ c.requires.kept c.calm.ensures absent.0 absent.1
-    (c.load_page.ensures.frames ∙ ap (λ (w : World). frames_map c.args.slot c.args.slot (c.args.a / 1024) (frames_reserve c.args.slot w.core.frames)) c.in-Err-Absent.ensures.same)
+    (c.load_page.ensures.frames ∙ ap (λ (w : World). frames_map c.args.slot c.args.slot (c.args.a / 1024)
+    (frames_reserve c.args.slot w.core.frames)) c.in-Err-Absent.ensures.same)

@@ -5,4 +5,5 @@ pub returns-clause-shown : goal.returns-clause-shown
 returns-clause-shown c = state_found _ _ _ _ _ _ _ c.in_ok-job.ensures.calm c.superior-superior.ensures.value c.near-symbol.ensures c.shown.ensures
 
 pub returns-clause-plain : goal.returns-clause-plain
-returns-clause-plain c = state_plain _ _ _ _ _ _ _ c.requires.kept c.in_ok-job.ensures.calm c.superior-superior.ensures.value c.near-symbol.ensures c.shown.ensures
+returns-clause-plain c = state_plain _ _ _ _ _ _ _ c.requires.kept c.in_ok-job.ensures.calm c.superior-superior.ensures.value
+    c.near-symbol.ensures c.shown.ensures

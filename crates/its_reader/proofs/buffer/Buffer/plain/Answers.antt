@@ -8,7 +8,8 @@ use Rattle.its_reader.proofs.buffer.Buffer.plain.Goals as goal
 pub returns-in-Some-clause-plain : goal.returns-in-Some-clause-plain
 returns-in-Some-clause-plain c =
     let b = c.args.self.now in
-    (plain_some (drop b.start b.bytes) _ _ (sym c.first_lf.ensures ∙ c.in-Some.is) (omega (arith, length-drop b.start b.bytes, c.min-count.ensures, c.requires.fits.0, c.requires.fits.1))).0
+    (plain_some (drop b.start b.bytes) _ _ (sym c.first_lf.ensures ∙ c.in-Some.is)
+    (omega (arith, length-drop b.start b.bytes, c.min-count.ensures, c.requires.fits.0, c.requires.fits.1))).0
 
 pub returns-in-None-clause-plain : goal.returns-in-None-clause-plain
 returns-in-None-clause-plain c =

@@ -1,4 +1,4 @@
-use Rattle.std.proofs.Common.{◌≡◌, ◌≤◌, ◌<◌, ◌-◌, false, length}
+use Rattle.std.proofs.Common.{◌≡◌, ◌≤◌, ◌<◌, ◌-◌, true, false, length}
 use Rattle.its_session.specs.Events.{most_lines}
 use Rattle.its_reader.specs.Bytes.{BufferFits}
 use Rattle.its_reader.specs.Lines.{LineSo}
@@ -10,6 +10,7 @@ invariant-loop-e g l = record {
   short : length l.self.line.items ≤ 255;
   number : l.self.number ≡ l.fn.self.number;
   running : l.self.ended ≡ false;
+  readable : g.S.Source.readable l.src ≡ true;
   begun : 0 < length l.self.line.items → l.self.number ≤ most_lines;
   so_far : LineSo l.fn.self l.self (g.S.Source.left l.fn.src) (g.S.Source.left l.src);
   unfailed : g.S.Source.faults l.src ≡ g.S.Source.faults l.fn.src;

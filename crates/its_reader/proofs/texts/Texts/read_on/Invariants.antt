@@ -1,4 +1,4 @@
-use Rattle.std.proofs.Common.{◌≡◌, ◌≤◌, ◌<◌, ◌-◌, false, length}
+use Rattle.std.proofs.Common.{◌≡◌, ◌≤◌, ◌<◌, ◌-◌, true, false, length}
 use Rattle.its_session.specs.Events.{most_lines}
 use Rattle.its_reader.specs.Bytes.{BufferFits}
 use Rattle.its_reader.specs.Texts.{TextSo}
@@ -11,6 +11,7 @@ invariant-loop-e g l = record {
   most : l.self.most ≡ l.fn.self.most;
   number : l.self.number ≡ l.fn.self.number;
   running : l.self.ended ≡ false;
+  readable : g.S.Source.readable l.src ≡ true;
   begun : 0 < length l.self.text.items → l.self.number ≤ most_lines;
   so_far : TextSo l.fn.self l.self (g.S.Source.left l.fn.src) (g.S.Source.left l.src);
   unfailed : g.S.Source.faults l.src ≡ g.S.Source.faults l.fn.src;

@@ -9,5 +9,6 @@ returns-then-not-step-clause-led c = step_not_led c.step.result c.args.self.now 
 pub returns-clause-led : goal.returns-clause-led
 returns-clause-led c =
     step_led c.step.result c.args.self.now c.forget_touched.new.self c.step.new.self c.args.slot (search rules) c.step.ensures.row (search rules)
-    (subst (λ (i : ℕ). Forgets c.step.new.self (slice_set c.args.self.now.dots i 0) c.forget_touched.new.self.dots) c.index.ensures.value c.forget_touched.ensures.dots)
+    (subst (λ (i : ℕ). Forgets c.step.new.self (slice_set c.args.self.now.dots i 0) c.forget_touched.new.self.dots) c.index.ensures.value
+    c.forget_touched.ensures.dots)
     (search rules)

@@ -1,7 +1,7 @@
 use Rattle.std.proofs.Common.{Ok, ap, ◌∙◌}
 use Rattle.its_verify.proofs.ErrLaws.{err_item}
 use Rattle.its_verify.proofs.GoneLaws.{failed_says, obeyed_says}
-use Rattle.its_plain.specs.Turns.{ticks_asked, turns_asked}
+use Rattle.its_plain.specs.Transcript.Turns.{ticks_asked, turns_asked}
 use Rattle.its_direct.specs.Events.{spot_place}
 use Rattle.its_verify.proofs.VerifierLaws.{runs_outside}
 use Rattle.its_verify.proofs.OutLaws.{out_if_behind, told_by, turns_out}
@@ -9,11 +9,13 @@ use Rattle.its_verify.proofs.verifier.Verifier.obey.Goals as goal
 
 pub turns_of-requires-clause-outside : goal.turns_of-requires-clause-outside
 turns_of-requires-clause-outside g c =
-    runs_outside (spot_place c.args.self.now.judge.plain.place) c.line.new.self.judge.plain.place c.args.event.now c.requires.stands (c.line.ensures.place (c.in_ok-outcome.was ∙ ap Ok c.in_default.is))
+    runs_outside (spot_place c.args.self.now.judge.plain.place) c.line.new.self.judge.plain.place c.args.event.now c.requires.stands
+    (c.line.ensures.place (c.in_ok-outcome.was ∙ ap Ok c.in_default.is))
 
 pub returns-clause-says : goal.returns-clause-says
 returns-clause-says g c =
-    obeyed_says c.line.result c.turns_of.result c.args.event.now c.args.self.now c.line.new.self c.turns_of.new.self (g.S.Source.left c.args.src.now) (g.S.Source.left c.line.new.src) (g.S.Source.left c.turns_of.new.src) c.args.number
+    obeyed_says c.line.result c.turns_of.result c.args.event.now c.args.self.now c.line.new.self c.turns_of.new.self
+    (g.S.Source.left c.args.src.now) (g.S.Source.left c.line.new.src) (g.S.Source.left c.turns_of.new.src) c.args.number
     (c.in_ok-outcome.was ∙ ap Ok c.in_default.is) c.line.ensures.says c.line.ensures.last c.turns_of.ensures.says c.turns_of.ensures.place
 
 pub returns-clause-out : goal.returns-clause-out
@@ -22,11 +24,14 @@ returns-clause-out g c =
     let between = g.S.Source.left c.line.new.src in
     let rest = g.S.Source.left c.turns_of.new.src in
     out_if_behind c.turns_of.result left between rest
-    (told_by c.line.result c.args.event.now c.args.self.now c.line.new.self left between c.args.number (c.in_ok-outcome.was ∙ ap Ok c.in_default.is) c.line.ensures.says)
-    (turns_out (turns_asked c.args.event.now) (ticks_asked c.args.event.now) c.turns_of.result c.line.new.self c.turns_of.new.self between rest c.turns_of.ensures.says)
+    (told_by c.line.result c.args.event.now c.args.self.now c.line.new.self left between c.args.number
+    (c.in_ok-outcome.was ∙ ap Ok c.in_default.is) c.line.ensures.says)
+    (turns_out (turns_asked c.args.event.now) (ticks_asked c.args.event.now) c.turns_of.result c.line.new.self c.turns_of.new.self between
+    rest c.turns_of.ensures.says)
 
 pub returns-in_err-outcome-clause-says : goal.returns-in_err-outcome-clause-says
 returns-in_err-outcome-clause-says g c =
     err_item _ c.in_err-outcome.field-0.0 _ _ _ _ _ _ c.from_residual.ensures.0
-    (failed_says c.line.result c.in_err-outcome.field-0.0 c.args.event.now c.args.self.now c.line.new.self c.line.new.self (g.S.Source.left c.args.src.now) (g.S.Source.left c.line.new.src) c.args.number
+    (failed_says c.line.result c.in_err-outcome.field-0.0 c.args.event.now c.args.self.now c.line.new.self c.line.new.self
+    (g.S.Source.left c.args.src.now) (g.S.Source.left c.line.new.src) c.args.number
     c.in_err-outcome.was c.line.ensures.says)

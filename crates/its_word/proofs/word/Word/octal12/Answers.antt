@@ -16,5 +16,6 @@ loop-i-preserved c = record {
 pub returns : goal.returns
 unfolding octal12_of
 returns c =
-    let all : (k : ℕ) → k < 12 → get_or c.loop-i.digits k 0 ≡ 48 + c.args.self / 2 ^ (33 - 3 * k) % 8 = λ k below. c.loop-i.invariant.before k (omega arith) in
+    let all : (k : ℕ) → k < 12 → get_or c.loop-i.digits k 0 ≡ 48 + c.args.self / 2 ^ (33 - 3 * k) % 8 =
+    λ k below. c.loop-i.invariant.before k (omega arith) in
     fill_by_all (λ k. 48 + c.args.self / 2 ^ (33 - 3 * k) % 8) c.loop-i.digits 12 0 c.loop-i.invariant.twelve all

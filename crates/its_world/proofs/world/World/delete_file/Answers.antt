@@ -1,6 +1,6 @@
 use Rattle.std.proofs.Common.{refl, sym}
 use Rattle.std.specs.Prelude.{◌∷◌, []}
-use Rattle.its_machine.proofs.ShowLaws.{delete_can}
+use Rattle.its_shared.proofs.ShowLaws.{delete_can}
 use Rattle.its_world.specs.World.{state_of}
 use Rattle.its_world.proofs.StorageLaws.{store_unmarked, shows}
 use Rattle.its_world.proofs.ChannelLaws.{delete_comes, delete_none}
@@ -13,14 +13,16 @@ pub unreachable-requires : goal.unreachable-requires
 unreachable-requires c =
     let r = c.requires in
     let w = c.args.self.now in
-    delete_can (state_of w).raw w.files w.jobs (shows w) c.seen.ensures.whole r.tidy.across (c.args.d ∷ c.args.x ∷ c.args.y ∷ []) c.in-Some.file r.unread (sym c.in-Some.ensures.found) c.in-Err.field-0 c.in-Err.ensures.locked
+    delete_can (state_of w).raw w.files w.jobs (shows w) c.seen.ensures.whole r.tidy.across (c.args.d ∷ c.args.x ∷ c.args.y ∷ [])
+    c.in-Some.file r.unread (sym c.in-Some.ensures.found) c.in-Err.field-0 c.in-Err.ensures.locked
 
 pub returns-in-Ok : goal.returns-in-Ok
 returns-in-Ok c =
     let r = c.requires in
     let e = c.in-Ok.ensures in
     let f = c.in-Some.ensures in
-    let k = delete_comes c.args.self.now _ r.tidy c.args.d c.args.x c.args.y r.unmarked c.delete.new.self c.in-Some.file f.names f.file e.ok e.directory e.entry e.words
+    let k = delete_comes c.args.self.now _ r.tidy c.args.d c.args.x c.args.y r.unmarked c.delete.new.self c.in-Some.file f.names f.file e.ok
+    e.directory e.entry e.words
     (record { is = refl }) in
     record { row = λ j. (k j).row; tidy = (k 0).tidy; pages = refl }
 

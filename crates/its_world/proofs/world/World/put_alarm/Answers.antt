@@ -1,10 +1,10 @@
 use Rattle.std.proofs.Common.{refl, rules}
-use Rattle.its_world.proofs.PlaceLaws.{ringed_alike}
+use Rattle.its_world.proofs.PlaceLaws.{on_lists_alike}
 use Rattle.its_world.proofs.world.World.put_alarm.Goals as goal
 
 pub returns : goal.returns
 returns c = record {
   alarms = search rules;
   rest = refl;
-  ringed = ringed_alike c.args.self.now _ refl refl refl refl;
+  on_lists = on_lists_alike c.args.self.now _ refl refl refl refl;
 }

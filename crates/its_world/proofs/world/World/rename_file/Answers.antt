@@ -1,5 +1,5 @@
 use Rattle.std.proofs.Common.{refl, sym}
-use Rattle.its_machine.proofs.ShowLaws.{rename_can}
+use Rattle.its_shared.proofs.ShowLaws.{rename_can}
 use Rattle.its_world.specs.World.{state_of}
 use Rattle.its_world.proofs.StorageLaws.{store_unmarked, shows}
 use Rattle.its_world.proofs.ChannelLaws.{rename_comes, rename_none}
@@ -13,14 +13,16 @@ unreachable-requires c =
     let r = c.requires in
     let w = c.args.self.now in
     let f = c.in-Some.ensures in
-    rename_can (state_of w).raw w.files w.jobs (shows w) c.seen.ensures.whole r.tidy.across c.args.d c.args.x c.args.y c.in-Some.file c.args.new_x c.args.new_y r.unread r.fresh (sym f.found) f.names c.in-Err.field-0 c.in-Err.ensures.fault
+    rename_can (state_of w).raw w.files w.jobs (shows w) c.seen.ensures.whole r.tidy.across c.args.d c.args.x c.args.y c.in-Some.file
+    c.args.new_x c.args.new_y r.unread r.fresh (sym f.found) f.names c.in-Err.field-0 c.in-Err.ensures.fault
 
 pub returns-in-Ok : goal.returns-in-Ok
 returns-in-Ok c =
     let r = c.requires in
     let e = c.in-Ok.ensures in
     let f = c.in-Some.ensures in
-    let k = rename_comes c.args.self.now _ r.tidy c.args.d c.args.x c.args.y r.unmarked c.rename.new.self c.in-Some.file c.args.new_x c.args.new_y (sym f.found) c.seen.ensures.whole f.file e.ok e.directory e.entry e.words
+    let k = rename_comes c.args.self.now _ r.tidy c.args.d c.args.x c.args.y r.unmarked c.rename.new.self c.in-Some.file c.args.new_x
+    c.args.new_y (sym f.found) c.seen.ensures.whole f.file e.ok e.directory e.entry e.words
     (record { is = refl }) in
     record { row = λ j. (k j).row; tidy = (k 0).tidy; pages = refl }
 

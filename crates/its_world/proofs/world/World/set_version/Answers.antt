@@ -5,4 +5,5 @@ use Rattle.its_world.proofs.world.World.set_version.Goals as goal
 
 pub returns : goal.returns
 returns c =
-    version_becomes c.args.self.now _ c.args.v (record { each = λ k. ap (λ t. job_at t k) c.set_limit.ensures }) (ap (λ t. t.superiors) c.set_limit.ensures) refl
+    version_becomes c.args.self.now _ c.args.v (record { each = λ k. ap (λ t. job_at t k) c.set_limit.ensures })
+    (ap (λ t. t.superiors) c.set_limit.ensures) refl

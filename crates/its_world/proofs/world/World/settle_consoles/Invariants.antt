@@ -1,4 +1,4 @@
-use Rattle.its_world.specs.Rings.{lists_to}
+use Rattle.its_world.specs.WaitLists.{lists_to}
 use Rattle.its_world.specs.Filed.{Resettled}
 use Rattle.its_world.proofs.world.World.settle_consoles.Given as goal
 

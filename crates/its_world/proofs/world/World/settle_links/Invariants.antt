@@ -1,4 +1,4 @@
-use Rattle.its_world.specs.Rings.{link_lists_to}
+use Rattle.its_world.specs.WaitLists.{link_lists_to}
 use Rattle.its_world.specs.Filed.{Resettled}
 use Rattle.its_world.proofs.world.World.settle_links.Given as goal
 

@@ -1,0 +1,12 @@
+pub mod TextLaws
+pub mod LongLaws
+pub mod GatherLaws
+pub mod AddsLaws
+pub mod RowLaws
+pub mod MadeLaws
+pub mod StatementLaws
+pub mod FitLaws
+pub mod SessionLaws
+pub mod CoreLaws
+pub mod LoadLaws
+pub mod Groups

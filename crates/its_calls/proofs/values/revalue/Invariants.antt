@@ -1,9 +1,0 @@
-use Rattle.std.proofs.Common.{◌≡◌, ◌-◌, length, take}
-use Rattle.its_calls.specs.Values.{with_values}
-use Rattle.its_calls.proofs.values.revalue.Given as goal
-
-abbrev pub invariant-loop-k : goal.invariant-loop-k
-invariant-loop-k l = record {
-  kept : l.kept ≡ length l.fn.ask.inputs.items - length l.values;
-  part : l.ask ≡ with_values l.fn.ask l.kept (take l.k l.values);
-}

@@ -1,5 +1,0 @@
-use Rattle.its_machine.proofs.SymbolLaws.{Looking}
-use Rattle.its_machine.proofs.symbols.nearest.Given as goal
-
-abbrev pub invariant-loop-symbol : goal.invariant-loop-symbol
-invariant-loop-symbol l = Looking l.pc l.symbols l.symbol-index l.best

@@ -1,0 +1,5 @@
+pub mod StateLine
+pub mod Building
+pub mod Saving
+pub mod WellFormed
+pub mod GoingOn

@@ -1,0 +1,5 @@
+-- Unwinding a job to user mode changes nothing that the plain machine has.
+pub mod RowLaws
+pub mod UnwindRows
+pub mod EndingRows
+pub mod UnwindLaws

@@ -1,5 +1,0 @@
-use Rattle.its_top.proofs.PerformLaws.{dir_performed}
-use Rattle.its_top.proofs.filing.list_files.Goals as goal
-
-pub returns-clause-performed : goal.returns-clause-performed
-returns-clause-performed c = λ ps b. dir_performed _ b _ _ ps _ c.count_files-count.ensures.state c.count_files-count.ensures.count c.count_files-count.ensures.unmarked

@@ -1,5 +1,0 @@
-use Rattle.its_top.proofs.ConclusionLaws.{takes_bad}
-use Rattle.its_top.proofs.run.take.Goals as goal
-
-pub returns-in-Bad-clause-takes : goal.returns-in-Bad-clause-takes
-returns-in-Bad-clause-takes g c = takes_bad _ _ _ _ _ _ _ _ _ c.in-Bad.reason _ _ c.in-Bad.is c.refuse.ensures.told
