@@ -1,5 +1,10 @@
 ; The command job of a console: one logs in here, starts a program as an inferior, stops it with Control-Z, looks at it and lets it go on.
 ; README.md in this folder has the commands. The host gives each console such a job, which never logs out.
+;
+; HALT at another console asks for a stop of the program here. No job can stop one that is not its inferior, and no interrupt comes from a link. So an
+; inferior, the listener, waits at a link whose names are those of the console and HALT. What it does about a request is the word EACT, which is
+; executed, and which this job writes: a jump to an answer, or, as long as a program runs and its owner does not refuse, .BREAK. That stops the
+; listener and sets INF here, as if the program had stopped; so this job stops the program, and lets the listener go on and answer.
         JOB ITS HACTRN 0
 CH = 1                          ; a byte in hand; A comes after it, for LSHC
 A = 2
@@ -15,6 +20,9 @@ TTYI = 1                        ; channels
 TTYO = 2
 INF = 3                         ; the inferior
 FIL = 4                         ; a file
+EARC = 5                        ; the listener
+ASKR = 6                        ; HALT: the link of the answer, and that of the request
+ASKW = 7
 INFBIT = 200                    ; the interrupt of an inferior that stopped; Control-Z is bit 1 of the second word
 MOST = 100                      ; bytes of a line
         LOC 42
@@ -73,6 +81,8 @@ NAMES:  SIXBIT LOGIN
         SIXBIT EXAM
         SIXBIT DEP
         SIXBIT BREAK
+        SIXBIT HALT
+        SIXBIT REFUSE
         WORD 0
 DOES:   WORD 0,,LOGIN
         WORD 0,,LOGOUT
@@ -87,12 +97,18 @@ DOES:   WORD 0,,LOGIN
         WORD 0,,EXAM
         WORD 0,,DEP
         WORD 0,,BREAK
-; LOGIN NAME: the name is kept here, for no call sets the user name of a job, and in the file WHO;TTYn USER for others to find
+        WORD 0,,HALT
+        WORD 0,,REFUSE
+; LOGIN NAME: the name is kept here, for no call sets the user name of a job, and in the file WHO;TTYn USER for others to find. Before that there is a
+; listener, so one who finds the file is answered.
 LOGIN:  SKIPE ME
         JRST BUSY
         PUSHJ P,WORDIN
         JUMPE A,WHAT
-        MOVEM A,ME
+        PUSH P,A
+        PUSHJ P,EARUP
+        JRST NOEAR
+        POP P,ME
         .CALL WHOOUT
         JRST FAILED
         .IOT FIL,ME
@@ -103,12 +119,42 @@ LOGIN1: .CALL CLOSEF
         CAIN A,11               ; somebody reads the file just now
         JRST LOGIN1
         JRST FAILED
+NOEAR:  POP P,A
+        JRST FAILED
 BUSY:   MOVEI T,MBUSY
         JRST SAYLN
+; The listener, and a skip once it runs. It is made at the first LOGIN, and stays.
+EARUP:  SKIPE HASEAR
+        JRST CPOPJ1
+        .CALL EAROPN
+        POPJ P,
+        MOVE A,MYTTY
+        MOVEM A,ETTY
+        MOVE A,[444400,,EAR]
+        MOVEM A,EARFRM
+        MOVEI A,EAREND-EAR
+        MOVEM A,EARCNT
+        MOVEI V,EAR
+        .CALL EARPAG
+        JRST EARBAD
+        .CALL EARSEK
+        JRST EARBAD
+        .CALL EARPUT
+        JRST EARBAD
+        .CALL EARSPC
+        JRST EARBAD
+        .CALL EARRUN
+        JRST EARBAD
+        SETOM HASEAR
+        JRST CPOPJ1
+EARBAD: .CALL EARKIL
+        JFCL
+        POPJ P,
 LOGOUT: PUSHJ P,KILL            ; what runs here is gone
         SKIPN ME
         POPJ P,
         SETZM ME
+        SETZM REFUSD
 LOGOU1: .CALL WHODEL
         CAIA
         JRST LOGOU2
@@ -275,6 +321,12 @@ GOON:   .CALL CLEAR1            ; of one's own pending bits: they are from befor
         JRST FAILED
         .CALL RUNON
         JRST FAILED
+        MOVE A,EHALT            ; from here on others may ask for a stop
+        SKIPE REFUSD
+        MOVE A,EREF
+        MOVEM A,NEWACT
+        .CALL EARACT
+        JRST FAILED
         .CALL MASK1
         JRST FAILED
         .CALL MASK2
@@ -282,6 +334,7 @@ GOON:   .CALL CLEAR1            ; of one's own pending bits: they are from befor
         .CALL HANG
         .BREAK 16,
 HANDLE: MOVE P,[777700,,STACK-1]
+        PUSH P,[0,,PROMPT]      ; what fails here leads there
         .CALL UNMSK1            ; no interrupt comes while a command is read
         JRST FAILED
         .CALL UNMSK2
@@ -290,12 +343,24 @@ HANDLE: MOVE P,[777700,,STACK-1]
         JRST FAILED
         .CALL UNDEF2
         JRST FAILED
+        SKIPE ASKING
+        JRST ASKEND             ; Control-Z during a HALT
+        MOVE A,EIDLE            ; from here on the listener does not stop; it may be about to
+        MOVEM A,NEWACT
+        .CALL EARACT
+        JRST FAILED
+        .CALL EARPIR
+        JRST FAILED
+        ANDI V,1                ; BRK
+        MOVEM V,ASKED
         .CALL ISSTOP
         JRST GONE               ; it has logged out
         JUMPN V,STOPPD
-        .CALL STOPIT            ; Control-Z
-        JRST FAILED
-STOPPD: .CALL TAKE
+        .CALL STOPIT            ; Control-Z, or somebody asks
+        JRST GONE               ; it has logged out since
+STOPPD: MOVEI V,ESTOP
+        PUSHJ P,REPLY
+        .CALL TAKE
         JRST FAILED
         PUSHJ P,CRLF
         .CALL GETPIR
@@ -306,6 +371,17 @@ STOPPD: .CALL TAKE
         TRNE V,1
         MOVEI T,MBREAK
         MOVE C,V
+        PUSHJ P,SAY
+        TRNN C,77
+        SKIPN ASKED
+        JRST STOPAT
+        MOVEI T,MBY
+        PUSHJ P,SAY
+        MOVE CH,BY
+        ADDI CH,60
+        .IOT TTYO,CH
+        .IOT TTYO,[40]
+STOPAT: MOVEI T,MAT
         PUSHJ P,SAY
         .CALL GETPC
         JRST FAILED
@@ -318,7 +394,21 @@ STOPPD: .CALL TAKE
         PUSHJ P,OCT6
         JRST PROMPT
 GONE:   SETZM HAS
+        MOVEI V,ENONE
+        PUSHJ P,REPLY
         JRST PROMPT
+; The listener goes on at V, if it has stopped for a request; BY is who asks
+REPLY:  SKIPN ASKED
+        POPJ P,
+        .CALL EARBY
+        JRST FAILED
+        .CALL EARSPC
+        JRST FAILED
+        .CALL EARCLR
+        JRST FAILED
+        .CALL EARRUN
+        JRST FAILED
+        POPJ P,
 ; At the breakpoint: the word that was there is put back, and PC is at it again; so CONT goes on, and the breakpoint is gone
 UNBRK:  SUBI V,1
         .CALL SETPC
@@ -345,6 +435,84 @@ KILL:   SKIPN HAS
         .CALL UCLOS
         JRST FAILED
         POPJ P,
+; HALT N: asks the listener of console N. The reading end of the link of the answer is opened first: only one job can open it, so one asks at a time.
+; The request is in its link until it is answered, because its writing end stays open. One may leave by Control-Z.
+HALT:   MOVEI T,MLOGIN
+        SKIPN ME
+        JRST SAYLN
+        PUSHJ P,WORDIN
+        TDNE A,[7777,,777777]   ; one byte
+        JRST WHAT
+        LSH A,0-36
+        SUBI A,20               ; a digit in SIXBIT
+        JUMPL A,WHAT
+        CAILE A,7
+        JRST WHAT
+        LSH A,14
+        ADD A,TTY0
+        MOVEM A,ASKTTY
+        MOVEI T,MNOBDY
+        .CALL WHOIN
+        JRST SAYLN
+        .CALL CLOSEF
+        JRST FAILED
+        .CALL ASKOPR
+        JRST ASKBSY
+        .CALL ASKOPW
+        JRST ASKBS1
+        .CALL CLEAR2
+        JRST FAILED
+        SETOM ASKING
+        .CALL MASK2
+        JRST FAILED
+        MOVE A,[444400,,CONSOL]
+        MOVEM A,ASKFRM
+        MOVEI A,1
+        MOVEM A,ASKCNT
+        MOVNI V,1
+        .CALL ASKSND
+        CAIA                    ; the listener closes its end just now
+        .IOT ASKR,V
+        .CALL UNMSK2
+        JRST FAILED
+        PUSHJ P,ASKSHT
+        MOVEI T,MNOANS
+        CAIN V,0
+        MOVEI T,MNORUN
+        CAIN V,1
+        MOVEI T,MDONE
+        CAIN V,2
+        MOVEI T,MREFUS
+        JRST SAYLN
+ASKEND: PUSHJ P,ASKSHT
+        MOVEI T,MNOANS
+        JRST SAYLN
+ASKBS1: PUSHJ P,ASKSHT
+ASKBSY: MOVE A,ERR
+        CAIE A,24               ; somebody else asks there, or has just been answered
+        JRST FAILED
+        MOVEI T,MOTHER
+        JRST SAYLN
+ASKSHT: SETZM ASKING
+        .CALL ASKCLR
+        JFCL
+        .CALL ASKCLW
+        JFCL
+        POPJ P,
+; REFUSE ON, REFUSE OFF, REFUSE: whether such requests are refused
+REFUSE: PUSHJ P,WORDIN
+        JUMPE A,REFUS1
+        CAMN A,ON
+        JRST REFON
+        CAME A,OFF
+        JRST WHAT
+        SETZM REFUSD
+        JRST REFUS1
+REFON:  SETOM REFUSD
+REFUS1: MOVEI T,MREFOF
+        SKIPE REFUSD
+        MOVEI T,MREFON
+        JRST SAYLN
 ; EXAM PLACE [COUNT], DEP PLACE WORD, BREAK PLACE: a place is a number, a symbol of the program, or a sum
 EXAM:   SKIPN HAS
         JRST NONE
@@ -570,6 +738,12 @@ MHELP:  SIXBIT LOGIN
         SIXBIT BREAK
         SIXBIT PLACE,
         WORD 0
+        SIXBIT HALT
+        SIXBIT CONSOL
+        SIXBIT E,
+        SIXBIT REFUSE
+        SIXBIT [ON,
+        SIXBIT OFF],
         SIXBIT OR
         SIXBIT A
         SIXBIT PROGRA
@@ -612,13 +786,60 @@ MNONE:  SIXBIT NO
         WORD 777777777777
 MSTOP:  SIXBIT STOPPE
         SIXBIT D
-        SIXBIT AT
         WORD 777777777777
 MFAULT: SIXBIT FAULT
-        SIXBIT AT
         WORD 777777777777
 MBREAK: SIXBIT BREAK
-        SIXBIT AT
+        WORD 777777777777
+MBY:    SIXBIT BY
+        SIXBIT CONSOL
+        SIXBIT E
+        WORD 777777777777
+MAT:    SIXBIT AT
+        WORD 777777777777
+MNOBDY: SIXBIT NOBODY
+        WORD 0
+        SIXBIT IS
+        SIXBIT THERE.
+        WORD 777777777777
+MNORUN: SIXBIT NO
+        SIXBIT PROGRA
+        SIXBIT M
+        SIXBIT RUNS
+        SIXBIT THERE.
+        WORD 777777777777
+MDONE:  SIXBIT IT
+        SIXBIT IS
+        SIXBIT STOPPE
+        SIXBIT D.
+        WORD 777777777777
+MREFUS: SIXBIT REFUSE
+        SIXBIT D.
+        WORD 777777777777
+MNOANS: SIXBIT NO
+        SIXBIT ANSWER
+        SIXBIT .
+        WORD 777777777777
+MOTHER: SIXBIT SOMEBO
+        SIXBIT DY
+        SIXBIT ELSE
+        SIXBIT ASKS
+        SIXBIT THERE.
+        WORD 0
+        SIXBIT TRY
+        SIXBIT AGAIN.
+        WORD 777777777777
+MREFON: SIXBIT REQUES
+        SIXBIT TS
+        SIXBIT ARE
+        SIXBIT REFUSE
+        SIXBIT D.
+        WORD 777777777777
+MREFOF: SIXBIT REQUES
+        SIXBIT TS
+        SIXBIT ARE
+        SIXBIT OBEYED
+        SIXBIT .
         WORD 777777777777
 MERR:   SIXBIT ERROR
         WORD 777777777777
@@ -839,10 +1060,105 @@ UNDEF2: WORD 400000,,0
 HANG:   WORD 400000,,0
         SIXBIT HANG
         WORD 405000,,0
+EAROPN: WORD 400000,,0
+        SIXBIT OPEN
+        WORD 5000,,1
+        WORD 1000,,EARC
+        WORD 0,,USR
+        WORD 0,,MYTTY
+        WORD 0,,HALTN
+        WORD 403000,,ERR
+EARPAG: WORD 400000,,0
+        SIXBIT CORBLK
+        WORD 1000,,1
+        WORD 1000,,EARC
+        WORD 1000,,1
+        WORD 403000,,ERR
+EARSEK: WORD 400000,,0
+        SIXBIT ACCESS
+        WORD 1000,,EARC
+        WORD 1000,,EAR
+        WORD 403000,,ERR
+EARPUT: WORD 400000,,0
+        SIXBIT SIOT
+        WORD 1000,,EARC
+        WORD 0,,EARFRM
+        WORD 0,,EARCNT
+        WORD 403000,,ERR
+EARSPC: WORD 400000,,0
+        SIXBIT USRVAR
+        WORD 1000,,EARC
+        WORD 0,,UPC
+        WORD 0,,V
+        WORD 403000,,ERR
+EARRUN: WORD 400000,,0
+        SIXBIT USRVAR
+        WORD 1000,,EARC
+        WORD 0,,USTP
+        WORD 1000,,0
+        WORD 403000,,ERR
+EARPIR: WORD 400000,,0
+        SIXBIT USRVAR
+        WORD 1000,,EARC
+        WORD 0,,PIRQC
+        WORD 2000,,V
+        WORD 403000,,ERR
+EARCLR: WORD 400000,,0
+        SIXBIT USRVAR
+        WORD 1000,,EARC
+        WORD 0,,PIRQC
+        WORD 1000,,0
+        WORD 403000,,ERR
+EARACT: WORD 400000,,0
+        SIXBIT USRMEM
+        WORD 1000,,EARC
+        WORD 1000,,EACT
+        WORD 0,,NEWACT
+        WORD 403000,,ERR
+EARBY:  WORD 400000,,0
+        SIXBIT USRMEM
+        WORD 1000,,EARC
+        WORD 1000,,EASKER
+        WORD 2000,,BY
+        WORD 403000,,ERR
+EARKIL: WORD 400000,,0
+        SIXBIT UCLOSE
+        WORD 401000,,EARC
+ASKOPR: WORD 400000,,0
+        SIXBIT OPEN
+        WORD 1000,,ASKR
+        WORD 0,,LNK
+        WORD 0,,ASKTTY
+        WORD 0,,HALTED
+        WORD 403000,,ERR
+ASKOPW: WORD 400000,,0
+        SIXBIT OPEN
+        WORD 5000,,1
+        WORD 1000,,ASKW
+        WORD 0,,LNK
+        WORD 0,,ASKTTY
+        WORD 0,,HALTN
+        WORD 403000,,ERR
+ASKSND: WORD 400000,,0
+        SIXBIT SIOT
+        WORD 1000,,ASKW
+        WORD 0,,ASKFRM
+        WORD 400000,,ASKCNT
+ASKCLR: WORD 400000,,0
+        SIXBIT CLOSE
+        WORD 401000,,ASKR
+ASKCLW: WORD 400000,,0
+        SIXBIT CLOSE
+        WORD 401000,,ASKW
 ; Words
 TTY:    SIXBIT TTY
 DSK:    SIXBIT DSK
 USR:    SIXBIT USR
+LNK:    SIXBIT LNK
+HALTN:  SIXBIT HALT             ; links: TTYn HALT is for requests, TTYn HALTED for answers
+HALTED: SIXBIT HALTED
+ON:     SIXBIT ON
+OFF:    SIXBIT OFF
 CNSL:   SIXBIT CNSL
 UPC:    SIXBIT UPC
 USTP:   SIXBIT USTP
@@ -874,9 +1190,97 @@ STADDR: WORD 0
 BRKWRD: .BREAK 16,
 BRKPLC: WORD 0                  ; one past the breakpoint; 0 if there is none
 BRKOLD: WORD 0                  ; the word that was there
+HASEAR: WORD 0                  ; whether there is a listener
+REFUSD: WORD 0                  ; whether requests for a stop are refused
+ASKED:  WORD 0                  ; whether the listener has stopped for one
+BY:     WORD 0                  ; the console that asks
+ASKING: WORD 0                  ; whether an answer is waited for
+NEWACT: WORD 0                  ; a word for EACT
+EARFRM: WORD 0
+EARCNT: WORD 0
+ASKFRM: WORD 0
+ASKCNT: WORD 0
 FIRST:  WORD 0                  ; the first byte of a word of the line, and its place
 FIRSTI: WORD 0
 ERR:    WORD 0
 LINE:   LOC .+MOST+1
 STACK:  LOC .+100
-        GO START
+; The program of the listener, which has it at the same addresses, all in page 1
+EAR:    .CALL EOPEN             ; the reading end of the link of requests
+        JRST EPAUSE
+ETAKE:  .IOT 1,A
+        CAMN A,EOVER            ; the asker has closed its end
+        JRST ESHUT
+        JUMPL A,ETAKE           ; no console
+        CAILE A,7
+        JRST ETAKE
+        MOVEM A,EASKER
+        XCT EACT
+ESTOP:  MOVEI A,1
+        JRST EGIVE
+EREFUS: MOVEI A,2
+        JRST EGIVE
+ENONE:  MOVEI A,0
+EGIVE:  MOVEM A,EWORD           ; the answer; SIOT fails if nobody waits for it, and is no fault as .IOT would be
+        .CALL EOPENA
+        JRST ETAKE
+        MOVE A,EFROM0
+        MOVEM A,EFROM
+        MOVEI A,1
+        MOVEM A,ECOUNT
+        .CALL ESEND
+        JFCL
+        .CALL ECLOSA
+        JFCL
+        JRST ETAKE
+ESHUT:  .CALL ECLOSE            ; the link is gone, and the next request makes a new one
+        JFCL
+        JRST EAR
+EPAUSE: MOVEI A,36              ; there are as many links as there may be: a second later there may be one
+        MOVEM A,ETIME
+        .CALL ESLEEP
+        JFCL
+        JRST EAR
+EACT:   JRST ENONE
+EHALT:  .BREAK 16,              ; the three words for EACT
+EREF:   JRST EREFUS
+EIDLE:  JRST ENONE
+EOPEN:  WORD 400000,,0
+        SIXBIT OPEN
+        WORD 1000,,1
+        WORD 0,,ELNK
+        WORD 0,,ETTY
+        WORD 400000,,EHALTN
+EOPENA: WORD 400000,,0
+        SIXBIT OPEN
+        WORD 5000,,1
+        WORD 1000,,2
+        WORD 0,,ELNK
+        WORD 0,,ETTY
+        WORD 400000,,EHALTD
+ESEND:  WORD 400000,,0
+        SIXBIT SIOT
+        WORD 1000,,2
+        WORD 0,,EFROM
+        WORD 400000,,ECOUNT
+ECLOSA: WORD 400000,,0
+        SIXBIT CLOSE
+        WORD 401000,,2
+ECLOSE: WORD 400000,,0
+        SIXBIT CLOSE
+        WORD 401000,,1
+ESLEEP: WORD 400000,,0
+        SIXBIT SLEEP
+        WORD 400000,,ETIME
+EOVER:  WORD 777777,,3
+EFROM0: WORD 444400,,EWORD
+ELNK:   SIXBIT LNK
+EHALTN: SIXBIT HALT
+EHALTD: SIXBIT HALTED
+ETTY:   WORD 0                  ; TTY0 to TTY7
+EASKER: WORD 0                  ; the console that asks
+EWORD:  WORD 0
+EFROM:  WORD 0
+ECOUNT: WORD 0
+ETIME:  WORD 0
+EAREND: GO START

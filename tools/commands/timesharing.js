@@ -4,12 +4,12 @@ import {existsSync, readdirSync} from "node:fs";
 import path from "node:path";
 import process from "node:process";
 
-import {imageOf, systemLines} from "../lib/beginning.js";
+import {systemOf} from "../lib/beginning.js";
 import {Words, command, textOf, write} from "../lib/node/command.js";
 import {Living} from "../lib/node/living.js";
 import {TOP, program, run} from "../lib/node/program.js";
 import {Folder} from "../lib/node/folder.js";
-import {Service} from "../lib/node/service.js";
+import {MOST_LINES, Service} from "../lib/node/service.js";
 import {countOfKind} from "../lib/resuming.js";
 import {split} from "../lib/session.js";
 import {Over, withoutEnd} from "../lib/sitting.js";
@@ -49,18 +49,17 @@ const WORDS = new Words("timesharing", ABOUT, [
  * @param {string} folder */
 export function beginningOf(its, folder) {
   const name = path.join(folder, "start.its");
-  if (!existsSync(name)) return systemLines(programsIn(its, PROGRAMS));
+  if (!existsSync(name)) return systemOf(textsIn(PROGRAMS), (own, text) => assembled(its, own, text));
   const [text] = withoutEnd(textOf(name));
   if (!/^ *VERSION +0*2 *\n/.test(text)) throw new Wrong(name + ": its first line has to be VERSION 2, because jobs have turns by RUN");
   return text;
 }
 
-/** The images of the assembly texts of a folder, by their names.
- * @param {string} its
- * @param {string} folder */
-export function programsIn(its, folder) {
-  const names = readdirSync(folder).filter(name => name.endsWith(".asm"));
-  return new Map(names.map(name => [path.basename(name, ".asm").toUpperCase(), imageOf(assembled(its, name, textOf(path.join(folder, name))))]));
+/** The assembly texts of a folder, each with the name of its file.
+ * @param {string} folder
+ * @returns {[string, string][]} */
+export function textsIn(folder) {
+  return readdirSync(folder).filter(name => name.endsWith(".asm")).map(name => [name, textOf(path.join(folder, name))]);
 }
 
 /** Runs the session so far, again if it was run before: what it shows is kept in mind.
@@ -104,7 +103,10 @@ export function verified(its, folder) {
  * @param {string} line */
 export function operated(service, line) {
   const [verb, console] = line.trim().split(/ +/), at = Number(console);
-  if (verb === "who") return service.clients.map((client, one) => "console " + octal(one) + ": " + (client ? "somebody" : "nobody") + "\n").join("");
+  if (verb === "who") {
+    return service.clients.map((client, one) => "console " + octal(one) + ": " + (client ? "somebody" : "nobody") + "\n").join("") +
+           "the session has room for " + service.left + " more lines\n";
+  }
   if (verb === "stop" && /^[0-7]$/.test(console || "")) {
     service.interrupt(at);
     return "";
@@ -125,7 +127,7 @@ function attend(service) {
   service.over.then(() => process.stdin.destroy());
 }
 
-/** Serves the consoles until a signal comes: why it stopped.
+/** Serves the consoles until a signal comes, or the session is over.
  * @param {Service} service
  * @param {Record<string, *>} words */
 async function served(service, words) {
@@ -135,32 +137,46 @@ async function served(service, words) {
   write(ports.map((port, console) => "console " + octal(console) + ": telnet " + words.address + " " + port + "\n").join(""));
   if (!process.env.ITS_NO_INPUT) attend(service);
   await service.over;
-  return service.why;
+}
+
+/** What is said when the session of a folder is full.
+ * @param {Folder} folder */
+function fullText(folder) {
+  return folder.path + ": its session is full, and has ended; nothing is lost. Start tools/timesharing again: it puts the session away and begins a new system, " +
+         "without its files (docs/TIMESHARING.md, \"A full session\", says how to bring them there)";
 }
 
 /** Serves a folder, or verifies it.
- * @param {string[]} given */
-export async function main(given) {
+ * @param {string[]} given
+ * @param {number} [most] lines of a session */
+export async function main(given, most = MOST_LINES) {
   const words = WORDS.values(given), folder = new Folder(words.folder, words.check), its = program();
   if (words.rounds < 1) throw new Wrong("--rounds is 1 or more");
   if (words.verify) return reported(verified(its, folder));
   folder.take();
   const living = new Living(its, async () => { throw new Over("no copies are run"); }), system = new System(words.rounds);
+  let isFull = false;
   try {
     let text = folder.begun();
+    if (folder.away) write(folder.path + ": its session had ended, and is " + folder.away + " now; a new system begins, without its files\n");
     if (!text) folder.begin(text = beginningOf(its, words.folder));
     await rerun(system, living, folder, text);
     system.begin(Date.now());
-    const service = new Service(system, living, folder, Date.now), why = await served(service, words);
+    const service = new Service(system, living, folder, Date.now, most);
+    if (service.left) await served(service, words);
+    else service.fill();                 // it was killed before it could end its session
     service.close();
-    if (service.isFull) folder.add(["END"]);
+    isFull = service.isFull;
+    if (isFull) folder.add(["END"]);
     folder.told((await living.end())[0]);
-    if (why) throw new Wrong(why);
+    if (service.why && !isFull) throw new Wrong(service.why);
   } finally {
     living.child.stdin.end();
     folder.close();
   }
-  return words.check ? reported(verified(its, folder)) : 0;
+  const status = words.check ? reported(verified(its, folder)) : 0;
+  if (isFull) throw new Wrong(fullText(folder));
+  return status;
 }
 
 /** Says something, and gives the status.

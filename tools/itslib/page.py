@@ -24,14 +24,15 @@ ITEM = '<script type="application/json" id="%s">\n%s\n</script>'
 
 
 def examples() -> List[dict]:
-    """The sessions and the assembly texts of sessions/, those of the tour first."""
+    """The sessions and the assembly texts of sessions/, those of the tour first; and the programs of system/."""
     paths = [path for folder in ("", "exercises", "midas", "wrong") for kind in ("its", "asm", "mid")
              for path in sorted(glob.glob(os.path.join(TOP, "sessions", folder, "*." + kind)))]
     found = []
     for path in paths:
         with open(path, encoding="latin-1") as file:
             found.append({"name": os.path.relpath(path, os.path.join(TOP, "sessions")), "text": file.read()})
-    return sorted(found, key=lambda one: not one["name"].startswith("tour"))
+    programs = [{"name": "system/" + name, "text": text} for name, text in files_of(os.path.join(TOP, "system"), "asm")]
+    return sorted(found, key=lambda one: not one["name"].startswith("tour")) + programs
 
 
 def files_of(folder: str, ending: str) -> List[List[str]]:

@@ -37,6 +37,9 @@ JOB = "JOB U %s -\n LOC 100\nHERE: JRST HERE\n GO HERE\n"
 MIDAS = "TITLE HI\nLOC 100\nGO: MOVEI 1,5\n .BREAK 16,\nEND GO\n"
 LOOP = "LOAD U J -\n100/ 254000000100\nGO 100\n"
 START, SOLUTION = (os.path.join(TOP, "labs", "1-call", *path) for path in (("start.asm",), ("teacher", "solution.asm")))
+SCREENS = """byId('console-0-text').textContent.endsWith(%s) && byId('console-1-text').textContent.endsWith(%s)"""
+TALK = (("login joe", "\n*", "\n*"), ("login ann", "\n*", "\n*"), ("talk ann", "LEAVES. \n", "\n*"), ("talk joe", "LEAVES. \n", "LEAVES. \n"),
+        ("hello ann", "LEAVES. \nhello ann\n", "LEAVES. \nhello ann\n"), ("hello joe", "\nhello joe\n", "\nhello joe\n"))
 MISTAKES = "JOB U J -\n LOC 100\nHERE: MOVF 1,2\n JRST THERE\n GO HERE\n"
 
 
@@ -248,6 +251,36 @@ class Points:
         self.want("own work comes back", self.browser.value(
             "fields['verify-session'].text.endsWith('TICK 0 2\\n') && fields['verify-transcript'].text === 'J 0\\nT 0 2*\\n'"))
 
+    def consoles(self) -> None:
+        """Two people at consoles of one system log in and talk, and verify accepts the whole; when the page comes back, the system goes on."""
+        self.open()
+        self.do("choose('terminal'); byId('two-consoles').click()")
+        self.shows("two consoles", SCREENS % (json.dumps("\n*"), json.dumps("\n*")))
+        for at, (line, joe, ann) in enumerate(TALK):
+            self.do("byId('console-%d').focus()" % (at % 2))
+            for key in line:
+                self.browser.type(key)
+            self.browser.press("Enter")
+            self.shows(line, "!seats.running.rounds.isBusy && byId('console-%d-text').textContent.includes(%s) && " % (at % 2, json.dumps(line)) +
+                       SCREENS % (json.dumps(joe), json.dumps(ann)))
+        self.do(CLICK % "console-1-leave")
+        self.shows("that ann has left", "byId('console-0-text').textContent.includes('THE OTHER HAS LEFT')")
+        self.shows("that all jobs wait", "byId('consoles-said').textContent === 'All jobs wait.'")
+        for width, height in SIZES:
+            self.browser.shape(width, height)
+            top, other = self.browser.value("[0, 1].map(one => byId('console-' + one).getBoundingClientRect().top)")
+            self.want("the consoles side by side, or one above the other in %d columns: %s, %s" % (width, top, other), (top == other) == (width > 900))
+            self.want("the width of the consoles in %d columns" % width, self.browser.value("document.documentElement.scrollWidth") <= width)
+            self.want("fields that are too small on a phone", width > 560 or self.browser.value(SMALL) == "")
+        self.browser.shape(*SIZES[0])
+        self.do(CLICK % "consoles-verify")
+        self.shows("YES of verify", "byId('verdict').textContent.startsWith('YES: ')")
+        self.browser.value("new Promise(done => setTimeout(done, 1000))")
+        self.open(keeps=True)
+        self.do("choose('terminal')")
+        self.shows("the system that goes on", "byId('console-0-text').textContent.includes('THE OTHER HAS LEFT')")
+        self.do(CLICK % "one-console")
+
     def strip(self) -> None:
         """The session is disturbed after each tick: green cells, a click on one, a stop, and that old cells go."""
         self.open()
@@ -290,7 +323,7 @@ class Points:
     def check(self) -> None:
         """Checks all points."""
         self.first_view()
-        for act in (self.tour, self.kept, self.opened, self.texts, self.tasks, self.verified, self.strip, self.dead, self.rest):
+        for act in (self.tour, self.kept, self.opened, self.texts, self.tasks, self.verified, self.consoles, self.strip, self.dead, self.rest):
             self.browser.shape(*SIZES[0])
             act()
         self.browser.value("void localStorage.clear()")

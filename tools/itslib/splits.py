@@ -14,7 +14,7 @@ SAID = {WALK: "a session", EFFECT: "what a line does", KIND: "the kinds of line"
 VARIANTS = "Rattle.its_records.specs.declared.session.Event.TheVariants"
 TYPES = (
     ("Item", "Rattle.its_records.specs.Item", WALK),
-    ("Lined", "Rattle.its_plain.specs.OperatorLines", EFFECT),
+    ("Lined", "Rattle.its_plain.specs.Operator.Lines", EFFECT),
     ("Operated", "Rattle.its_plain.specs.Operator", EFFECT),
 )
 
@@ -22,14 +22,14 @@ TYPES = (
 PROMISED = {
     # the transcript, the course of its run, and the judge
     "its_plain/specs/Transcript.antt": {WALK: "Shows"},
-    "its_plain/specs/Course.antt": {WALK: "course", EFFECT: "past"},
+    "its_plain/specs/Transcript/Course.antt": {WALK: "course", EFFECT: "past"},
     "its_verify/specs/Rulings.antt": {WALK: "judged", EFFECT: "gone"},
     # what each line does, what it may touch, and how many turns it asks for
-    "its_plain/specs/OperatorLines.antt": {KIND: "operate lined"},
+    "its_plain/specs/Operator/Lines.antt": {KIND: "operate lined"},
     "its_security/specs/OperatorParts.antt": {KIND: "touched"},
-    "its_plain/specs/Turns.antt": {KIND: "turns_asked ticks_asked"},
+    "its_plain/specs/Transcript/Turns.antt": {KIND: "turns_asked ticks_asked"},
     # of one kind of line: the bytes of TYPE, the words of `/`
-    "its_plain/specs/Ledger.antt": {KIND: "typed_by"},
+    "its_plain/specs/Promise/Ledger.antt": {KIND: "typed_by"},
     "its_security/specs/RunIntegrity.antt": {KIND: "IsSpared"},
     # reading and writing a line
     "its_session/specs/Events.antt": {KIND: "place_after version_after item_then"},
@@ -42,14 +42,15 @@ OTHER = {
         KIND: "called_on unwound_for looks_at_files"},
     "its_top/specs/Checking.antt": {WALK: "checked_from"},
     # contracts of the code that performs a line
-    "its_direct/specs/Events.antt": {EFFECT: "Obeys", KIND: "IsTold MayStand Says"},
-    "its_verify/specs/Showing.antt": {KIND: "lines_of shown_ruling is_peek_event IsThere"},
+    "its_direct/specs/Events.antt": {EFFECT: "Obeys", KIND: "IsTold MayStand"},
     "its_verify/specs/Verifier.antt": {KIND: "RunsOutside"},
     # contracts of the loops that read a session: is it at its end
     "its_reader/specs/Items.antt": {KIND: "is_end"},
     "its_verify/specs/Going.antt": {KIND: "is_end"},
     "its_top/specs/Answer.antt": {KIND: "FindsStart"},
     "its_top/specs/Telling.antt": {KIND: "goes_on_after"},
+    # what may follow a session may follow the lines that its machine is saved in
+    "its_saved/specs/GoingOn.antt": {WALK: "ReadAt"},
     # what the numbers of a line may be, and the generated session
     "its_session/specs/Fits.antt": {KIND: "EventFits place_of Stands"},
     "its_session/specs/Generated.antt": {KIND: "IsGenerated"},

@@ -71,3 +71,11 @@ export function systemLines(programs) {
   const jobs = command ? Array.from({length: CONSOLES}, (_, console) => jobLines(command, "ITS" + console + " " + COMMAND, console)) : [];
   return joined(["VERSION 2", ...files.flat(), ...fileLines("SYS PROGS LIST", names.map(asSixbit)), ...jobs.flat()]);
 }
+
+/** The lines of a system of assembly texts, by the names of their files: HACTRN is made of hactrn.asm.
+ * @param {[string, string][]} texts
+ * @param {(name: string, text: string) => string} assembled the session that `asm` writes for a text
+ * @returns {string} */
+export function systemOf(texts, assembled) {
+  return systemLines(new Map(texts.map(([name, text]) => [name.replace(/^.*\/|\.asm$/g, "").toUpperCase(), imageOf(assembled(name, text))])));
+}

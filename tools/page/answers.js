@@ -1,6 +1,7 @@
 // The page: what its worker answers. The session that is stepped through is kept in the worker. The page has texts of any characters, and the
 // program has bytes: they are made from each other here alone.
 
+import {systemOf} from "../lib/beginning.js";
 import {decoded, encoded} from "../lib/bytes.js";
 import {MOST_MOMENTS, momentCount, momentsOfLine} from "../lib/counting.js";
 import {CLOSES, joined, linesOf, numbered, split} from "../lib/session.js";
@@ -165,6 +166,14 @@ export class Answers {
   /** Goes on with a session at a terminal.
    * @param {{text: string, lines: string[], console: string}} given */
   terminal({text, lines, console}) { return goOn(this.engine, encoded(text), lines, console, this.progress); }
+
+  /** The lines with which a system of assembly texts begins.
+   * @param {{texts: [string, string][]}} given */
+  system({texts}) { return {text: systemOf(texts, (_, text) => this.engine.answer("asm", text))}; }
+
+  /** A round of a system: what the session so far and these lines show, after so many characters of the transcript.
+   * @param {{text: string, lines: string[], told: number}} given */
+  round({text, lines, told}) { return {answers: split(this.engine.run(text + joined(lines)).transcript.slice(told))}; }
 }
 
 /** A worker: it answers one question after the other, and says what it is doing meanwhile.

@@ -19,7 +19,7 @@ export async function assembleText() {
   act.assembled();
   byId("take").disabled = true;
   byId("take").title = "The text is assembled first";
-  const files = Object.fromEntries(examples.map(one => [one.name.replace(/^.*\//, ""), one.text]));
+  const files = Object.fromEntries(examples.filter(one => !one.name.startsWith("system/")).map(one => [one.name.replace(/^.*\//, ""), one.text]));
   const made = text.trim() ? await program.ask("assemble", {name: names.source, text, files}, "Assembling the text") : null;
   if (asked === assembly.asked) showMade(made);
 }

@@ -1,6 +1,7 @@
 // The page as a whole: its tabs, its buttons, and how it begins.
 
 import {assembleText, setSource, showAgain, sourceChanged, takeImage, withImage} from "./assembly.js";
+import {seats, showSeats, wireSeats} from "./consoles.js";
 import {alertOf, byId, copy, on, saveFile, tried} from "./dom.js";
 import {changed, doing, runText, setSession, writing} from "./editor.js";
 import {fields} from "./field.js";
@@ -12,7 +13,7 @@ import {go, moments, next, pressed} from "./player.js";
 import {IDEA, act, exampleOf, examples, page, program} from "./state.js";
 import {disturbAll, goToCell} from "./strip.js";
 import {openTask, restoreTask, wireTasks} from "./tasks.js";
-import {beginTerminal, showTerminal, stopAndLook, terminal, wireTerminal} from "./terminal.js";
+import {beginTerminal, stopAndLook, terminal, wireTerminal} from "./terminal.js";
 import {endTour, showStep, wireTour} from "./tour.js";
 import {beginVerify, wireVerify} from "./verify.js";
 import {built} from "./worker.js";
@@ -29,7 +30,7 @@ function choose(name) {
     tab.setAttribute("aria-selected", isChosen);
     tab.tabIndex = isChosen ? 0 : -1;
   }
-  if (name === "terminal") showTerminal();
+  showSeats(name === "terminal");
   if (name === "verify") beginVerify();
   act.keep();
 }
@@ -121,6 +122,7 @@ async function begin() {
   wireVerify(examples.map(one => one.name).filter(name => name.endsWith(".its")));
   fillMenu("terminal-example", /\.its$/, "the one of the first tab");
   wireTerminal();
+  wireSeats();
   wireTour();
   wireDrops();
   showBuilt();
@@ -140,4 +142,4 @@ begin().catch(alertOf);
 
 // What a check of the page uses
 export const parts = {act, asked, assembleText, beginTerminal, byId, changed, choose, doing, exampleOf, fields, go, hashOf, moments, openTask, page,
-                      pictured, program, runText, setSession, setSource, stopAndLook, terminal, withImage, writing, BAR: 18, TITLE};
+                      pictured, program, runText, seats, setSession, setSource, stopAndLook, terminal, withImage, writing, BAR: 18, TITLE};

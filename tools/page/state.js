@@ -33,10 +33,11 @@ export const page = {
   looking: /** @type {Set<string>} */ (new Set()), watched: /** @type {string[]} */ ([]), isAsking: false};
 
 /** What parts of the page do on behalf of others: `go` to a moment, show it anew after a change (`update`), show a tab, note that there is
- * something to keep, that the reader is at another moment or session (`moved`), and that there is another text to be assembled (`assembled`). */
+ * something to keep, that the reader is at another moment or session (`moved`), and that there is another text to be assembled (`assembled`), and
+ * show one console in the Terminal tab (`single`). */
 export const act = {
   go: (/** @type {number} */ _moment) => {}, update: () => {}, choose: (/** @type {string} */ _tab) => {}, keep: () => {}, moved: () => {},
-  assembled: () => {}};
+  assembled: () => {}, single: () => {}};
 
 /** The first view: a moment of an example at which a job has a byte in its hand, and somebody looks at this job. */
 export const IDEA = {name: "tour-run.its", moment: 27, slot: "0"};

@@ -1,18 +1,20 @@
 // The page: the Terminal tab: the jobs run till all wait, and each key at a console becomes lines of the session, which is run anew from its
 // beginning.
 
+import {visible} from "../lib/keys.js";
 import {joined, kindOf, split, wordsIn} from "../lib/session.js";
-import {isPrinting, octal, value} from "../lib/words.js";
+import {INTERRUPT} from "../lib/telnet.js";
+import {octal, value} from "../lib/words.js";
 import {byId, on, tried} from "./dom.js";
 import {setSession} from "./editor.js";
 import {fields} from "./field.js";
 import {keepLater, keepMore, kept} from "./keeping.js";
+import {Screen} from "./screen.js";
 import {act, exampleOf, program} from "./state.js";
 
 /** @typedef {import("../lib/told.js").Told} Told */
 
 const SECOND = "36";                     // thirtieths, in octal
-const MOST_SCREEN = 20000;               // characters that the screen keeps
 const FIRST = "edit.its", PROMPT = "hello";      // what is run first, and what is typed there, so that one sees something
 const HINT = " Press Return: the job writes the line backwards. Control-Z stops it in its call.";
 const LOADING = ["LOAD", "a/", "RO", "SYM", "GO", "FILE", "/", "EOF", ""];      // lines that load jobs and files
@@ -43,7 +45,7 @@ export function beginTerminal() {
   terminal.isStale = terminal.isBusy;
   terminal.queue = [];
   terminal.hint = name === FIRST ? HINT : "";
-  byId("screen-text").textContent = "";
+  screen.put("");
   byId("terminal-look").hidden = true;
   typeLines(name === FIRST ? ["TYPE " + terminal.console + [...PROMPT].map(one => " " + octal(one.charCodeAt(0))).join("")] : []);
 }
@@ -55,7 +57,7 @@ function goOnAgain(was) {
   Object.assign(terminal, {text: was.text, console: was.console, slot: was.slot, begun: true});
   byId("terminal-example").value = was.example;
   byId("terminal-console").replaceChildren(new Option(was.console, was.console));
-  byId("screen-text").textContent = was.screen;
+  screen.put(was.screen);
   typeLines([]);
   return true;
 }
@@ -93,51 +95,19 @@ function typeLines(lines) {
  * @param {{bytes: number[], why: string, reason?: string, whole: string}} answer */
 function showGone({bytes, why, reason, whole}) {
   if (why !== "refused") terminal.text = whole;
-  print(bytes);
+  screen.show(visible(bytes));
   keepLater();
   byId("terminal-said").textContent = WHY[why] + (why === "refused" ? reason + "." : why === "waits" ? terminal.hint : "");
 }
 
-/** Shows bytes that the console put out. A carriage return goes to the next line, unless a line feed follows, which does.
- * @param {number[]} bytes */
-function print(bytes) {
-  const text = bytes.map(byte => byte === 0o12 ? "\n" : byte === 0o15 ? "" : byte === 0o177 ? "" :
-    isPrinting(byte) || byte === 9 ? String.fromCharCode(byte) : "^" + String.fromCharCode(byte + 64)).join("");
-  const isReturn = bytes.includes(0o15) && !bytes.includes(0o12);
-  byId("screen-text").textContent = (byId("screen-text").textContent + text + (isReturn ? "\n" : "")).slice(-MOST_SCREEN);
-  byId("screen").scrollTop = byId("screen").scrollHeight;
-}
-
-/** The byte that a key types, or null.
- * @param {KeyboardEvent} event */
-function byteOf(event) {
-  if (event.ctrlKey && /^[a-z@[\]\\^_]$/i.test(event.key)) return event.key.toUpperCase().charCodeAt(0) % 32;
-  if (event.ctrlKey || event.altKey || event.metaKey) return null;
-  if (event.key.length === 1 && event.key.charCodeAt(0) < 127) return event.key.charCodeAt(0);
-  const found = new Map([["Enter", 0o15], ["Backspace", 0o177], ["Escape", 0o33]]).get(event.key);
-  return found === undefined ? null : found;
-}
-
-/** Types a byte at the console.
+/** Types a byte at the console. Control-Z stops the job instead.
  * @param {number} byte */
-function typeByte(byte) { typeLines(["TYPE " + terminal.console + " " + octal(byte)]); }
-
-/** A key at the screen. Tab leaves it.
- * @param {KeyboardEvent} event */
-function screenKey(event) {
-  const isStop = event.ctrlKey && event.key.toLowerCase() === "z", byte = byteOf(event);
-  if (!isStop && (byte === null || !terminal.begun)) return;
-  event.preventDefault();
-  if (isStop) tried(stopAndLook);
-  else typeByte(byte || 0);
+function typeByte(byte) {
+  if (byte === INTERRUPT) tried(stopAndLook);
+  else if (terminal.begun) typeLines(["TYPE " + terminal.console + " " + octal(byte)]);
 }
 
-/** Keys of a field, for a reader who has no keyboard at the screen.
- * @param {*} event */
-function fieldKey(event) {
-  for (const one of event.target.value) if (one.charCodeAt(0) < 127) typeByte(one.charCodeAt(0));
-  event.target.value = "";
-}
+const screen = new Screen("screen", typeByte);
 
 /** Stops the job of the console, and shows what STATE and PEEK say of this job. Keys that are typed meanwhile follow. */
 export async function stopAndLook() {
@@ -172,7 +142,7 @@ function showLook(text, told, count) {
 /** Lets the tab act. */
 export function wireTerminal() {
   keepMore("terminal", () => terminal.begun ? {text: terminal.text, console: terminal.console, slot: terminal.slot,
-                                               example: byId("terminal-example").value, screen: byId("screen-text").textContent} : kept().terminal);
+                                               example: byId("terminal-example").value, screen: screen.text} : kept().terminal);
   on("terminal-example", "change", beginTerminal);
   on("terminal-begin", "click", beginTerminal);
   on("terminal-console", "change", ({target}) => { terminal.console = target.value; });
@@ -183,7 +153,4 @@ export function wireTerminal() {
     act.choose("session");
     setSession("terminal.its", terminal.text + "END\n");
   });
-  on("screen", "keydown", screenKey);
-  on("screen-keys", "input", fieldKey);
-  on("screen-keys", "keydown", event => { if (event.key === "Enter" || event.key === "Backspace") screenKey(event); });
 }

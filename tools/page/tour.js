@@ -48,6 +48,7 @@ export function showStep(step) {
     return;
   }
   act.choose(own.tab);
+  if (own.tab === "terminal") act.single();
   byId("tour-said").textContent = own.said;
   byId("tour-place").textContent = (step + 1) + " of " + STEPS.length;
   byId("tour-next").textContent = own.words;

@@ -82,6 +82,16 @@ async function putOwn(name, session) {
   put(name, session, decoded(output));
 }
 
+/** Judges a session with its transcript. They replace the texts of the tab.
+ * @param {string} name
+ * @param {string} session
+ * @param {string} transcript */
+export function judge(name, session, transcript) {
+  byId("verify-examples").value = byId("verify-about").textContent = "";
+  put(name, session, transcript);
+  tried(verify);
+}
+
 /** Takes an example: a session with the transcript of this program, or that of another monitor.
  * @param {string} name */
 function take(name) {

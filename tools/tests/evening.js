@@ -3,7 +3,7 @@
 import {readdirSync} from "node:fs";
 import path from "node:path";
 
-import {imageOf, systemLines} from "../lib/beginning.js";
+import {systemOf} from "../lib/beginning.js";
 import {typeLine} from "../lib/desk.js";
 import {visible} from "../lib/keys.js";
 import {split} from "../lib/session.js";
@@ -14,7 +14,7 @@ import {engine, textOf} from "./page.js";
 /** The lines of the system with all programs of system/. */
 export function system() {
   const names = readdirSync(path.join(TOP, "system")).filter(name => name.endsWith(".asm"));
-  return systemLines(new Map(names.map(name => [path.basename(name, ".asm").toUpperCase(), imageOf(engine.answer("asm", textOf("system/" + name)))])));
+  return systemOf(names.map(name => [name, textOf("system/" + name)]), (_, text) => engine.answer("asm", text));
 }
 
 /** What was seen at each step: the steps are a console and what is typed there, with \x1a for Control-Z, or lines of the session. */
@@ -28,7 +28,7 @@ export function evening(begin, steps) {
         lines.push(...(key === 0o32 ? ["INT " + octal(console) + " 0 1"] : [typeLine(console, [key])]), "RUN 60 100");
       }
     }
-    for (let at = 0; at < 6; at += 1) lines.push("RUN 200 100", ...[0, 1, 2].map(one => "DRAIN " + octal(one) + " 100"));
+    for (let at = 0; at < 8; at += 1) lines.push("RUN 200 100", ...[0, 1, 2].map(one => "DRAIN " + octal(one) + " 100"));
     lines.push("DIR _");
     marks.push(console);
   }

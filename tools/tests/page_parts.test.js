@@ -1,88 +1,20 @@
-// Parts of the page with a substitute for the document and for the worker: what is asked of the worker, the keys of the Terminal tab, and the window
-// of a long text.
+// Parts of the page with a substitute for the document and for the worker: what is asked of the worker, the keys of the Terminal tab, what a screen
+// shows, and the window of a long text.
 
 import assert from "node:assert";
-import {gzipSync} from "node:zlib";
 import {test} from "node:test";
 
+import {GIVEN, byId, posted, settle, workers} from "./page_substitute.js";
+
 const JOB = "LOAD U J 0\n100/ 254000000100\nGO 100\n";
-/** @type {Record<string, string>} */
-const GIVEN = {
-  module: JSON.stringify({bytes: gzipSync("module").toString("base64")}),
-  "task-texts": "[]",
-  "example-texts": JSON.stringify([{name: "old.its", text: "VERSION 002\n" + JOB + "TICK 0 1\nEND\n"}, {name: "edit.its", text: JOB}])};
-
-/** An element that keeps what is put into it, and calls those who listen. */
-class Fake {
-  /** @param {string} id */
-  constructor(id = "") {
-    /** @type {Record<string, ((event: any) => void)[]>} */
-    this.listening = {};
-    Object.assign(this, {id, value: "", textContent: GIVEN[id] || "", hidden: false, disabled: false, checked: false, title: "", scrollTop: 0,
-                         scrollHeight: 0, clientHeight: 400, clientWidth: 400, selectionStart: 0, selectionEnd: 0, style: {}, dataset: {}});
-  }
-
-  get classList() { return {toggle() {}, add() {}, remove() {}, contains() { return false; }}; }
-  get parentElement() { return new Fake(); }
-  /** @param {string} kind
-   * @param {(event: any) => void} act */
-  addEventListener(kind, act) { (this.listening[kind] = this.listening[kind] || []).push(act); }
-  /** @param {string} kind
-   * @param {object} event */
-  happens(kind, event) { for (const act of this.listening[kind] || []) act({target: this, preventDefault() {}, ...event}); }
-  /** @param {...any} options */
-  replaceChildren(...options) { if (options.length && options[0].value) /** @type {any} */ (this).value = options[0].value; }
-  /** @param {number} start
-   * @param {number} end */
-  setSelectionRange(start, end) { Object.assign(this, {selectionStart: start, selectionEnd: end}); }
-  append() {}
-  prepend() {}
-  before() {}
-  after() {}
-  remove() {}
-  focus() {}
-  setAttribute() {}
-  removeAttribute() {}
-  getAttribute() { return null; }
-  querySelector() { return new Fake(); }
-  querySelectorAll() { return []; }
-  dispatchEvent() { return true; }
-  closest() { return null; }
-}
-
-/** @type {Map<string, any>} */
-const elements = new Map();
-
-/** @param {string} id
- * @returns {any} */
-function byId(id) {
-  if (!elements.has(id)) elements.set(id, new Fake(id));
-  return elements.get(id);
-}
-
-/** The workers that are there, and what they have been asked.
- * @type {any[]} */
-const workers = [], posted = /** @type {any[]} */ ([]);
-const {setInterval: interval} = globalThis;
-Object.assign(globalThis, {
-  document: Object.assign(new Fake("document"), {getElementById: byId, createElement: () => new Fake(), createElementNS: () => new Fake(),
-                                                 body: new Fake(), documentElement: new Fake(), activeElement: null}),
-  window: Object.assign(new Fake("window"), {setTimeout, clearTimeout, location: {hash: ""}, matchMedia: () => new Fake()}),
-  setInterval: (/** @type {() => void} */ act, /** @type {number} */ time) => /** @type {any} */ (interval(act, time)).unref(),
-  ResizeObserver: class { observe() {} },
-  Worker: class {
-    constructor() { workers.push(this); }
-    /** @param {any} data */
-    postMessage(data) { posted.push(data); }
-    terminate() { workers.splice(workers.indexOf(this), 1); }
-  },
-  Option: class { constructor(/** @type {string} */ text, /** @type {string} */ value) { Object.assign(this, {text, value}); } }});
+GIVEN["example-texts"] = JSON.stringify([{name: "old.its", text: "VERSION 002\n" + JOB + "TICK 0 1\nEND\n"}, {name: "edit.its", text: JOB}]);
 
 const {program} = /** @type {any} */ (await import("../page/state.js"));
 const {Program} = /** @type {any} */ (await import("../page/worker.js"));
 const {Stopped} = /** @type {any} */ (await import("../page/dom.js"));
 const {Wrong} = await import("../lib/words.js");
 const {fields} = /** @type {any} */ (await import("../page/field.js"));
+const {Screen} = /** @type {any} */ (await import("../page/screen.js"));
 const {terminal, wireTerminal} = /** @type {any} */ (await import("../page/terminal.js"));
 
 wireTerminal();
@@ -92,9 +24,6 @@ wireTerminal();
 let asked = [];
 program.ask = (/** @type {string} */ what, /** @type {any} */ data) =>
   new Promise(answer => { asked.push({what, data, answer: value => answer(value || {bytes: [], why: "waits", whole: data.text + data.lines.join("\n") + "\n"})}); });
-
-/** Lets what waits go on. */
-function settle() { return new Promise(done => setTimeout(done, 1)); }
 
 /** A tab that is begun, in which nothing runs. */
 async function begun(name = "edit.its") {
@@ -208,3 +137,45 @@ for (const count of [0, 1, 999, 1000, 1001, 1999, 2000, 2001, 2500]) {
     }
   });
 }
+
+/** @type {[string, string[], string][]} */
+const SCREENS = [
+  ["lines", ["a\r\nb", "c\r", "\n"], "a\nbc\n"],
+  ["a return without a line feed, after which nothing is written over", ["ab\r", "c\rd\r\r\ne"], "ab\nc\nd\ne"],
+  ["a line feed before its return", ["a\n\rb"], "a\nb"],
+  ["rubouts", ["abc\b \b", "\b \bd"], "ad"],
+  ["a backspace alone", ["abc\b\b", "x"], "axc"],
+  ["backspaces at the left, and bells", ["\b\b\x07a\x07"], "a"],
+  ["blanks and tabs", ["a \tb  "], "a \tb  "]];
+
+for (const [what, texts, wanted] of SCREENS) {
+  test("A screen shows " + what, () => {
+    const screen = new Screen("fresh", () => {});
+    for (const text of texts) screen.show(text);
+    assert.strictEqual(byId("fresh-text").textContent, wanted);
+    const letters = new Screen("letters", () => {});
+    for (const letter of texts.join("")) letters.show(letter);
+    assert.strictEqual(letters.text, wanted);
+    letters.put("new");
+    assert.strictEqual(byId("letters-text").textContent, "new");
+  });
+}
+
+test("What only grows is added to the text of a screen: what is new alone is read out", () => {
+  const added = /** @type {string[]} */ ([]), place = byId("read-text"), node = {data: "", appendData(/** @type {string} */ text) { node.data += text; added.push(text); }};
+  Object.defineProperty(place, "textContent", {set(text) { node.data = text; }, get() { return node.data; }});
+  place.firstChild = node;
+  const screen = new Screen("read", () => {});
+  for (const text of ["*lo", "gx", "\b \b", "in\r\n"]) screen.show(text);
+  assert.deepStrictEqual([node.data, added], ["*login\n", ["*lo", "gx", "in\n"]]);
+});
+
+test("Keys of the field under a screen", () => {
+  const pressed = /** @type {number[]} */ ([]), field = byId("field-keys");
+  new Screen("field", (/** @type {number} */ byte) => pressed.push(byte));
+  field.value = "aé\x1a~";
+  field.happens("input", {});
+  field.happens("keydown", {key: "Enter"});
+  field.happens("keydown", {key: "b"});
+  assert.deepStrictEqual([pressed, field.value], [[0o141, 0o32, 0o176, 0o15], ""]);
+});

@@ -27,6 +27,7 @@ export function jobsOf(name, consoles) {
 export class Host {
   constructor(folder, ...words) {
     this.words = [folder, "--port", "0", ...words];
+    this.most = "-";                     // lines that a session may have; else as many as the program takes
     this.ports = [];
     this.said = "";
     this.written = "";
@@ -34,7 +35,7 @@ export class Host {
 
   /** Starts it, and waits until it serves. */
   async start() {
-    this.child = spawn(process.execPath, [path.join(TOOLS, "tests", "serving.js"), atHand(), ...this.words], {stdio: ["pipe", "pipe", "pipe"]});
+    this.child = spawn(process.execPath, [path.join(TOOLS, "tests", "serving.js"), atHand(), this.most, ...this.words], {stdio: ["pipe", "pipe", "pipe"]});
     this.ended = new Promise(resolve => this.child.on("close", status => resolve(status)));
     this.written = "";
     this.child.stderr.on("data", part => { this.said += part; });

@@ -1,4 +1,5 @@
-// For the tests of tools/timesharing: the host, with a program that was found before. The first word is the path of the program.
+// For the tests of tools/timesharing: the host, with a program that was found before. The first word is the path of the program, the second one is how
+// many lines a session may have, or -.
 
 import process from "node:process";
 
@@ -6,8 +7,9 @@ import {main} from "../commands/timesharing.js";
 import {say} from "../lib/node/command.js";
 import {useProgram} from "../lib/node/program.js";
 
-useProgram(process.argv[2]);
-main(process.argv.slice(3)).then(status => { process.exitCode = status; }, problem => {
+const [program, most, ...words] = process.argv.slice(2);
+useProgram(program);
+main(words, most === "-" ? undefined : Number(most)).then(status => { process.exitCode = status; }, problem => {
   say("timesharing: " + problem.message);
   process.exitCode = 1;
 });

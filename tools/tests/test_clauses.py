@@ -31,7 +31,7 @@ class Clauses(unittest.TestCase):
             (REAL.RESTARTABLE, "its_stepped/specs/Duty.antt", "its_stepped/specs/Dutie.antt", "crates/its_stepped/specs/Dutie.antt is not there"),
             (REAL.RESTARTABLE, "| 339 |", "| 340 |", "'a tick of SIOT to a console' is 340"),
             (REAL.PROVED, "| `its_top/specs/Outcomes.antt` |", "| `its_top/specs/Outcome.antt` |", "crates/its_top/specs/Outcome.antt is not there"),
-            (REAL.PROVED, "`its_plain/specs/LinkLedger`", "`its_plain/specs/Linkledgers`", "crates/its_plain/specs/Linkledgers is not there"),
+            (REAL.PROVED, "`its_plain/specs/Promise/LinkLedger`", "`its_plain/specs/Promise/Linkledgers`", "crates/its_plain/specs/Promise/Linkledgers is not there"),
             (REAL.MACHINE, "| `page_made` |", "| `page_set` |", "'page_set' is no constructor of crates/its_security/specs/Integrity.antt"),
             (REAL.MACHINE, "| `page_made` |", "| page_made |", "'page_made' of crates/its_security/specs/Integrity.antt has no row"),
             (REAL.MACHINE, "| `symbols_same` |", "| `symbols_none` |", "'symbols_same' of crates/its_security/specs/Integrity.antt has no row"),

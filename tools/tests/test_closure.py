@@ -57,8 +57,8 @@ class Checks(unittest.TestCase):
         self.refused(top, clause, clause + " " * 140, "its has a line of ")
 
     def test_splits(self):
-        fair, highest = os.path.join("crates", "its_plain", "specs", "Fair.antt"), "abbrev pub highest : ℕ"
-        turns = os.path.join("crates", "its_plain", "specs", "Turns.antt")
+        fair, highest = os.path.join("crates", "its_plain", "specs", "Promise", "Fair.antt"), "abbrev pub highest : ℕ"
+        turns = os.path.join("crates", "its_plain", "specs", "Transcript", "Turns.antt")
         lines = os.path.join("crates", "its_stepped", "specs", "Lines.antt")
         checking = os.path.join("crates", "its_top", "specs", "Checking.antt")
         no_place = ": more distinguishes %s, and is no place for that (tools/itslib/splits.py)"
@@ -87,7 +87,7 @@ class Checks(unittest.TestCase):
 
     def test_tables(self):
         found, inside = REAL.all_splits(), {part.name for part in self.parts}
-        course = os.path.join("crates", "its_plain", "specs", "Course.antt")
+        course = os.path.join("crates", "its_plain", "specs", "Transcript", "Course.antt")
         wrong = list(REAL.wrong_splits(found, inside - {course}))
         self.assertEqual(wrong, ["%s: tools/itslib/splits.py has it in the wrong table" % course])
 

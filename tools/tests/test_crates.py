@@ -9,7 +9,7 @@ from unittest import mock
 
 from shared import called, loaded
 
-from itslib import crates
+from itslib import crates, lines
 from itslib.house import Drawing, picture, rows_of
 
 REAL = loaded("crates")
@@ -27,8 +27,8 @@ its_core: its_plain its_word
 # Processor: units
 pdp_exec: its_core its_plain its_word
 # Monitor: small steps
-its_calls: its_core its_word
-its_tick: its_calls pdp_exec its_word
+its_in_call: its_core its_word
+its_tick: its_in_call pdp_exec its_word
 # Second machine: whole steps
 its_direct: pdp_exec its_io its_word
 # Program: all
@@ -52,14 +52,14 @@ class Lists(unittest.TestCase):
 
     def test_uses(self):
         house = crates.house_of(LISTED)
-        self.assertEqual([crate.name for crate in house.of("Monitor")], ["its_calls", "its_tick"])
+        self.assertEqual([crate.name for crate in house.of("Monitor")], ["its_in_call", "its_tick"])
         self.assertEqual(house.named("its_web").uses, ["its_top", "its_word"])
-        self.assertEqual(house.below("its_calls"), {"its_core", "its_plain", "its_robin", "its_word"})
+        self.assertEqual(house.below("its_in_call"), {"its_core", "its_plain", "its_robin", "its_word"})
         self.assertEqual(house.about["Stores"], "tables")
 
     def test_reduced(self):
         arrows = crates.house_of(LISTED).arrows()
-        self.assertEqual(arrows["its_tick"], ["its_calls", "pdp_exec"])
+        self.assertEqual(arrows["its_tick"], ["its_in_call", "pdp_exec"])
         self.assertEqual(arrows["its_top"], ["its_tick", "its_direct"])
 
     def test_order(self):
@@ -68,7 +68,7 @@ class Lists(unittest.TestCase):
                                ("# Text: lines\n", "", "the sections have to be Words and records, Text, "),
                                ("# Words and records: words\n", "", "its_word is in no section"),
                                ("test_exec:", "tests:", "tests: crates of tests, and no others, are in the section Tests"),
-                               ("its_calls:", "test_calls:", "test_calls: crates of tests, and no others, ")):
+                               ("its_in_call:", "test_calls:", "test_calls: crates of tests, and no others, ")):
             self.assertTrue(any(one.startswith(said) for one in crates.wrong_order(changed(old, new))), said)
 
 
@@ -105,7 +105,7 @@ class Pictures(unittest.TestCase):
         rows = rows_of(house)
         for crate in house.crates:
             self.assertTrue(all(rows[one] < rows[crate.name] for one in crate.uses))
-        self.assertEqual(rows["its_direct"], rows["its_calls"])
+        self.assertEqual(rows["its_direct"], rows["its_in_call"])
 
     def test_sides(self):
         drawing = Drawing(crates.house_of(LISTED))
@@ -122,6 +122,39 @@ class Pictures(unittest.TestCase):
         self.assertEqual(text, picture(crates.house_of(LISTED)))
         names = [one.text for one in xml.fromstring(text).iter() if one.get("class") == "box"]
         self.assertEqual(sorted(names), sorted(re.findall(r"(?m)^(\w+)(?: staticlib)?:", LISTED)))
+
+
+class Lines(unittest.TestCase):
+    """The lines of the crates' files."""
+
+    def wrong(self, line, proof=False):
+        """What is wrong with a line, up to the numbers."""
+        return re.split(r" has | begins", lines.wrong_line(line, proof))[0]
+
+    def test_lines(self):
+        for line, proof, what in (
+                ("    /// " + "x" * 92, False, ""), ("    /// " + "x" * 93, False, "a comment"), ("-- " + "é" * 97, True, ""),
+                ("-- " + "x" * 98, True, "a comment"), ("    // The same of a word.", False, "a comment"), ("let the = 1; // The same", False, ""),
+                ("    " + "x" * 160, True, ""), ("    " + "x" * 161, True, "a line of proof"), ("x" * 161, False, ""),
+                ("use A.{" + "x" * 200 + "}", True, ""), ("pub ruleset a = (" + "x" * 200 + ")", True, ""),
+                ("    #[tactic(auto, using(%s))]" % ("x" * 200), False, ""), ("    #[tactic(auto, using(%s))]" % ("x" * 201), False, "a list of laws"),
+                ("#[tactic(using(a(b), c), unfolding(%s))]" % ("x" * 300), False, "")):
+            with self.subTest(line=line):
+                self.assertEqual(self.wrong(line, proof), what)
+
+    def test_longest_list(self):
+        self.assertEqual([lines.longest_list(line) for line in ("", "using()", "using(a(b), c)) using(d)", "using(a")], [0, 0, 7, 0])
+
+    def test_files(self):
+        with tempfile.TemporaryDirectory() as top:
+            for name, text in (("src/a.rt", "use b;\n"), ("src/in/b.rt", "//! What.\n// The same.\n"), ("proofs/C.antt", "x" * 161 + "\n"),
+                               ("specs/D.antt", "x" * 161 + "\n"), ("out/e.rt", "use b;\n")):
+                path = os.path.join(top, "crates", "its_a", name)
+                os.makedirs(os.path.dirname(path), exist_ok=True)
+                with open(path, "w", encoding="utf-8") as file:
+                    file.write(text)
+            self.assertEqual([what.split(": ")[0] for what in lines.wrong_lines(top)],
+                             ["crates/its_a/src/a.rt", "crates/its_a/src/in/b.rt:2", "crates/its_a/proofs/C.antt:1"])
 
 
 class Calls(unittest.TestCase):

@@ -19,6 +19,9 @@ class Pages(unittest.TestCase):
         text = page.stored()
         self.assertTrue(page.module_in(text).startswith(b"\0asm"))
         self.assertIn(page.as_json(page.examples()), text)
+        programs = [one for one in page.examples() if one["name"].startswith("system/")]
+        self.assertEqual({one["name"] for one in programs}, {"system/%s.asm" % name for name in ("calc", "edit", "hactrn", "mail", "talk")})
+        self.assertEqual(programs[0]["text"], text_of(programs[0]["name"]))
         self.assertEqual({one["name"][:-4] for one in page.examples() if one["name"].endswith(".its")}, {name[len("sessions/"):] for name in examples()})
         self.assertRaises(Wrong, page.item, "<html>", "module")
 

@@ -16,7 +16,8 @@ MONITOR = "//! One.\nuse its_word::Word;\n\n/// Adds.\nfn sum(n: u8) -> u8\n    
 CHECKER = "ghost use Rattle.x.{y};\nuse its_core::Core;\n\nimpl Plain {\n/// Adds as well.\n#[tactic(auto)]\nfn sum(n: u8) -> u8\n    ensures { result\n      ≡ n }\n{\n\n" + BODY + "}\n}\n"
 RECORD = "-- only one is another\npub record One (old new : X) : Type 0 where\n" + "".join("  pub %s : new.%s ≡ old.%s\n" % (3 * (x,)) for x in "abcde")
 TABLE = "\n\nWords.\n\n| What | One | Other | Why |\n|---|---|---|---|\n%s\n"
-PAGE = "# Decisions\n\n%s" + TABLE + REAL.BODIES + TABLE % "" + "### More\n\n| a | b | c | d |\n"
+CHANCE = REAL.CONSTANTS + "\n\n| Which | Why |\n|---|---|\n"
+PAGE = "# Decisions\n\n%s" + TABLE + REAL.BODIES + TABLE % "" + CHANCE + "\n### More\n\n| a | b | c | d |\n"
 ROW = "| `sum` | `crates/its_world/src/a.rt` | `crates/its_direct/src/b.rt` | It has to be. |\n"
 ALIKE = "crates/its_world/src/a.rt:5 sum and crates/its_direct/src/b.rt:7 sum: 100 of 100 words are the same"
 SAID = "crates/its_world/src/a.rt:5-12 and crates/its_direct/src/b.rt:7-16 have 6 lines in common (sum)"
@@ -112,10 +113,10 @@ class Reasons(unittest.TestCase):
 class Calls(unittest.TestCase):
     """The tool on a repository."""
 
-    def told(self, rows, monitor=MONITOR, *words, bodies=ROW):
-        """What the tool says of a repository with these rows, this text of the monitor, and these rows of bodies."""
-        page = (PAGE % (REAL.HEADING, rows)).replace(REAL.BODIES + TABLE % "", REAL.BODIES + TABLE % bodies)
-        files = {"crates/its_world/src/a.rt": monitor, "crates/its_world/src/a/tests.rt": CHECKER, "crates/its_direct/src/b.rt": CHECKER,
+    def told(self, rows, monitor=MONITOR, *words, bodies=ROW, checker=CHECKER, chance=""):
+        """What the tool says of a repository with these rows, these texts of both machines, and these rows of bodies and of constants."""
+        page = (PAGE % (REAL.HEADING, rows)).replace(REAL.BODIES + TABLE % "", REAL.BODIES + TABLE % bodies).replace(CHANCE, CHANCE + chance)
+        files = {"crates/its_world/src/a.rt": monitor, "crates/its_world/src/a/tests.rt": CHECKER, "crates/its_direct/src/b.rt": checker,
                  "crates/its_direct/src/b.antt": MONITOR, "docs/DECISIONS.md": page}
         with tempfile.TemporaryDirectory() as top, mock.patch.object(REAL, "TOP", top):
             for name, text in files.items():
@@ -145,6 +146,23 @@ class Calls(unittest.TestCase):
         text = "const A: u32 = 0o1000;\npub const B: u8 =\n    3;\n"
         self.assertEqual(self.told(ROW, MONITOR + text, "--constants"), (0, "", ""))
         self.assertEqual(self.told(ROW, MONITOR + text + "const E: usize = 0o1000;\n", "--constants"), (0, "", ""))
+        self.assertEqual(self.told(ROW, MONITOR + text, "--constants", checker=CHECKER + "const C: u8 = 3;\n"), (0, "", ""))
+
+    def test_constants_in_two_files(self):
+        one, alike = "const A: u32 = 0o1000;\n", "crates/its_direct/src/b.rt %s; crates/its_world/src/a.rt A = 0o1000"
+        by_value, by_name = CHECKER + "const C: usize = 0o1_000;\n", CHECKER + "const A: u32 = 7;\n"
+        self.assertEqual(self.told(ROW, MONITOR + one, "--constants", checker=by_value), (1, alike % "C = 0o1000" + "\n", ""))
+        self.assertEqual(self.told(ROW, MONITOR + one, "--constants", checker=by_name), (1, alike % "A = 7" + "\n", ""))
+        row = "| `its_world::A`, `its_direct::C` | a size, and a mask |\n"
+        self.assertEqual(self.told(ROW, MONITOR + one, "--constants", checker=by_value, chance=row), (0, "", ""))
+        self.assertEqual(self.told(ROW, MONITOR + one, "--constants", "--all", checker=by_value, chance=row),
+                         (0, alike % "C = 0o1000" + ": by chance\n", ""))
+        stale = "docs/DECISIONS.md: 'its_direct::C, its_world::A' are not alike in several files\n"
+        self.assertEqual(self.told(ROW, MONITOR + one, "--constants", chance=row), (1, stale, ""))
+        self.assertIn("is no row of which and why", self.told(ROW, MONITOR + one, "--constants", chance="| `its_world::A` | |\n").said)
+
+    def test_constants_of_the_repository(self):
+        self.assertEqual(called(REAL, "--constants"), (0, "", ""))
 
     def test_a_reason_for_nothing(self):
         said = "docs/DECISIONS.md: 'sum' is not the same in crates/its_world/src/a.rt and crates/its_direct/src/b.rt\n"

@@ -43,6 +43,7 @@ export class Folder {
     this.owner = path.join(folder, "host.pid");
     this.isChecked = isChecked;
     this.lines = 0;                      // of the session
+    this.away = "";                      // the name of the session that was put away
     this.file = this.out = -1;
   }
 
@@ -74,6 +75,7 @@ export class Folder {
   putAway() {
     let at = 1;
     while (existsSync(path.join(this.path, "session-" + at + ".its"))) at += 1;
+    this.away = "session-" + at + ".its";
     for (const [name, ending] of [[this.session, ".its"], [this.transcript, ".out"]]) {
       if (existsSync(name)) attempted(name, () => renameSync(name, path.join(this.path, "session-" + at + ending)));
     }

@@ -3,10 +3,11 @@
 
 import {createServer} from "node:net";
 
+import {Rounds} from "../rounds.js";
 import {Over} from "../sitting.js";
 import {CONSOLES} from "../system.js";
 import {INTERRUPT, OPENING, Telnet} from "../telnet.js";
-import {octal} from "../words.js";
+import {Wrong, octal} from "../words.js";
 
 /** @typedef {import("../system.js").System} System */
 /** @typedef {import("./folder.js").Folder} Folder */
@@ -14,12 +15,13 @@ import {octal} from "../words.js";
 /** @typedef {import("node:net").Socket} Socket */
 /** @typedef {import("node:net").Server} Server */
 
-const MOST_LINES = 0o4000000;            // of a session (docs/SESSION.md, "The program")
-const ENOUGH_LINES = MOST_LINES - 1000;  // a session with more is ended
+export const MOST_LINES = 0o4000000;     // of a session (docs/SESSION.md, "The program")
+const LAST_LINES = 1000;                 // a session with no more room than this is ended: the lines of two rounds, at most
+const WARNINGS = [4, 16, 64];            // people are told when a fourth of the lines is left, when a sixteenth is, and so on
+const FULL = "its session is full, and is kept. Started again, it is a new system, to which its operator can bring your files";
 const MOST_KEYS = 4096;                  // a terminal with so many keys that are not typed yet is not read
 const MOST_OUTPUT = 4096;                // a terminal that has not read so many bytes gets no more output
 const MOST_WAITING = 65536;              // and one that is to be answered so much all the same is cut off
-const LONGEST_MS = 2 ** 31 - 1;          // that a timer can wait
 const LAST_MS = 2000;                    // a terminal has so long to read the last text
 const ALIVE_MS = 60000;                  // after so long without a word the system asks whether a terminal is still there
 
@@ -67,6 +69,10 @@ class Client {
     if (this.socket.writableLength > MOST_OUTPUT) this.service.flow(this, false);
   }
 
+  /** Tells something that is no part of the session.
+   * @param {string} text */
+  tell(text) { this.show("\r\n[" + text + "]\r\n"); }
+
   /** Reads on, or does not, by how many keys wait.
    * @param {number} waiting */
   pace(waiting) {
@@ -82,19 +88,20 @@ export class Service {
   /** @param {System} system
    * @param {Living} living
    * @param {Folder} folder
-   * @param {() => number} now milliseconds */
-  constructor(system, living, folder, now) {
+   * @param {() => number} now milliseconds
+   * @param {number} most lines of the session */
+  constructor(system, living, folder, now, most = MOST_LINES) {
     this.system = system;
     this.living = living;
     this.folder = folder;
-    this.now = now;
+    this.most = most;
+    this.warned = this.passed;
     /** @type {(Client | null)[]} */
     this.clients = Array.from({length: CONSOLES}, () => null);
     /** @type {Server[]} */
     this.servers = [];
-    /** @type {ReturnType<typeof setTimeout> | undefined} */
-    this.timer = undefined;
-    this.isBusy = this.isStopping = this.isFull = false;
+    this.rounds = new Rounds(system, this, now);
+    this.isStopping = this.isFull = false;
     this.why = "";                       // it stopped
     /** @type {() => void} */
     this.whenOver = () => {};
@@ -133,7 +140,8 @@ export class Service {
     const client = this.clients[console] = new Client(this, console, socket);
     socket.on("close", () => client.leave());
     client.show(this.system.arrive(console));
-    this.wake();
+    if (this.warned) client.tell(this.warning);
+    this.rounds.wake();
   }
 
   /** Keys came from a terminal.
@@ -143,14 +151,14 @@ export class Service {
     if (this.clients[client.console] !== client) return;
     this.system.press(client.console, keys);
     client.pace(this.system.desks[client.console].keys.length);
-    this.wake();
+    this.rounds.wake();
   }
 
   /** The operator presses Control-Z at a console.
    * @param {number} console */
   interrupt(console) {
     this.system.press(console, [INTERRUPT]);
-    this.wake();
+    this.rounds.wake();
   }
 
   /** A terminal takes output again, or does not.
@@ -159,63 +167,70 @@ export class Service {
   flow(client, takes) {
     if (this.clients[client.console] !== client) return;
     this.system.flow(client.console, takes);
-    if (takes) this.wake();
+    if (takes) this.rounds.wake();
   }
 
   /** Says something to all who sit at a console. It is no part of the session.
    * @param {string} text */
-  say(text) { for (const client of this.clients) if (client) client.show("\r\n[" + text + "]\r\n"); }
+  say(text) { for (const client of this.clients) client?.tell(text); }
 
-  /** Goes on with rounds, if it does not already. */
-  wake() {
-    if (this.isBusy || this.isStopping) return;
-    clearTimeout(this.timer);
-    const due = this.system.due(this.now());
-    if (due > 0) {
-      if (due !== Infinity) this.timer = setTimeout(() => this.wake(), Math.min(due, LONGEST_MS));
-      return;
-    }
-    this.isBusy = true;
-    this.rounds().catch(problem => this.stop(problem instanceof Over ? problem.message : String(problem.stack))).finally(() => {
-      this.isBusy = false;
-      if (this.isStopping) this.whenOver();
-      else this.wake();
-    });
+  /** How many lines there is room for, until the session is ended. */
+  get left() { return Math.max(0, this.most - LAST_LINES - this.folder.lines); }
+
+  /** How many of the warnings are due by now. */
+  get passed() { return WARNINGS.filter(part => this.left <= this.most / part).length; }
+
+  /** What people are told before the session is full. */
+  get warning() {
+    return "The session of this system is nearly full: " + this.left + " lines are left, and a key takes about six. Write what you edit: once it is " +
+           "full the system stops, and files alone can be brought to the next one";
   }
 
-  /** Rounds, until none is due. */
-  async rounds() {
-    while (!this.isStopping && this.system.due(this.now()) === 0) {
-      await this.round();
-      if (this.folder.lines > ENOUGH_LINES) this.fill();
-    }
+  /** Adds lines to the session: they are on the disk before anything of them is shown.
+   * @param {string[]} lines */
+  keep(lines) {
+    this.folder.add(lines);
+    return this.folder.kept();
   }
+
+  /** Tells people how many lines are left, if it is time. */
+  warn() {
+    const {passed} = this;
+    if (passed > this.warned) this.say(this.warning);
+    this.warned = passed;
+  }
+
+  /** Gives lines to the program.
+   * @param {string[]} lines */
+  write(lines) { this.living.write(lines); }
+
+  /** The next line that it answers. */
+  read() { return this.living.read(); }
+
+  /** Takes the answers of a round.
+   * @param {string[]} answers */
+  told(answers) { this.folder.told(answers); }
+
+  /** Shows output of a console.
+   * @param {number} console
+   * @param {string} text */
+  show(console, text) { this.clients[console]?.show(text); }
+
+  /** A round is over. */
+  done() {
+    for (const client of this.clients) client?.pace(this.system.desks[client.console].keys.length);
+    if (this.left === 0) this.fill();
+    else this.warn();
+  }
+
+  /** There are no more rounds.
+   * @param {*} problem */
+  failed(problem) { this.stop(problem instanceof Over || problem instanceof Wrong ? problem.message : String(problem.stack)); }
 
   /** The session has as many lines as it may have. */
   fill() {
     this.isFull = true;
-    this.stop("its session is full, and is put away at the next start");
-  }
-
-  /** One round: its lines are kept, answered and on the disk before anything is shown. */
-  async round() {
-    const lines = this.system.lines(this.now()), answers = [], shown = [];
-    this.folder.add(lines);
-    const kept = this.folder.kept();
-    kept.catch(() => {});                // it is waited for below
-    this.living.write(lines);
-    for (let isLast = false; !isLast;) {
-      const answer = await this.living.read();
-      answers.push(answer);
-      if (answer.startsWith("?")) throw new Over("the session is over: " + answer);
-      const one = this.system.took(answer);
-      if (one.text) shown.push(one);
-      isLast = one.isLast;
-    }
-    this.folder.told(answers);
-    await kept;
-    for (const {console, text} of shown) this.clients[console]?.show(text);
-    for (const client of this.clients) client?.pace(this.system.desks[client.console].keys.length);
+    this.stop(FULL);
   }
 
   /** Stops after the round that goes on: nobody is served any more.
@@ -224,10 +239,10 @@ export class Service {
     if (this.isStopping) return;
     this.isStopping = true;
     this.why = why;
-    clearTimeout(this.timer);
+    this.rounds.hold();
     this.say("The system stops" + (why ? ": " + why : "") + ".");
     for (const server of this.servers) server.close();
-    if (!this.isBusy) this.whenOver();
+    this.rounds.going.then(() => this.whenOver());
   }
 
   /** Closes all that is open. */
