@@ -90,6 +90,20 @@ impl Console {
         self.output.pop_front()
     }
 
+    /// The k-th of the typed bytes that wait, from 0; None past the last.
+    pub fn input_at(&self, k: u32) -> Option<u8>
+        ensures { result ≡ slice_get self.now.input k }
+    {
+        self.input.get(k as usize).copied()
+    }
+
+    /// The k-th of the bytes that were put out and wait, from 0; None past the last.
+    pub fn output_at(&self, k: u32) -> Option<u8>
+        ensures { result ≡ slice_get self.now.output k }
+    {
+        self.output.get(k as usize).copied()
+    }
+
     /// How many typed bytes wait, and how many that were put out.
     pub fn waiting(&self) -> (u32, u32)
         ensures input { result.0 ≡ length self.now.input }

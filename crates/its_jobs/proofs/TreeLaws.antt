@@ -1,15 +1,16 @@
--- The tree of jobs at the beginning, after a job is made, and after a job is removed with all below
--- it.
-use Rattle.std.specs.Prelude.{if◌then◌else◌, ◌≡◌, ◌≢◌, ◌<◌, ◌==◌, ◌≤◌, ℕ, Bool, true, false, Option, Some, None, IfSome, List, length, slice_index_or, slice_set, is_some, is_none, refl}
-use Rattle.std.proofs.Common.{sym, ◌∙◌, ap, arith, inl, inr, length-set, eq-eqb}
+-- The tree of jobs at the beginning, after a job is made or gets a superior, and after a job is
+-- removed with all below it.
+use Rattle.std.specs.Prelude.{if◌then◌else◌, ◌≡◌, ◌≢◌, ◌<◌, ◌==◌, ◌||◌, ◌≤◌, ℕ, Bool, true, false, Option, Some, None, IfSome, List, length, slice_index_or, slice_set, is_some, is_none, refl}
+use Rattle.std.proofs.Common.{sym, ◌∙◌, ap, subst, arith, inl, inr, length-set, eq-eqb}
 use Rattle.std.proofs.lemmas.Bool.{cases_Bool, cases_eq, cases_lt, ne_eqb}
 use Rattle.std.proofs.lemmas.List.{get_or-set_same, get_or-set_other, get_or_past}
 use Rattle.its_word.specs.Limits.{slots}
 use Rattle.its_records.specs.Tree.{climbs_to, is_below}
 use Rattle.its_records.specs.declared.jobs.Job.{Job}
 use Rattle.its_records.proofs.TreeLaws.{climb_end, below_none}
-use Rattle.its_jobs.specs.Table.{IsTree, Without, superior_in, in_tree}
-use Rattle.its_records.proofs.ClimbLaws.{circle_cut, never, unpassed, below_through}
+use Rattle.its_jobs.specs.Table.{IsTree, Table, Without, superior_at, superior_in, in_tree}
+use Rattle.its_records.proofs.CircleLaws.{no_new_circle}
+use Rattle.its_records.proofs.ClimbLaws.{at_or_below, circle_cut, never, unpassed, below_through}
 
 -- no slot has a job
 pub no_tree : (jobs : List (Option Job)) (superiors : List (Option ℕ)) → length jobs ≡ slots → length superiors ≡ slots
@@ -90,6 +91,77 @@ module _ (jobs : List (Option Job)) (superiors : List (Option ℕ)) (s : ℕ) (j
               (slice_index_or superiors k None) other none (none k) ∙ t.circle k)
         ];
       }
+
+-- a slot that has a job is one of the table
+slot_of : (jobs : List (Option Job)) (i : ℕ) → length jobs ≡ slots → is_some (slice_index_or jobs i None) ≡ true → i < slots
+slot_of jobs i n h = elim (cases_lt i slots) [
+  | inl l ↦ l
+  | inr l ↦ absurd (let none : slice_index_or jobs i None ≡ None = get_or_past jobs i None (omega arith) in let wrong :
+      true ≡ false = sym h ∙ ap is_some none in cc)
+]
+
+-- a job without superior is made in a slot that was empty
+pub placed : (jobs : List (Option Job)) (superiors : List (Option ℕ)) (s : ℕ) (j : Job) → IsTree jobs superiors → s < slots
+    → slice_index_or jobs s None ≡ None → IsTree (slice_set jobs s (Some j)) superiors
+placed jobs superiors s j t in_range free =
+    let within : s < length jobs = (let n = t.job_count in omega arith) in
+    record {
+      job_count = length-set jobs s (Some j) ∙ t.job_count;
+      superior_count = t.superior_count;
+      below = t.below;
+      standing = λ k. stays_by jobs superiors s j None t in_range free tt (slice_index_or superiors k None) (t.standing k);
+      owned = λ k f. elim (cases_eq k s) [
+        | inl e ↦ absurd (let full : slice_index_or (slice_set jobs s (Some j)) s None ≡ Some j = get_or-set_same jobs s (Some j) None within in
+            let empty : slice_index_or (slice_set jobs s (Some j)) s None ≡ None =
+            ap (λ i. slice_index_or (slice_set jobs s (Some j)) i None) (sym e) ∙ f in cc)
+        | inr ne ↦ t.owned k (sym (get_or-set_other jobs s k (Some j) None ne) ∙ f)
+      ];
+      circle = t.circle;
+    }
+
+-- a job that has no superior gets one that is neither the job itself nor below it
+superior_set : (superiors : List (Option ℕ)) (s i k : ℕ) → s < length superiors
+    → slice_index_or (slice_set superiors s (Some i)) k None ≡ (if k == s then Some i else slice_index_or superiors k None)
+superior_set superiors s i k h = elim (cases_eq k s) [
+  | inl e ↦ rw (eq-eqb k s e, e) (get_or-set_same superiors s (Some i) None h)
+  | inr ne ↦ rw (ne_eqb k s ne) (get_or-set_other superiors s k (Some i) None ne)
+]
+
+pub given : (jobs : List (Option Job)) (superiors : List (Option ℕ)) (s i : ℕ) → IsTree jobs superiors → s < slots
+    → is_some (slice_index_or jobs s None) ≡ true → is_some (slice_index_or jobs i None) ≡ true → slice_index_or superiors s None ≡ None
+    → climbs_to (superior_in superiors) s slots (Some i) ≡ false → IsTree jobs (slice_set superiors s (Some i))
+given jobs superiors s i t in_range job standing none apart =
+    let within : s < length superiors = (let n = t.superior_count in omega arith) in
+    let here : slice_index_or (slice_set superiors s (Some i)) s None ≡ Some i = get_or-set_same superiors s (Some i) None within in
+    let other : (k : ℕ) → k ≢ s → slice_index_or (slice_set superiors s (Some i)) k None ≡ slice_index_or superiors k None =
+    λ k ne. get_or-set_other superiors s k (Some i) None ne in
+    let same : superior_in (slice_set superiors s (Some i)) ≡ (λ k. if k == s then Some i else superior_in superiors k) =
+    λ x. λ k. superior_set superiors s i k within x in
+    record {
+      job_count = t.job_count;
+      superior_count = length-set superiors s (Some i) ∙ t.superior_count;
+      below = λ k. elim (cases_eq k s) [ inl e ↦ rw (e, here) (slot_of jobs i t.job_count standing) | inr ne ↦ rw (other k ne) (t.below k) ];
+      standing = λ k. elim (cases_eq k s) [ inl e ↦ rw (e, here) standing | inr ne ↦ rw (other k ne) (t.standing k) ];
+      owned = λ k f. elim (cases_eq k s) [
+        | inl e ↦ absurd (let empty : slice_index_or jobs s None ≡ None = ap (λ x. slice_index_or jobs x None) (sym e) ∙ f in
+            let wrong : true ≡ false = sym job ∙ ap is_some empty in cc)
+        | inr ne ↦ other k ne ∙ t.owned k f
+      ];
+      circle = subst (λ (f : ℕ → Option ℕ). (k : ℕ) → climbs_to f k slots (f k) ≡ false) (sym same)
+          (no_new_circle (superior_in superiors) s i none apart t.circle);
+    }
+
+-- a job is that of slot s, or below it, exactly if that slot is reached from it
+pub reached_same : (t : Table) (s k n : ℕ) → IsTree t.jobs t.superiors → n < slots → n ≡ k → (k == s) ≡ true
+    → climbs_to (superior_at t) s slots (Some k) ≡ true
+reached_same t s k n tree l e same =
+    sym (at_or_below (superior_at t) s k tree.below (omega arith)) ∙ ap (λ b. b || is_below (superior_at t) s k) same
+
+pub reached_other : (t : Table) (b : Bool) (s k m n : ℕ) → IsTree t.jobs t.superiors → n < slots → n ≡ k → m ≡ s → (k == s) ≡ false
+    → b ≡ is_below (superior_at t) m n → b ≡ climbs_to (superior_at t) s slots (Some k)
+reached_other t b s k m n tree l e f other is =
+    is ∙ ap (λ x. is_below (superior_at t) x n) f ∙ ap (is_below (superior_at t) s) e
+    ∙ sym (ap (λ x. x || is_below (superior_at t) s k) other) ∙ at_or_below (superior_at t) s k tree.below (omega arith)
 
 -- the slots of a tree are emptied
 some_of : {X : Type 0} (b : Bool) (o : Option X) → b ≡ false → is_some o ≡ true → is_some (if b then None else o) ≡ true

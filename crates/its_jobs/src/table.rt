@@ -7,7 +7,7 @@ ghost use Rattle.its_records.specs.contracts.jobs.Job.{the_row as job_row};
 ghost use Rattle.its_jobs.specs.contracts.table.Jobs.{the_row};
 ghost use Rattle.its_word.specs.Limits.{slots, limit_of};
 ghost use Rattle.its_word.specs.Only.{Only};
-ghost use Rattle.its_records.specs.Tree.{least_free, no_job, fresh_job, is_below, slots_below};
+ghost use Rattle.its_records.specs.Tree.{climbs_to, least_free, no_job, fresh_job, is_below, slots_below};
 ghost use Rattle.its_jobs.specs.Table.{job_at, superior_at, superior_in, in_tree, IsTree, Without, NoJobs};
 
 use its_records::{Channel, Job};
@@ -106,6 +106,43 @@ impl Jobs {
         self.jobs[place] = Some(fresh_job(uname, jname, console));
         self.superiors[place] = superior;
         Ok(slot)
+    }
+
+    /// Makes a job in an empty slot below the limit: stopped, with closed channels and no superior,
+    /// its other registers 0.
+    pub fn create_at(&mut self, slot: Slot, uname: Word, jname: Word, console: Option<u8>)
+        requires empty { job_at self.old slot ≡ None }
+        requires below { slot < self.old.limit }
+        ensures job { Only (job_at self.old) (job_at self.new) slot (Some (fresh_job uname jname console)) }
+        ensures superiors { self.new.superiors ≡ self.old.superiors }
+        ensures limit { self.new.limit ≡ self.old.limit }
+    {
+        let place = slot.index();
+        self.jobs[place] = Some(fresh_job(uname, jname, console));
+    }
+
+    /// Gives a job that has no superior one, which is neither the job itself nor below it.
+    pub fn set_superior(&mut self, slot: Slot, superior: Slot)
+        requires job { is_some (job_at self.old slot) ≡ true }
+        requires standing { is_some (job_at self.old superior) ≡ true }
+        requires none { superior_at self.old slot ≡ None }
+        requires apart { climbs_to (superior_at self.old) slot slots (Some superior) ≡ false }
+        ensures superior { Only (superior_at self.old) (superior_at self.new) slot (Some superior) }
+        ensures jobs { self.new.jobs ≡ self.old.jobs }
+        ensures limit { self.new.limit ≡ self.old.limit }
+    {
+        let place = slot.index();
+        self.superiors[place] = Some(superior);
+    }
+
+    /// Whether the job of a slot is that of another, or is above it.
+    #[tactic(auto, using(crate::proofs::TreeLaws::reached_same, crate::proofs::TreeLaws::reached_other))]
+    pub fn is_at_or_above(&self, slot: Slot, other: Slot) -> bool
+        ensures { result ≡ climbs_to (superior_at self.now) slot slots (Some other) }
+    {
+        self.tree();
+        let number = other.number();
+        other == slot || self.is_below(slot.number(), number)
     }
 
     /// The job of a slot; None if it is empty.

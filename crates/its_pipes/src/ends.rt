@@ -1,6 +1,6 @@
 //! Links and their ends, without their words.
-ghost use Rattle.std.specs.Prelude.{◌≡◌, ◌==◌, ◌||◌};
-ghost use Rattle.its_records.specs.Links.{end_left, is_alive, is_closed, is_link_named, is_open, link_left, new_link, with_end};
+ghost use Rattle.std.specs.Prelude.{◌≡◌, ◌==◌, ◌||◌, ◌&&◌};
+ghost use Rattle.its_records.specs.Links.{end_left, is_alive, is_closed, is_link_named, is_open, is_unopened, link_end, link_left, new_link, with_end};
 ghost use Rattle.its_jobs.specs.Table.{in_tree, superior_at};
 
 use its_jobs::Jobs;
@@ -41,6 +41,27 @@ pub(crate) fn with_end(link: Link, write: bool, end: End) -> Link
             ..link
         }
     }
+}
+
+/// The writing end of a link, or its reading end.
+pub(crate) fn end_of(link: Link, write: bool) -> End
+    ensures { result ≡ link_end write link }
+{
+    if write { link.writer } else { link.reader }
+}
+
+/// Whether nobody has opened an end.
+pub(crate) fn is_unopened(end: End) -> bool
+    ensures { result ≡ is_unopened end }
+{
+    matches!(end, End::Unopened)
+}
+
+/// Whether a link has two names, and nobody has opened one of its ends.
+pub(crate) fn is_joinable(link: &Link, write: bool, x: Word, y: Word) -> bool
+    ensures { result ≡ (is_link_named x y link.now && is_unopened (link_end write link.now)) }
+{
+    is_named(*link, x, y) && is_unopened(end_of(*link, write))
 }
 
 /// Whether an end is open.

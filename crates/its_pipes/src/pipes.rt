@@ -6,9 +6,12 @@ ghost use Rattle.its_records.specs.Tree.{least_free};
 ghost use Rattle.its_jobs.specs.Table.{in_tree, superior_at};
 ghost use Rattle.its_plain.specs.Call.Link.{has_link_names, is_crowded, is_dry, is_end_closed, is_ended, is_unread, link_named, words_in};
 ghost use Rattle.its_plain.specs.Machine.Change.{after_end_close, ends_after_removal, if_alive, link_or_new, with_end_opened, with_received, with_sent};
+ghost use Rattle.its_plain.specs.Operator.State.{can_join, has_unopened, with_end_closed};
 ghost use Rattle.its_pipes.specs.Pipes.{link_in, no_queue, piped, queue_at};
 
-use super::ends::{is_alive, is_closed, is_named, link_left, new_link, with_end};
+use super::ends::{
+    end_of, is_alive, is_closed, is_joinable, is_named, is_unopened, link_left, new_link, with_end,
+};
 use circular_buffer::HeapCircularBuffer;
 use its_jobs::Jobs;
 use its_records::{End, LINK_WORDS, LINKS, Link};
@@ -172,6 +175,45 @@ impl Pipes {
         if let Some(link) = self.link(l) {
             self.put_alive(l, with_end(link, write, End::Closed));
         }
+    }
+
+    /// Closes an end of a link that nobody has opened. The link stays, as its other end does.
+    pub fn shut_end(&mut self, l: u8, write: bool)
+        requires number { l < most_links }
+        requires unopened { has_unopened write (piped self.old l) ≡ true }
+        ensures { Only (piped self.old) (piped self.new) l (option_map (with_end_closed write) (piped self.old l)) }
+    {
+        if let Some(link) = self.link(l) {
+            self.put_link(l, with_end(link, write, End::Closed));
+        }
+    }
+
+    /// Whether a number has a link, and nobody has opened this end.
+    pub fn has_unopened(&self, l: u8, write: bool) -> bool
+        ensures { result ≡ has_unopened write (piped self.now l) }
+    {
+        match self.link(l) {
+            Some(link) => is_unopened(end_of(link, write)),
+            None => false,
+        }
+    }
+
+    /// Whether an end of a link can be opened at this number: there is no link, or one of these
+    /// names whose end nobody has opened.
+    pub fn can_join(&self, l: u8, write: bool, x: Word, y: Word) -> bool
+        ensures { result ≡ can_join x y write (piped self.now l) }
+    {
+        match self.link(l) {
+            Some(link) => is_joinable(&link, write, x, y),
+            None => true,
+        }
+    }
+
+    /// The k-th of the words in a link, from 0; None past the last.
+    pub fn word_at(&self, l: u8, k: u32) -> Option<Word>
+        ensures { result ≡ slice_get (words_in (piped self.now l)) k }
+    {
+        self.queues.get(usize::from(l))?.get(k as usize).copied()
     }
 
     /// Writes the link of a number, if one of its ends is open; else the number has no link any

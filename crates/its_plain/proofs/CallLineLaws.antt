@@ -425,7 +425,7 @@ word_files_if m n w false = refl
 
 word_files_to : (m : Machine) (n : Names) (w : ℕ) (o : Option File) → FilesAlone m (with_word_added_to m n w o)
 word_files_to m n w (Some f) = word_files_if m n w (is_full m.files (channels_of m) f.words)
-word_files_to m n w None = refl
+word_files_to m n w None = tt
 
 pub word_files : (m : Machine) (n : Names) (w : ℕ) → FilesAlone m (with_word_added m n w)
 unfolding with_word_added

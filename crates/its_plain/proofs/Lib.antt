@@ -4,6 +4,7 @@ pub mod DeliveryLaws
 pub mod CallLineLaws
 pub mod SizeLaws
 pub mod TracedLaws
+pub mod ProvidedLaws
 pub mod RunLaws
 pub mod StepLaws
 pub mod TranscriptExamples

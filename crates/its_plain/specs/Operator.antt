@@ -6,6 +6,7 @@ pub mod Jobs
 pub mod Consoles
 pub mod Files
 pub mod Clock
+pub mod State
 pub mod Lines
 use Rattle.std.specs.Prelude.{◌==◌, ℕ, Bool, false, List, [], Result, Ok, Err}
 use Rattle.its_print.specs.Printing.{Line}

@@ -31,9 +31,9 @@
 //! leaves of that. Who may touch what is in its_security. Each constant is the number of its
 //! definition (`NumberLaws`).
 //!
-//! If a word is added to a file that is gone, nothing is added, and the line is not refused. This
-//! cannot occur in a session, because between FILE and EOF no line takes a file away; so the
-//! definition needs no premise on the block.
+//! A word of a file that is gone is refused (NOFILE). Between FILE and EOF this cannot occur,
+//! because no line there takes a file away; so the definition needs no premise on the block. In the
+//! state part there is no file before the first FILE.
 //!
 //! Tests: test_calls.
 #![tactic(auto)]

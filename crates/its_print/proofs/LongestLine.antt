@@ -97,6 +97,7 @@ length-reason reasons.ReadOnly = omega arith
 length-reason reasons.NoFile = omega arith
 length-reason reasons.Exists = omega arith
 length-reason reasons.Full = omega arith
+length-reason reasons.Unfit = omega arith
 length-reason reasons.Cut = omega arith
 
 -- the words after the first

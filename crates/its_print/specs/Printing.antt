@@ -99,6 +99,7 @@ reason_name reasons.ReadOnly = codes "READONLY"
 reason_name reasons.NoFile = codes "NOFILE"
 reason_name reasons.Exists = codes "EXISTS"
 reason_name reasons.Full = codes "FULL"
+reason_name reasons.Unfit = codes "UNFIT"
 reason_name reasons.Cut = codes "CUT"
 
 -- the fields of a job after its slot: names, superior, console, RUN or STOP, PC word, pending

@@ -54,6 +54,7 @@ pub fn reason_word(reason: Reason) -> &'static [u8]
         Reason::NoFile => b"NOFILE",
         Reason::Exists => b"EXISTS",
         Reason::Full => b"FULL",
+        Reason::Unfit => b"UNFIT",
         Reason::Cut => b"CUT",
     }
 }

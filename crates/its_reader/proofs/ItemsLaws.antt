@@ -147,6 +147,8 @@ end_found_of places.Plain old mid read e d a = (
   over_at mid.ended (λ more. items_ahead true old (read ++ more) ≡ []) d
       (ap (items_ahead true old) (append-nil read) ∙ ap (items_from true (old.lines.number + 1) old.place old.version) a ∙ ap (end_of true) (sym e)),
 )
+end_found_of places.System old mid read e d a = over_at mid.ended (λ more. items_ahead true old (read ++ more) ≡ Unread reasons.Cut ∷ []) d
+    (ap (items_ahead true old) (append-nil read) ∙ ap (items_from true (old.lines.number + 1) old.place old.version) a ∙ ap (end_of true) (sym e))
 end_found_of places.Load old mid read e d a = over_at mid.ended (λ more. items_ahead true old (read ++ more) ≡ Unread reasons.Cut ∷ []) d
     (ap (items_ahead true old) (append-nil read) ∙ ap (items_from true (old.lines.number + 1) old.place old.version) a ∙ ap (end_of true) (sym e))
 end_found_of places.File old mid read e d a = over_at mid.ended (λ more. items_ahead true old (read ++ more) ≡ Unread reasons.Cut ∷ []) d
@@ -155,6 +157,7 @@ end_found_of places.File old mid read e d a = over_at mid.ended (λ more. items_
 end_line : (place : Place) (old mid : Lines) (read : List ℕ) → LineOf (Ok (end_found place)) old mid read
 end_line places.First old mid read = tt
 end_line places.Plain old mid read = tt
+end_line places.System old mid read = tt
 end_line places.Load old mid read = tt
 end_line places.File old mid read = tt
 

@@ -38,6 +38,7 @@ version_found v _ = v
 abbrev pub end_found : Place → Found
 end_found places.First = End
 end_found places.Plain = End
+end_found places.System = Bad reasons.Cut
 end_found places.Load = Bad reasons.Cut
 end_found places.File = Bad reasons.Cut
 

@@ -99,13 +99,15 @@ impl Items {
     }
 }
 
-/// What the end of the input means at a place: inside a block it is refused as CUT.
+/// What the end of the input means at a place: in the state part and inside a block it is refused
+/// as CUT.
 fn at_end(place: Place) -> Found
     ensures { result ≡ end_found place }
 {
     match place {
         Place::First => Found::End,
         Place::Plain => Found::End,
+        Place::System => Found::Bad(Reason::Cut),
         Place::Load => Found::Bad(Reason::Cut),
         Place::File => Found::Bad(Reason::Cut),
     }

@@ -1,11 +1,11 @@
 -- Climbing from a job to its superior, and so on: what a removal leaves, and that as many steps as
 -- there are slots are enough.
-use Rattle.std.specs.Prelude.{if◌then◌else◌, ◌≡◌, ◌≢◌, ◌≤◌, ◌<◌, ◌+◌, ◌==◌, ◌||◌, ◌&&◌, not, ℕ, zero, suc, Bool, true, false, Option, Some, None, IfSome, refl}
+use Rattle.std.specs.Prelude.{if◌then◌else◌, ◌≡◌, ◌≢◌, ◌≤◌, ◌<◌, ◌+◌, ◌-◌, ◌==◌, ◌||◌, ◌&&◌, not, ℕ, zero, suc, Bool, true, false, Option, Some, None, IfSome, refl}
 use Rattle.std.proofs.Common.{sym, ◌∙◌, ap, subst, arith, inl, inr, eq-eqb}
 use Rattle.std.proofs.lemmas.Bool.{cases_Bool, cases_eq, ne_eqb}
 use Rattle.its_word.specs.Limits.{slots}
 use Rattle.its_records.specs.Tree.{climbs_to, is_below}
-use Rattle.its_records.proofs.TreeLaws.{climb_end}
+use Rattle.its_records.proofs.TreeLaws.{climb_end, climb_turn}
 
 pub or_none : (a b : Bool) → (a || b) ≡ false → (a ≡ false) × (b ≡ false)
 or_none true b h = cc
@@ -203,3 +203,30 @@ below_through sup r k i few ne e h =
           let up : climbs_to sup r slots (sup i) ≡ true = climbs_of sup r i (or_second (i == r) (is_below sup r i) h (ne_eqb i r other)) in
           below_of sup r k i ne e (enough sup r slots i few within (omega arith) (next_step sup r slots i other up))
     ]
+
+-- a job is that of slot r, or below it, exactly if r is reached from it
+same_truth : (a b : Bool) → (a ≡ true → b ≡ true) → (b ≡ true → a ≡ true) → a ≡ b
+same_truth true b f g = sym (f refl)
+same_truth false true f g = g refl
+same_truth false false f g = refl
+
+below_if : (sup : ℕ → Option ℕ) (r k : ℕ) → k ≢ r → climbs_to sup r slots (sup k) ≡ true → is_below sup r k ≡ true
+unfolding is_below
+below_if sup r k ne h = rw (ne_eqb k r ne) h
+
+reached_through : (sup : ℕ → Option ℕ) (r k : ℕ) → k ≢ r → climbs_to sup r slots (Some k) ≡ true → climbs_to sup r slots (sup k) ≡ true
+reached_through sup r k ne h =
+    let step : climbs_to sup r (slots - 0) (Some k) ≡ ((k == r) || climbs_to sup r (slots - (0 + 1)) (sup k)) = climb_turn sup r slots 0 k (omega arith) in
+    let rest : climbs_to sup r (slots - (0 + 1)) (sup k) ≡ true =
+    or_second (k == r) (climbs_to sup r (slots - (0 + 1)) (sup k)) (sym step ∙ h) (ne_eqb k r ne) in
+    let e : suc (slots - (0 + 1)) ≡ slots = omega arith in
+    subst (λ n. climbs_to sup r n (sup k) ≡ true) e (more sup r (slots - (0 + 1)) (sup k) rest)
+
+pub at_or_below : (sup : ℕ → Option ℕ) (r k : ℕ) → ((j : ℕ) → IfSome (sup j) (λ s. s < slots)) → k < slots
+    → ((k == r) || is_below sup r k) ≡ climbs_to sup r slots (Some k)
+at_or_below sup r k few within = elim (cases_eq k r) [
+  | inl e ↦ rw (eq-eqb k r e) (sym (first_step sup r slots k (omega arith) e))
+  | inr ne ↦ rw (ne_eqb k r ne) (same_truth (is_below sup r k) (climbs_to sup r slots (Some k))
+      (λ h. enough sup r slots k few within (omega arith) (next_step sup r slots k ne (climbs_of sup r k h)))
+      (λ h. below_if sup r k ne (reached_through sup r k ne h)))
+]

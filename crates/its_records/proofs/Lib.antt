@@ -1,4 +1,5 @@
 pub mod TreeLaws
 pub mod ClimbLaws
+pub mod CircleLaws
 pub mod FreeLaws
 pub mod ConstantLaws

@@ -13,4 +13,5 @@ reason_of refusals.ReadOnly = reasons.ReadOnly
 reason_of refusals.NoFile = reasons.NoFile
 reason_of refusals.Exists = reasons.Exists
 reason_of refusals.Full = reasons.Full
+reason_of refusals.Unfit = reasons.Unfit
 reason_of refusals.Range = reasons.Range

@@ -109,11 +109,13 @@ pub enum Event {
     End,
 }
 
-/// The place of a line in a session: it is line 1, which may have the version; or outside any
-/// block, after LOAD and before its GO, or after FILE and before its EOF.
+/// The place of a line in a session: it is line 1, which may have the version or begin the state
+/// part; or in the state part, after SYSTEM and before READY; or outside any block, after LOAD and
+/// before its GO, or after FILE and before its EOF.
 #[derive(Clone, Copy, Debug, PartialEq, Eq)]
 pub enum Place {
     First,
+    System,
     Plain,
     Load,
     File,
@@ -142,6 +144,7 @@ pub enum Reason {
     NoFile,
     Exists,
     Full,
+    Unfit,
     Cut,
 }
 
@@ -154,6 +157,7 @@ pub enum Refusal {
     NoFile,
     Exists,
     Full,
+    Unfit,
     Range,
 }
 
@@ -169,6 +173,7 @@ impl Refusal {
             Refusal::NoFile => Reason::NoFile,
             Refusal::Exists => Reason::Exists,
             Refusal::Full => Reason::Full,
+            Refusal::Unfit => Reason::Unfit,
             Refusal::Range => Reason::Range,
         }
     }

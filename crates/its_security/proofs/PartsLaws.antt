@@ -236,7 +236,7 @@ added_parts m n w = go (file_named n m.files)
 
     go : (o : Option File) → PartsBy file_part m (with_word_added_to m n w o)
     go (Some f) = put (is_full m.files (channels_of m) f.words)
-    go None = only_same file_part m
+    go None = tt
 
 words_parts : (ws : List ℕ) (m : Machine) (n : Names) → PartsBy file_part m (with_words_added m n ws)
 words_parts [] m n = only_same file_part m

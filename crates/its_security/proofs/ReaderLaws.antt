@@ -142,7 +142,7 @@ added_stays m x names w f apart h = go (file_named x m.files)
 
     go : (o : Option File) → FileKept names f (with_word_added_to m x w o)
     go (Some g) = put (is_full m.files (channels_of m) g.words)
-    go None = h
+    go None = tt
 
 then_stays : (r : Result Machine Reason) (next : Machine → Result Machine Reason) (names : Names) (f : File) → FileKept names f r
     → ((n : Machine) → file_named names n.files ≡ Some f → FileKept names f (next n))

@@ -43,8 +43,9 @@ abbrev pub version_after : ℕ → Event → ℕ
 version_after v (events.Version w) = w
 version_after v _ = v
 
--- the end of input inside a block is CUT
+-- the end of input in the state part or inside a block is CUT
 abbrev pub end_of : Bool → Place → List Item
+end_of true places.System = Unread reasons.Cut ∷ []
 end_of true places.Load = Unread reasons.Cut ∷ []
 end_of true places.File = Unread reasons.Cut ∷ []
 end_of true places.First = []

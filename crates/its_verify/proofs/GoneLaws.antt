@@ -141,6 +141,7 @@ after_settled p (events.File d x y) = refl
 after_settled p events.EndFile = refl
 after_settled places.First e = refl
 after_settled places.Plain e = refl
+after_settled places.System e = refl
 after_settled places.Load e = refl
 after_settled places.File e = refl
 

@@ -127,6 +127,7 @@ reason_free reasons.ReadOnly = refl
 reason_free reasons.NoFile = refl
 reason_free reasons.Exists = refl
 reason_free reasons.Full = refl
+reason_free reasons.Unfit = refl
 reason_free reasons.Cut = refl
 
 all_free_append : (us ws : List (List ℕ)) → AllFree us → AllFree ws → AllFree (us ++ ws)

@@ -60,6 +60,7 @@ is_end e = false
 abbrev pub machine_place : Place → Place
 machine_place places.First = places.Plain
 machine_place places.Plain = places.Plain
+machine_place places.System = places.System
 machine_place places.Load = places.Load
 machine_place places.File = places.File
 

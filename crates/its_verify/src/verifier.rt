@@ -1,12 +1,10 @@
 //! A verifier: a judge and the lines of a transcript together, along a session.
-ghost use Rattle.std.specs.Prelude.{◌≡◌, ◌≤◌, ◌∷◌, ℕ, [], false, None, Ok};
+ghost use Rattle.std.specs.Prelude.{◌≡◌, ◌≤◌, ◌∷◌, [], false, None, Ok};
 ghost use Rattle.its_io.specs.Bytes.{HasCause};
 ghost use Rattle.its_print.specs.Printing.{Refused};
 ghost use Rattle.its_reader.specs.Bytes.{Onward};
 ghost use Rattle.its_session.specs.Events.{place_after};
 ghost use Rattle.its_session.specs.Fits.{EventFits};
-ghost use Rattle.its_plain.specs.Operator.{Block};
-ghost use Rattle.its_plain.specs.Transcript.{Walk};
 ghost use Rattle.its_direct.specs.Events.{IsTold, MayStand, spot_place};
 ghost use Rattle.its_verify.specs.Going.{is_end};
 
@@ -34,12 +32,10 @@ pub struct Verifier {
 impl Verifier {
     ghost use Rattle.its_verify.specs.Finds.{ReadsOutIf};
     ghost use Rattle.its_verify.specs.TranscriptReader.{Says};
-    ghost use Rattle.its_verify.specs.Rulings.{Ruling, at_end, led, turned, expects};
+    ghost use Rattle.its_verify.specs.Rulings.{Ruling, at_end, expects};
     ghost use Rattle.its_verify.specs.Going.{LineSays, SaysEnd};
     ghost use Rattle.its_direct.specs.Events.{CanShow};
     ghost use Rattle.its_verify.specs.Showing.{shown_ruling};
-    ghost use Rattle.its_verify.specs.Letters.{ticked};
-    ghost use Rattle.its_verify.specs.JudgeState.{walk_of};
     ghost use Rattle.its_verify.specs.Verifier.{StaysAtItem, TicksSay, AtItem, TurnsSay};
 
     /// A `T` line of so many letters of a slot is next, and each is licensed in its turn.

@@ -10,7 +10,7 @@ use Rattle.its_records.specs.Links.{most_links}
 
 -- one list for HANG, one for CLOCK, of each of the eight consoles one each for Input, Output and
 -- Drained, and its Awake list, and of each of the sixteen links one each for Empty and Room, and
--- its Awake list. All but the Awake lists are wait wait_lists
+-- its Awake list. All but the Awake lists are wait lists
 abbrev pub heads : ℕ
 heads = 82
 

@@ -7,6 +7,7 @@ ghost use Rattle.its_frame.specs.declared.change.Change.TheVariants.{Join, Close
 ghost use Rattle.its_plain.specs.Call.Link.{words_in};
 ghost use Rattle.its_plain.specs.Machine.Change.{after_end_close, link_or_new, with_end_opened, with_received, with_sent};
 ghost use Rattle.its_plain.specs.Machine.{Linked, Shut};
+ghost use Rattle.its_plain.specs.Operator.State.{has_unopened, with_end_closed};
 ghost use Rattle.its_stepped.specs.Commit.{effect_on};
 ghost use Rattle.its_pipes.specs.Pipes.{piped};
 ghost use Rattle.its_world.specs.Filed.{LinkWritten};
@@ -84,6 +85,27 @@ impl World {
         ensures { LinkWritten self.old self.new link (after_end_close write (piped self.old.pipes link)) }
     {
         self.pipes.close_end(link, write);
+    }
+
+    /// Closes an end of a link that nobody has opened. Those that wait at the link are put where
+    /// they belong.
+    #[tactic(auto, using(crate::proofs::WorldLaws::link_becomes))]
+    pub fn shut_end(&mut self, link: u8, write: bool)
+        requires link { link < most_links }
+        requires unopened { has_unopened write (piped self.old.pipes link) ≡ true }
+        ensures { LinkBecomes self.old self.new link (option_map (with_end_closed write) (piped self.old.pipes link)) }
+    {
+        self.write_shut(link, write);
+        self.resettle_link(link);
+    }
+
+    /// Writes the end that is closed; those that wait keep their places.
+    fn write_shut(&mut self, link: u8, write: bool)
+        requires link { link < most_links }
+        requires unopened { has_unopened write (piped self.old.pipes link) ≡ true }
+        ensures { LinkWritten self.old self.new link (option_map (with_end_closed write) (piped self.old.pipes link)) }
+    {
+        self.pipes.shut_end(link, write);
     }
 
     /// Puts a word at the end of a link, which has room.

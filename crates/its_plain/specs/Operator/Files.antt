@@ -30,14 +30,15 @@ with_file_made_if m n false false = Err Full
 unfoldable pub with_file_made : Machine → Names → Result Machine Reason
 with_file_made m n = with_file_made_if m n (has_file n m.files) (nat_lt (length m.files) most_files)
 
--- one more word after those of the file with these names, if there is one
+-- one more word after those of the file with these names. (Between FILE and EOF there is one, since
+-- no line there takes a file away; in the state part there is none before the first FILE)
 abbrev pub with_word_added_if : Machine → Names → ℕ → Bool → Result Machine Reason
 with_word_added_if m n w true = Err Full
 with_word_added_if m n w false = Ok (with_files m (with_changed n (longer w) m.files))
 
 abbrev pub with_word_added_to : Machine → Names → ℕ → Option File → Result Machine Reason
 with_word_added_to m n w (Some f) = with_word_added_if m n w (is_full m.files (channels_of m) f.words)
-with_word_added_to m n w None = Ok m
+with_word_added_to m n w None = Err NoFile
 
 unfoldable pub with_word_added : Machine → Names → ℕ → Result Machine Reason
 with_word_added m n w = with_word_added_to m n w (file_named n m.files)

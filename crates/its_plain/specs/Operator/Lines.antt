@@ -1,6 +1,6 @@
 -- Each line of a session, and its effect on the plain machine (docs/SESSION.md, "The lines").
 -- A promise rests on this.
-use Rattle.std.specs.Prelude.{ℕ, ◌+◌, Option, Some, None, List, [], ◌∷◌, Result, Ok, Err, take}
+use Rattle.std.specs.Prelude.{ℕ, Option, Some, None, List, [], ◌∷◌, Result, Ok, Err, take}
 use Rattle.its_records.specs.declared.session.Event.{Event}
 use Rattle.its_records.specs.declared.session.Event.TheVariants as events
 use Rattle.its_records.specs.declared.session.Event.TheVariants.{Nothing, Version, Load, Words, ReadOnly, Symbol, Go, File, Append, EndFile, Tick, Run, TypeIn, Drain, Clock, Int, Exam, State, Deposit, Stop, Cont, Peek, Dir, Show, End}
@@ -12,11 +12,12 @@ use Rattle.its_print.specs.Printing as printed
 use Rattle.its_plain.specs.Machine.{Whole, Machine}
 use Rattle.its_plain.specs.Machine.Own.{names_of}
 use Rattle.its_plain.specs.Operator.{Block, Operated, Refuses, Does, Ticks, Quits, nobody, only, disturbs, quietly}
-use Rattle.its_plain.specs.Operator.Clock.{due, after_clock}
+use Rattle.its_plain.specs.Operator.Clock.{after_clock}
 use Rattle.its_plain.specs.Operator.Symbols.{with_symbol_kept}
 use Rattle.its_plain.specs.Operator.Version.{with_version}
 use Rattle.its_plain.specs.Operator.Consoles.{with_typed, dropped, after_drain}
 use Rattle.its_plain.specs.Operator.Files.{with_file_made, with_words_added, files_in, listing, file_shown}
+pub use Rattle.its_plain.specs.Operator.State.{by_clock}
 use Rattle.its_plain.specs.Operator.Jobs.{after_load, with_words_loaded, with_page_protected, after_go, after_int, after_stop, after_cont, on_registers, examined, state_shown, after_deposit}
 
 -- lines that show something of a job
@@ -41,11 +42,6 @@ by_state m b s (Err r) = Refuses r
 abbrev pub shows : Machine → Block → Result (List Line) Reason → Operated
 shows m b (Ok out) = Does m out nobody b
 shows m b (Err r) = Refuses r
-
--- CLOCK disturbs the jobs whose alarm is due at the new clock
-abbrev pub by_clock : Machine → Block → ℕ → Result Machine Reason → Operated
-by_clock m b n (Ok k) = Does k [] (due (m.clock + n) m.jobs) b
-by_clock m b n (Err r) = Refuses r
 
 -- the effect of each line; a RUN line does nothing itself: its turns follow it. The lines of a LOAD
 -- block disturb the job that LOAD has just made: no `.` came for it, so for a session this says no

@@ -24,6 +24,7 @@ swapped w = pair_of (right_of w) (left_of w)
 -- 204 MOVS, MOVSI, MOVSM, MOVSS: its halves swapped
 -- 210 MOVN, MOVNI, MOVNM, MOVNS: negated, with the flags of the negation
 -- 214 MOVM, MOVMI, MOVMM, MOVMS: negated with its flags if it is negative
+-- (a mode says what the source is and what gets the result: `Plans.moved_from`, `Plans.moved_to`)
 unfoldable pub moved : MoveOp → ℕ → Result2
 moved Plain s = one_word s 0
 moved Swap s = one_word (swapped s) 0
