@@ -131,6 +131,12 @@ in_file m b c (events.Append words) h s = subst (λ k. SameLined places.File (Do
 in_file m b c events.EndFile h s = does tt
 in_file m b c _ h s = cc
 
+-- a line of the state part, which is an empty one
+in_system : (m : Machine) (b c : Block) (e : Event) → Stands places.System e → SameLined (place_after places.System e) (lined m b e) (lined m c e)
+unfolding lined operate
+in_system m b c events.Nothing h = does tt
+in_system m b c _ h = cc
+
 first_after : (e : Event) → place_after places.First e ≡ place_after places.Plain e
 first_after (events.Load u j console) = refl
 first_after (events.Go a) = refl
@@ -141,6 +147,7 @@ first_after e = refl
 at_first : (q : Place) → is_at places.Plain q ≡ true → is_at places.First q ≡ true
 at_first places.First h = refl
 at_first places.Plain h = refl
+at_first places.System h = cc
 at_first places.Load h = cc
 at_first places.File h = cc
 
@@ -151,6 +158,7 @@ stands_first e h = at_first (place_of e) h
 same_lined : (p : Place) (m : Machine) (b c : Block) (e : Event) → Stands p e → BlockAlike p b c → SameLined (place_after p e) (lined m b e) (lined m c e)
 same_lined places.First m b c e stands alike = subst (λ p. SameLined p (lined m b e) (lined m c e)) (sym (first_after e)) (outside m b c e stands)
 same_lined places.Plain m b c e stands alike = outside m b c e (stands_first e stands)
+same_lined places.System m b c e stands alike = in_system m b c e stands
 same_lined places.Load m b c e stands alike = in_load m b c e stands alike
 same_lined places.File m b c e stands alike = in_file m b c e stands alike
 

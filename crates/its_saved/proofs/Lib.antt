@@ -17,5 +17,11 @@ pub mod UnderLaws
 pub mod TightLaws
 pub mod FlaggedLaws
 pub mod LinesKeepLaws
+pub mod NamedLaws
 pub mod RunLaws
 pub mod GoesOnLaws
+pub mod ObeyedLaws
+pub mod AboutLaws
+pub mod RestoredLaws
+pub mod SilentLaws
+pub mod RestLaws

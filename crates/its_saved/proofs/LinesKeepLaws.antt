@@ -186,7 +186,7 @@ module _ {P : Whole → Type 0} (keeps : KeepsJobs P) where
 
       by : (o : Option File) → KeptR (with_word_added_to m n w o)
       by (Some f) = if_room (is_full m.files (channels_of m) f.words)
-      by None = t
+      by None = tt
 
   adds_kept : (ws : List ℕ) (m : Machine) (n : Names) → EachJob P m → KeptR (with_words_added m n ws)
   adds_kept [] m n t = t

@@ -29,9 +29,10 @@ use Rattle.its_stepped.proofs.Running.CourseLaws.{EachMoment, Linked, run_course
 use Rattle.its_stepped.proofs.Duties.FitLaws.{forest_steps}
 use Rattle.its_stepped.proofs.Keeping.ForestLaws.{forest_starts}
 use Rattle.its_stepped.proofs.Running.WrittenLaws.{line_forest}
-use Rattle.its_saved.specs.WellFormed.{IsHollow, AliveIn, Tight, Flagged, KeptByTypes, WellFormed}
+use Rattle.its_saved.specs.WellFormed.{IsHollow, AliveIn, Tight, Flagged, KeptByTypes, WellFormed, Named}
 use Rattle.its_saved.proofs.FlaggedLaws.{flagged_starts, step_flagged}
 use Rattle.its_saved.proofs.LinesKeepLaws.{KeepsJobs, line_keeps_jobs}
+use Rattle.its_saved.proofs.NamedLaws.{named_starts, step_named, line_named}
 use Rattle.its_saved.proofs.TightLaws.{tight_starts, step_tight, store_hollow, with_page_hollow, zeros_hollow, marked_hollow, no_core_hollow}
 
 -- what holds at the start of a session, and is kept by each step and each line
@@ -151,6 +152,14 @@ each_flagged = record {
   lines = λ m n b c e out touched forest h is. record { each = (line_keeps_jobs flagged_jobs m n b c e out touched (record { each = h.each }) is).each };
 }
 
+-- the names of files are three words each
+each_named : EachRun Named
+each_named = record {
+  starts = named_starts;
+  steps = λ m n j forest h e. step_named m n j h e;
+  lines = λ m n b c e out touched forest h is. line_named m n b c e out touched h is;
+}
+
 pub run_forest : (es : List Item) (lines : List Line) → Forest (run_of es lines).last
 run_forest es lines = run_keeps each_forest es lines
 
@@ -165,6 +174,9 @@ run_tight es lines = run_keeps each_tight es lines
 
 pub run_flagged : (es : List Item) (lines : List Line) → Flagged (run_of es lines).last
 run_flagged es lines = run_keeps each_flagged es lines
+
+pub run_named : (es : List Item) (lines : List Line) → Named (run_of es lines).last
+run_named es lines = run_keeps each_named es lines
 
 -- every run ends in a machine that can be saved, if the PC of each job is an address and what the
 -- types of its parts keep holds of it

@@ -3,3 +3,4 @@ pub mod Building
 pub mod Saving
 pub mod WellFormed
 pub mod GoingOn
+pub mod Text

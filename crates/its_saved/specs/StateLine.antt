@@ -2,19 +2,8 @@
 -- and t are slots, n is a channel, c a console and l a link.
 -- No promise rests on this.
 use Rattle.std.specs.Prelude.{ℕ, Bool, Option, List}
+pub use Rattle.its_records.specs.declared.state_line.Registers.{Registers}
 use Rattle.its_plain.specs.Machine.{Names}
-
--- the registers of a job, as STATE shows them: whether it runs, its PC word, and its pending words,
--- masks and deferrals
-pub record Registers : Type 0 where
-  pub run : Bool
-  pub pc : ℕ
-  pub p1 : ℕ
-  pub p2 : ℕ
-  pub m1 : ℕ
-  pub m2 : ℕ
-  pub d1 : ℕ
-  pub d2 : ℕ
 
 pub data StateLine : Type 0 where
   -- SYSTEM v: the version of the session text

@@ -9,7 +9,7 @@ use Rattle.its_word.specs.Core.{Core, Page, IsWhole, page_of}
 use Rattle.its_word.specs.Directory.{same_names}
 use Rattle.its_records.specs.Links.{most_links, most_link_words, is_alive}
 use Rattle.its_records.specs.declared.jobs.Channel.TheVariants.{Closed}
-use Rattle.its_plain.specs.Machine.{Names, File, Shut, Reads, Pipe, Whole, Machine, no_bytes, mapped}
+use Rattle.its_plain.specs.Machine.{Names, File, Chan, Shut, Reads, Writes, Pipe, Whole, Machine, no_bytes, mapped}
 use Rattle.its_plain.specs.Machine.Change.{channel_in}
 use Rattle.its_plain.specs.Call.File.{most_files, most_blocks, blocks_used, has_file}
 use Rattle.its_plain.specs.Operator.Clock.{clock_end}
@@ -82,3 +82,22 @@ pub record WellFormed (m : Machine) : Type 0 where
   pub flagged : Flagged m
   pub tight : Tight m
   pub types : KeptByTypes m
+
+-- the names of files, of drafts and of files that are read are three words each, as their types
+-- say. The machine that the lines build does not depend on it, but a line of a session has three
+-- names
+abbrev pub IsNamed : Names → Type 0
+IsNamed n = length n ≡ 3
+
+abbrev pub AllNamed : List File → Type 0
+AllNamed [] = Unit {0}
+AllNamed (f ∷ fs) = IsNamed f.names × AllNamed fs
+
+abbrev pub NamedOn : Chan → Type 0
+NamedOn (Reads names at) = IsNamed names
+NamedOn (Writes f) = IsNamed f.names
+NamedOn _ = Unit {0}
+
+pub record Named (m : Machine) : Type 0 where
+  pub files : AllNamed m.files
+  pub channels : (k n : ℕ) → NamedOn (channel_in (m.jobs k) n)

@@ -6,18 +6,27 @@
 //!   written of a machine, in their order.
 //! - `WellFormed.WellFormed` is what has to hold of a machine that is saved: what every run keeps,
 //!   and what the types of its parts keep (`KeptByTypes`).
+//! - `Text.saved_lines` is these lines in the form that a session has, from SYSTEM to READY, and
+//!   `Text.Restored` says what they lead to when a session obeys them.
 //! - `GoingOn.NoMoreDots` says when what follows a session may follow its checkpoint.
 //!
 //! Proved:
 //! - The lines that are saved of a machine lead from the machine at the start of a session to this
 //!   very machine, equal in all its parts (`SavedLaws.restored`); so no two machines have the same
 //!   lines (`saved_apart`), and what is saved of the restored machine is the same (`saved_again`).
+//! - In the form that a session has, they lead from the start of a session to this machine, outside
+//!   blocks and without dots, and none of them is refused or shows anything
+//!   (`RestoredLaws.lines_restore`; for the machine at the end of a run, `run_restored`).
+//! - If each of them is an event, their transcript has no line, their run ends in this machine, and
+//!   what may follow the session may follow them (`SilentLaws.saved_silent`, `saved_leads`,
+//!   `saved_goes_on`).
 //! - Every run ends in a machine that can be saved, if its PCs are addresses and what types keep
 //!   holds (`RunLaws.run_well_formed`): page 0 of each core is hollow and each link has an open end
 //!   (`run_tight`), and flags are ones that a PC word has (`run_flagged`, by
-//!   `FlaggedLaws.step_flagged`).
+//!   `FlaggedLaws.step_flagged`). The names of files are three words each (`run_named`).
 //! - A transcript goes on from any walk with the same machine and no more dots
-//!   (`GoesOnLaws.goes_on`).
+//!   (`GoesOnLaws.goes_on`). What is shown of lines that follow a session is shown from the machine
+//!   at its end (`RestLaws.shown_from`).
 //! - A line UNDER makes no circle of superiors (`UnderLaws.no_circle`).
 //!
 //! How `restored` is proved: each part of what is saved leads along a row of machines that are
@@ -25,8 +34,11 @@
 //! are compared number by number (`ChangedLaws`). Channels and the ends of links are accounted for
 //! by which channels are open so far (`ChannelLaws.opened`).
 //!
-//! No code reads or writes these lines yet; so there is no reason of a refusal, no line TURN or
-//! READY, and no text.
+//! How `lines_restore` is proved: words of files and cores, RO, SYM and REGS are about the last
+//! FILE line or JOB line of a session, and name none. Each line that is saved comes after the one
+//! that it is about (`AboutLaws.saved_about`), so what builds a machine is obeyed (`ObeyedLaws`).
+//!
+//! No code reads or writes these lines yet, and no event of a session is one of them.
 //!
 //! Tests: none, because it has no code.
 #![tactic(auto)]
