@@ -286,15 +286,18 @@ pub added_names : (s u : Store) (id : ℕ) → Same (entry_at s) (entry_at u) �
 added_names s u id e = ap names_by (e.each id)
 
 -- the words one by one: there is room for all of them, or they are refused
-module _ (s : Store) (whole : IsStore s) (id w : ℕ) (file : is_file (entry_at s id) ≡ true) where
-  long : id < length s.stored.texts
+none_stands : (o : Option Entry) → o ≡ None → is_some o ≡ true → ⊥
+none_stands o e h = let wrong : false ≡ true = sym (ap is_some e) ∙ h in cc
+
+module _ (s : Store) (whole : IsStore s) (id w : ℕ) (stands : is_some (entry_at s id) ≡ true) where
+  pub long : id < length s.stored.texts
   long =
-      let l = within s.entries id (file_stands (entry_at s id) file) in
+      let l = within s.entries id stands in
       let e = whole.long in
       let t = whole.texts_long in
       omega arith
 
-  longer_store : IsStore (with_word s id w)
+  pub longer_store : IsStore (with_word s id w)
   longer_store = record {
     long = whole.long;
     texts_long = length-set s.stored.texts id _ ∙ whole.texts_long;
@@ -303,26 +306,26 @@ module _ (s : Store) (whole : IsStore s) (id w : ℕ) (file : is_file (entry_at 
     few = whole.few;
     few_drafts = whole.few_drafts;
     unique = whole.unique;
-    bare = λ k none left. get_or-set_other s.stored.texts id k _ [] (λ e. free_file (entry_at s id) (ap (entry_at s) (sym e) ∙ none) file)
+    bare = λ k none left. get_or-set_other s.stored.texts id k _ [] (λ e. none_stands (entry_at s id) (ap (entry_at s) (sym e) ∙ none) stands)
         ∙ whole.bare k none left;
     marked = whole.marked;
   }
 
-  words_longer : Only (words_at s) (words_at (with_word s id w)) id (words_at s id ++ w ∷ [])
+  pub words_longer : Only (words_at s) (words_at (with_word s id w)) id (words_at s id ++ w ∷ [])
   words_longer = record {
     here = ap (words_by (entry_at s id)) (get_or-set_same s.stored.texts id (text_at s.stored.texts id ++ w ∷ []) [] long)
-        ∙ words_more (entry_at s id) (text_at s.stored.texts id) file;
+        ∙ words_more (entry_at s id) (text_at s.stored.texts id) stands;
     others = λ k ne. ap (words_by (entry_at s k)) (get_or-set_other s.stored.texts id k (text_at s.stored.texts id ++ w ∷ []) [] ne);
   }
     where
-      words_more : (o : Option Entry) (ws : List ℕ) → is_file o ≡ true → words_by o (ws ++ w ∷ []) ≡ words_by o ws ++ w ∷ []
+      words_more : (o : Option Entry) (ws : List ℕ) → is_some o ≡ true → words_by o (ws ++ w ∷ []) ≡ words_by o ws ++ w ∷ []
       words_more (Some e) ws h = refl
       words_more None ws h = cc
 
-abbrev with_longer : Plain → ℕ → ℕ → Plain
+abbrev pub with_longer : Plain → ℕ → ℕ → Plain
 with_longer p id w = record p { files = with_word p.files id w }
 
-longer_only : (p : Plain) (id w : ℕ) → OnlyStore p (with_longer p id w) (with_word p.files id w)
+pub longer_only : (p : Plain) (id w : ℕ) → OnlyStore p (with_longer p id w) (with_word p.files id w)
 longer_only p id w = record { is = refl }
 
 room_for : (p : Plain) (id : ℕ) (ws : List ℕ) → IsStore p.files → Tidy p → is_file (entry_at p.files id) ≡ true → blocks_used p.files.stored ≤ 2048
@@ -337,10 +340,11 @@ room_for p id (w ∷ ws) whole tidy file most = elim (cases_Bool (store_is_full 
       let q = with_longer p id w in
       let b = longer_only p id w in
       let entry : Same (entry_at p.files) (entry_at q.files) = record { each = λ k. refl } in
-      let words = words_longer p.files whole id w file in
+      let stands = file_stands (entry_at p.files id) file in
+      let words = words_longer p.files whole id w stands in
       let files = with_word_file p.files whole id w file in
-      let lt = long p.files whole id w file in
-      let rest = room_for q id ws (longer_store p.files whole id w file) (added_tidy p whole tidy id file most q w b entry words files) file
+      let lt = long p.files whole id w stands in
+      let rest = room_for q id ws (longer_store p.files whole id w stands) (added_tidy p whole tidy id file most q w b entry words files) file
       (most_appended p.files.stored id w lt most f) in
       subst (Within (room_behind p.files.stored id) (suc (length ws)))
       (sym (ap (λ r. and_then r (λ k. with_words_added k (names_at p.files id) ws)) (added_row p whole tidy id file most q w b entry words files f)))
@@ -419,14 +423,10 @@ appended old put new n ws made place e = record {
 nothing_of : {X Y : Type 0} (f : X → Y) (o : Option X) → o ≡ None → option_map f o ≡ None
 nothing_of f o e = ap (option_map f) e
 
-nothing_added : (p : Plain) (n : Names) (ws : List ℕ) → found p.files n ≡ None → with_words_added (machine_of p) n ws ≡ Ok (machine_of p)
+pub appended_none : (p : Plain) (n : Names) (ws : List ℕ) (o : Option ℕ) → o ≡ found p.files n → o ≡ None → 1 ≤ length ws
+    → with_words_added (machine_of p) n ws ≡ Err reasons.NoFile
 unfolding with_word_added
-nothing_added p n [] none = refl
-nothing_added p n (w ∷ ws) none =
-    ap (λ o. and_then (with_word_added_to (machine_of p) n w o) (λ k. with_words_added k n ws))
-    (ap (file_named n) (files_are p) ∙ sym (found_named p.files n) ∙ nothing_of (file_at p.files) (found p.files n) none)
-    ∙ nothing_added p n ws none
-
-pub appended_none : (old new : Plain) (n : Names) (ws : List ℕ) (o : Option ℕ) → o ≡ found old.files n → o ≡ None
-    → new ≡ record old { touched = no_slots } → Keeps old new (with_words_added (machine_of old) n ws)
-appended_none old new n ws o is none e = appended old old new n ws (nothing_added old n ws (sym is ∙ none)) refl e
+appended_none p n [] o is none some = absurd (omega arith)
+appended_none p n (w ∷ ws) o is none some =
+    ap (λ x. and_then (with_word_added_to (machine_of p) n w x) (λ k. with_words_added k n ws))
+    (ap (file_named n) (files_are p) ∙ sym (found_named p.files n) ∙ nothing_of (file_at p.files) (found p.files n) (sym is ∙ none))

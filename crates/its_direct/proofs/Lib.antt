@@ -35,4 +35,6 @@ pub mod PartLaws
 pub mod HandLaws
 pub mod WaitingLaws
 pub mod MovingLaws
+pub mod RestoringLaws
+pub mod EachLaws
 pub mod Groups

@@ -14,6 +14,7 @@ use Rattle.its_plain.specs.Call.Link.{words_in}
 use Rattle.its_plain.specs.Machine.Change.{effect, after_end_close, in_job, link_or_new, on_link, with_end_opened, with_received, with_sent}
 use Rattle.its_plain.specs.Machine.{Linked, Pipe, Shut, Machine}
 use Rattle.its_plain.specs.Operator.Clock.{clock_end}
+use Rattle.its_plain.specs.Operator.State.{has_unopened, with_end_closed}
 use Rattle.its_plain.specs.Machine.Own.{on_channel}
 use Rattle.its_plain.proofs.MachineLaws.{machine_is}
 use Rattle.its_shared.specs.Across.{channel_at, Across, IsElsewhere}
@@ -60,6 +61,15 @@ word_sent old new l w b = link_changed old new l (option_map (with_sent w)) b
 pub word_received : (old new : Plain) (l : ℕ) → LinkBecomes old new l (option_map with_received (piped old.pipes l))
     → Becomes old new (on_link (machine_of old) l (option_map with_received))
 word_received old new l b = link_changed old new l (option_map with_received) b
+
+-- an end that nobody has opened
+pub link_unopened : (p : Plain) (l : ℕ) (write : Bool) → has_unopened write ((machine_of p).links l) ≡ true → has_unopened write (piped p.pipes l) ≡ true
+unfolding machine_of
+link_unopened p l write h = h
+
+pub end_shut : (old new : Plain) (l : ℕ) (write : Bool) → LinkBecomes old new l (option_map (with_end_closed write) (piped old.pipes l))
+    → Becomes old new (on_link (machine_of old) l (option_map (with_end_closed write)))
+end_shut old new l write b = link_changed old new l (option_map (with_end_closed write)) b
 
 pub link_there : (p : Plain) (l : ℕ) → is_some ((machine_of p).links l) ≡ true → is_some (piped p.pipes l) ≡ true
 unfolding machine_of

@@ -85,24 +85,27 @@ module _ (old new : Plain) (s u j : ℕ) (above console : Option ℕ) (tidy : Ti
     | inr ne ↦ ap (λ o. channel_by o i) (job.others k ne)
   ]))
 
-pub made_machine : (old new : Plain) (s u j : ℕ) (above console : Option ℕ) → Tidy old → least_free old.jobs.limit (job_at old.jobs) ≡ Some s
+pub made_machine_at : (old new : Plain) (s u j : ℕ) (above console : Option ℕ) → Tidy old → job_at old.jobs s ≡ None
     → Only (job_at old.jobs) (job_at new.jobs) s (Some (fresh_job u j console)) → Only (superior_at old.jobs) (superior_at new.jobs) s above
     → new.core ≡ old.core → Aside old new → machine_of new ≡ with_new (machine_of old) s (whole no_core (fresh_job u j console) above)
 unfolding machine_of
-made_machine old new s u j above console tidy least job superior core aside = machine_is _ _
-    (made_jobs old new s u j above console tidy (least_empty old.jobs.limit (job_at old.jobs) s least) job superior core (files_as aside.is)
-    (alarms_as aside.is))
+made_machine_at old new s u j above console tidy free job superior core aside = machine_is _ _
+    (made_jobs old new s u j above console tidy free job superior core (files_as aside.is) (alarms_as aside.is))
     (λ k. ap (λ l. console_at l.items k) (consoles_as aside.is)) (λ k. ap (λ l. holder_at l k) (holders_as aside.is)) (ap directory (files_as aside.is))
     (clock_as aside.is) (version_as aside.is)
-    (λ k. ap (λ l. symbols_at l.items k) (symbols_as aside.is)
-    ∙ changed_same (symbols_at old.symbols.items) s k [] (tidy.nameless s (least_empty old.jobs.limit (job_at old.jobs) s least)))
+    (λ k. ap (λ l. symbols_at l.items k) (symbols_as aside.is) ∙ changed_same (symbols_at old.symbols.items) s k [] (tidy.nameless s free))
     (λ k. ap (λ l. piped l k) (pipes_as aside.is))
 
-pub made_tidy : (old new : Plain) (s u j : ℕ) (above console : Option ℕ) → Tidy old → least_free old.jobs.limit (job_at old.jobs) ≡ Some s
+pub made_machine : (old new : Plain) (s u j : ℕ) (above console : Option ℕ) → Tidy old → least_free old.jobs.limit (job_at old.jobs) ≡ Some s
+    → Only (job_at old.jobs) (job_at new.jobs) s (Some (fresh_job u j console)) → Only (superior_at old.jobs) (superior_at new.jobs) s above
+    → new.core ≡ old.core → Aside old new → machine_of new ≡ with_new (machine_of old) s (whole no_core (fresh_job u j console) above)
+made_machine old new s u j above console tidy least job superior core aside =
+    made_machine_at old new s u j above console tidy (least_empty old.jobs.limit (job_at old.jobs) s least) job superior core aside
+
+pub made_tidy_at : (old new : Plain) (s u j : ℕ) (above console : Option ℕ) → Tidy old → job_at old.jobs s ≡ None
     → Only (job_at old.jobs) (job_at new.jobs) s (Some (fresh_job u j console)) → Only (superior_at old.jobs) (superior_at new.jobs) s above
     → new.core ≡ old.core → Aside old new → Tidy new
-made_tidy old new s u j above console tidy least job superior core aside =
-    let free = least_empty old.jobs.limit (job_at old.jobs) s least in
+made_tidy_at old new s u j above console tidy free job superior core aside =
     let none = was_none old new s u j above console tidy free job superior core (files_as aside.is) (alarms_as aside.is) in
     record {
       unreserved = λ n. ap (λ c. clear_at c n) core ∙ tidy.unreserved n;
@@ -117,6 +120,12 @@ made_tidy old new s u j above console tidy least job superior core aside =
       ];
       timed = subst (λ t. t < clock_end) (sym (clock_as aside.is)) tidy.timed;
     }
+
+pub made_tidy : (old new : Plain) (s u j : ℕ) (above console : Option ℕ) → Tidy old → least_free old.jobs.limit (job_at old.jobs) ≡ Some s
+    → Only (job_at old.jobs) (job_at new.jobs) s (Some (fresh_job u j console)) → Only (superior_at old.jobs) (superior_at new.jobs) s above
+    → new.core ≡ old.core → Aside old new → Tidy new
+made_tidy old new s u j above console tidy least job superior core aside =
+    made_tidy_at old new s u j above console tidy (least_empty old.jobs.limit (job_at old.jobs) s least) job superior core aside
 
 -- the holder of its console
 same_holder : (holders : ℕ → Option ℕ) (c s h k : ℕ) → holders c ≡ Some h → holders k ≡ changed holders c (held_by s (holders c)) k
@@ -224,7 +233,7 @@ console_by : (p : Plain) (s : ℕ) (o : Option Job) → console_in
 console_by p s (Some j) = refl
 console_by p s None = refl
 
-console_here : (p : Plain) (s : ℕ) → console_in ((machine_of p).jobs s) ≡ console_of (job_at p.jobs s)
+pub console_here : (p : Plain) (s : ℕ) → console_in ((machine_of p).jobs s) ≡ console_of (job_at p.jobs s)
 unfolding machine_of
 console_here p s = console_by p s (job_at p.jobs s)
 

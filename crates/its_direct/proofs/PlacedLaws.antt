@@ -30,6 +30,7 @@ Placed m b places.Load = (b.slot < slots) × (is_some (m.jobs b.slot) ≡ true)
 Placed m b places.File = has_file b.file m.files ≡ true
 Placed m b places.First = Unit {0}
 Placed m b places.Plain = Unit {0}
+Placed m b places.System = Unit {0}
 
 -- the block of lines after the result of a line is that of a job, or of a file
 abbrev pub PlacedBy : Place → Lined → Type 0
@@ -117,7 +118,7 @@ added_has_if m n w false = has_changed n n w m.files
 
 added_has_to : (m : Machine) (n : Names) (w : ℕ) (o : Option File) → HasBy n m (with_word_added_to m n w o)
 added_has_to m n w (Some f) = added_has_if m n w (is_full m.files (channels_of m) f.words)
-added_has_to m n w None = refl
+added_has_to m n w None = tt
 
 added_has : (m : Machine) (n : Names) (w : ℕ) → HasBy n m (with_word_added m n w)
 unfolding with_word_added
@@ -145,6 +146,7 @@ pub line_placed : (m : Machine) (b : Block) (place : Place) (e : Event) → MayS
 unfolding lined operate after_load with_file_made
 line_placed m b places.First events.Nothing at h = tt
 line_placed m b places.Plain events.Nothing at h = tt
+line_placed m b places.System events.Nothing at h = tt
 line_placed m b places.Load events.Nothing at h = h
 line_placed m b places.File events.Nothing at h = h
 line_placed m b place (events.Load u j console) at h = load_placed m b u j console (least_free (limit m) m.jobs) refl

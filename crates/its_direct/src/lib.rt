@@ -9,8 +9,12 @@
 //!   touched (`loses`).
 //! - `steps` executes units one after another. Each is a step that disturbs nobody and makes no job
 //!   (`series`), and if they are fewer than was asked, no unit is due (`most`).
-//! - `event` is exactly the operator's line (`told`), with exactly its refusals. A refused line
-//!   changes nothing (`same`), and no line removes a job (`jobs`).
+//! - `event` is exactly the operator's line (`told`), with exactly its refusals. Its `Answer` says
+//!   what the line shows. A refused line changes nothing (`same`), and no line removes a job
+//!   (`jobs`).
+//! - What a line of the state part restores (`lines/restoring.rt`) is exactly what its definition
+//!   says (`its_plain/specs/Operator/State`), with exactly its refusals. A refused line changes
+//!   nothing.
 //! - The slots that a step or a line touches are marked, and no others.
 //! - `words`, `shown`, `listed`, `show`, `file` and `row` are what EXAM, LIST, STATE, DIR and SHOW
 //!   show.
@@ -70,6 +74,7 @@
 // - `lines/clock.rt`: CLOCK
 // - `lines/shown.rt`: what EXAM, LIST and STATE show
 // - `lines/directory.rt`: what DIR and SHOW show
+// - `lines/restoring.rt`: what the lines of the state part restore, each one thing of a system
 mod changes;
 mod lines;
 mod plain;

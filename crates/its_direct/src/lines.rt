@@ -7,6 +7,7 @@ pub mod events;
 pub mod files;
 pub mod job_lines;
 pub mod loading;
+pub mod restoring;
 pub mod settings;
 pub mod shown;
 pub mod words;

@@ -180,7 +180,7 @@ impl Plain {
     }
 
     /// The console of a slot's job.
-    fn console_of(&self, slot: Slot) -> Option<u8>
+    pub(crate) fn console_of(&self, slot: Slot) -> Option<u8>
         ensures { result ≡ console_of (job_at self.now.jobs slot) }
     {
         match self.job(slot) {

@@ -20,7 +20,7 @@ use its_word::{Slot, Word, within};
 
 impl Plain {
     /// What a channel of a slot's job is on; closed if the slot is empty.
-    fn channel(&self, slot: Slot, n: u8) -> Channel
+    pub(crate) fn channel(&self, slot: Slot, n: u8) -> Channel
         requires channel { n < 16 }
         ensures { result ≡ channel_at self.now.jobs slot n }
     {
@@ -82,7 +82,7 @@ impl Plain {
     }
 
     /// Opens a closed channel on a file, at its first word.
-    fn open_file(&mut self, slot: Slot, n: u8, d: Word, x: Word, y: Word)
+    pub(crate) fn open_file(&mut self, slot: Slot, n: u8, d: Word, x: Word, y: Word)
         requires channel { n < 16 }
         requires job { HasJob (machine_of self.old) slot }
         requires closed { chan_in (machine_of self.old) slot n ≡ Shut }
@@ -99,7 +99,7 @@ impl Plain {
     }
 
     /// Opens a closed channel on a draft of no words.
-    fn open_draft(&mut self, slot: Slot, n: u8, d: Word, x: Word, y: Word)
+    pub(crate) fn open_draft(&mut self, slot: Slot, n: u8, d: Word, x: Word, y: Word)
         requires channel { n < 16 }
         requires job { HasJob (machine_of self.old) slot }
         requires closed { chan_in (machine_of self.old) slot n ≡ Shut }

@@ -5,6 +5,7 @@ ghost use Rattle.its_frame.specs.declared.change.Change.TheVariants.{Join, Close
 ghost use Rattle.its_plain.specs.Call.Link.{words_in};
 ghost use Rattle.its_plain.specs.Machine.Change.{effect, after_end_close, link_or_new, on_link, with_end_opened, with_received, with_sent};
 ghost use Rattle.its_plain.specs.Machine.{Linked, Shut};
+ghost use Rattle.its_plain.specs.Operator.State.{has_unopened, with_end_closed};
 ghost use Rattle.its_shared.specs.Can.{HasJob, chan_in};
 ghost use Rattle.its_pipes.specs.Pipes.{piped};
 ghost use Rattle.its_direct.specs.Effects.{Becomes, LinkBecomes};
@@ -59,6 +60,27 @@ impl Plain {
         ensures { LinkBecomes self.old self.new link (after_end_close write (piped self.old.pipes link)) }
     {
         self.pipes.close_end(link, write);
+    }
+
+    /// Closes an end of a link that nobody has opened.
+    fn shut_end(&mut self, link: u8, write: bool)
+        requires link { link < most_links }
+        requires unopened { has_unopened write (piped self.old.pipes link) ≡ true }
+        ensures { LinkBecomes self.old self.new link (option_map (with_end_closed write) (piped self.old.pipes link)) }
+    {
+        self.pipes.shut_end(link, write);
+    }
+
+    /// Closes an end of a link that nobody has opened: a change of the machine.
+    #[tactic(auto, using(crate::proofs::LinkLaws::link_unopened, crate::proofs::LinkLaws::end_shut, crate::proofs::LinkLaws::link_tidy))]
+    pub(crate) fn close_unopened(&mut self, link: u8, write: bool)
+        requires link { link < most_links }
+        requires unopened { has_unopened write ((machine_of self.old).links link) ≡ true }
+        requires tidy { Tidy self.old }
+        ensures row { Becomes self.old self.new (on_link (machine_of self.old) link (option_map (with_end_closed write))) }
+        ensures tidy { Tidy self.new }
+    {
+        self.shut_end(link, write);
     }
 
     /// Puts a word at the end of a link, which has room.

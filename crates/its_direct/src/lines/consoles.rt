@@ -42,7 +42,7 @@ impl Plain {
 
     /// Types bytes at a console.
     #[tactic(auto, using(crate::proofs::ConsoleLaws::console_becomes))]
-    fn type_at(&mut self, c: ConsoleNumber, bytes: &[u8]) -> u32
+    pub(crate) fn type_at(&mut self, c: ConsoleNumber, bytes: &[u8]) -> u32
         requires few { length bytes.now ≤ 32 }
         ensures dropped { result ≡ dropped (console_at self.old.consoles.items c) bytes.now }
         ensures typed { ConsoleBecomes self.old self.new c (record (console_at self.old.consoles.items c) { input = take most_waiting ((console_at self.old.consoles.items c).input ++ bytes.now) }) }

@@ -180,6 +180,7 @@ impl Plain {
     /// Words of a FILE block.
     fn tell_append(&mut self, words: &ArrayVec<Word, 16>) -> Result<Answer, Refusal>
         requires place { spot_place self.old.place ≡ places.File }
+        requires some { 1 ≤ length words.now.items }
         requires tidy { Tidy self.old }
         ensures told { Told (told.Append words.now) self.old self.new result }
         ensures same { OnErr result (self.new ≡ self.old) }

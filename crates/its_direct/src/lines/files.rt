@@ -1,5 +1,5 @@
 //! The lines FILE, its words and EOF.
-ghost use Rattle.std.specs.Prelude.{◌≡◌, ◌<◌, true, None, Ok, Err, OnOk, OnErr, IsOk, IfErr, length};
+ghost use Rattle.std.specs.Prelude.{◌≡◌, ◌<◌, ◌≤◌, true, None, Ok, Err, OnOk, OnErr, IsOk, IfErr, length};
 ghost use Rattle.its_files.specs.Files.{entry_at, found, is_file, most_files, names_at};
 ghost use Rattle.its_plain.specs.Operator.Files.{with_file_made, with_word_added, with_words_added};
 ghost use Rattle.its_plain.specs.Machine.Own.{names_of};
@@ -17,10 +17,29 @@ use its_word::Word;
 impl Plain {
     /// FILE: makes a file of no words, the last in order, whose FILE block begins. Exists if a file
     /// has these names; Full if there are 256 files.
-    #[tactic(auto, using(crate::proofs::FileLaws::file_exists, crate::proofs::FileLaws::file_full))]
     pub fn make_file(&mut self, d: Word, x: Word, y: Word) -> Result<(), Refusal>
         requires tidy { Tidy self.old }
         ensures done { OnOk result (Leads self.old self.new (InFile (names_of d x y)) (with_file_made (machine_of self.old) (names_of d x y))) }
+        ensures refused { IfErr result (λ e. with_file_made (machine_of self.old) (names_of d x y) ≡ Err (reason_of e)) }
+        ensures same { OnErr result (self.new ≡ self.old) }
+        ensures tidy { Tidy self.new }
+    {
+        match self.add_file(d, x, y) {
+            Ok(()) => {
+                self.set_place(Spot::File { names: [d, x, y] });
+                self.touch_none();
+                Ok(())
+            }
+            Err(e) => Err(e),
+        }
+    }
+
+    /// Makes a file of no words, the last in order. Exists if a file has these names; Full if there
+    /// are 256 files.
+    #[tactic(auto, using(crate::proofs::FileLaws::file_exists, crate::proofs::FileLaws::file_full))]
+    pub fn add_file(&mut self, d: Word, x: Word, y: Word) -> Result<(), Refusal>
+        requires tidy { Tidy self.old }
+        ensures done { OnOk result (with_file_made (machine_of self.old) (names_of d x y) ≡ Ok (machine_of self.new)) }
         ensures refused { IfErr result (λ e. with_file_made (machine_of self.old) (names_of d x y) ≡ Err (reason_of e)) }
         ensures same { OnErr result (self.new ≡ self.old) }
         ensures tidy { Tidy self.new }
@@ -32,15 +51,15 @@ impl Plain {
             return Err(Refusal::Full);
         }
         self.new_file(d, x, y);
-        self.set_place(Spot::File { names: [d, x, y] });
-        self.touch_none();
         Ok(())
     }
 
-    /// Words of a FILE block: more words at the end of the file with a directory and two names, if
-    /// there is one. Full if they need more blocks than are free; then none of them is added.
+    /// Words of a FILE block: more words at the end of the file with a directory and two names.
+    /// NoFile if there is none; Full if they need more blocks than are free; then none of them is
+    /// added.
     #[tactic(auto, using(crate::proofs::FileLaws::appended_none))]
     pub fn append_words(&mut self, d: Word, x: Word, y: Word, words: &[Word]) -> Result<(), Refusal>
+        requires some { 1 ≤ length words.now }
         requires tidy { Tidy self.old }
         ensures done { OnOk result (Keeps self.old self.new (with_words_added (machine_of self.old) (names_of d x y) words.now)) }
         ensures refused { IfErr result (λ e. with_words_added (machine_of self.old) (names_of d x y) words.now ≡ Err (reason_of e)) }
@@ -49,10 +68,7 @@ impl Plain {
     {
         match self.files.find(d, x, y) {
             Some(id) => self.append_to(id, words),
-            None => {
-                self.touch_none();
-                Ok(())
-            }
+            None => Err(Refusal::NoFile),
         }
     }
 

@@ -108,7 +108,7 @@ impl Plain {
 
     /// Writes the registers of a slot's job, with the channels that it has. The slot is touched.
     #[tactic(auto, using(crate::proofs::LineLaws::rewritten, crate::proofs::LineLaws::rewritten_tidy))]
-    fn rewrite(&mut self, slot: Slot, was: &Job, now: Job)
+    pub(crate) fn rewrite(&mut self, slot: Slot, was: &Job, now: Job)
         requires job { job_at self.old.jobs slot ≡ Some was.now }
         requires channels { now.channels ≡ was.now.channels }
         requires pc { now.pc < 2 ^ 18 }

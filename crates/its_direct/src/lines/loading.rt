@@ -84,7 +84,7 @@ impl Plain {
     }
 
     /// The slot of the job that holds a console.
-    fn holder(&self, c: ConsoleNumber) -> Option<u8>
+    pub(crate) fn holder(&self, c: ConsoleNumber) -> Option<u8>
         ensures { result ≡ holder_at self.now.holders c }
     {
         self.holders[c.index()]

@@ -1,0 +1,8 @@
+use Rattle.std.specs.Prelude.{true}
+use Rattle.its_direct.proofs.RestoringLaws.{bytes_done}
+use Rattle.its_direct.proofs.plain.Plain.restore_output.Goals as goal
+
+pub returns-clause-done : goal.returns-clause-done
+returns-clause-done c =
+    bytes_done c.args.self.now c.args.c _ true c.args.bytes.now c.waiting_at-waiting.ensures.output c.put_each.new.self c.touch_none.new.self
+    c.if-waiting-bytes.false c.put_each.ensures.row c.touch_none.ensures
