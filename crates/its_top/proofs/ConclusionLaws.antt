@@ -42,11 +42,11 @@ pub not_fault : (flow : Flow) → goes_on flow ≡ true → flow ≢ flows.Fault
 not_fault flow h e = let k : false ≡ true = sym (ap goes_on e) ∙ h in cc
 
 -- END alone ends a session
-not_last : (e : Event) → goes_on_after e ≡ true → is_last (founds.Line e) ≡ false
+pub not_last : (e : Event) → goes_on_after e ≡ true → is_last (founds.Line e) ≡ false
 not_last events.End h = cc
 not_last _ h = refl
 
-is_the_end : (e : Event) → goes_on_after e ≡ false → is_end (founds.Line e) ≡ true
+pub is_the_end : (e : Event) → goes_on_after e ≡ false → is_end (founds.Line e) ≡ true
 is_the_end events.End h = refl
 is_the_end _ h = cc
 
@@ -136,7 +136,7 @@ so_start r v i left out e l n o p q k = record {
 }
 
 -- the session goes on
-found_on : (f : Found) (es : List Item) (old new : Items) (left mid rest : Option (List ℕ)) → is_last f ≡ false → FoundSoFar es old left mid
+pub found_on : (f : Found) (es : List Item) (old new : Items) (left mid rest : Option (List ℕ)) → is_last f ≡ false → FoundSoFar es old left mid
     → Finds (Ok f) old new mid rest → FoundSoFar (es ++ last_items f) new left rest
 found_on (founds.Line e) es old new left mid rest l s f = reader.so_next es e old new left mid rest l s f
 found_on _ es old new left mid rest l s f = cc

@@ -21,6 +21,7 @@ use Rattle.its_top.specs.declared.sessions.shown.Over.TheVariants as overs
 use Rattle.its_top.specs.declared.sessions.shown.Shown.{Shown}
 use Rattle.its_top.specs.declared.sessions.shown.Shown.TheVariants as shows
 use Rattle.its_top.specs.Telling.{Says, said, after, saying, goes_on_after}
+use Rattle.its_top.specs.Leaving.{Left, left_by, line_left}
 use Rattle.its_top.specs.Performing.{lines_of, CanShow, Performed}
 
 pub text_append : (a b : List Line) → text (a ++ b) ≡ text a ++ text b
@@ -46,6 +47,10 @@ told_comes : (n : ℕ) (v c : State) (b : Block) (e : Event) (o : Lined) (next :
     → line_told n v b e next ≡ told_by n v c b o next
 told_comes n v c b e o next h = ap (λ x. told_by n v x b (lined x.raw b e) next) h.calm ∙ ap (λ x. told_by n v c b x next) h.is
 
+left_comes : (v c : State) (b : Block) (e : Event) (o : Lined) (stays : Left) (next : State → Block → Left) → Comes v b e c o
+    → line_left v b stays e next ≡ left_by v c b stays o next
+left_comes v c b e o stays next h = ap (λ x. left_by v x b stays (lined x.raw b e) next) h.calm ∙ ap (λ x. left_by v c b stays x next) h.is
+
 -- only END ends
 end_goes : (m : Machine) (b : Block) → lined m b events.End ≡ Done Quits
 unfolding lined operate
@@ -66,6 +71,7 @@ does v c m b b' e s w touched h k f =
     record {
       tells = λ n next. told_comes n v c b e o next h ∙ ap (λ x. telling (lines_of s w) (next x b')) (sym k);
       goes = goes_unless c.raw b e (λ x. let l : Done (Does m (lines_of s w) touched b') ≡ Done Quits = sym h.is ∙ x in cc);
+      leaves = λ stays next. left_comes v c b e o stays next h ∙ ap (λ x. next x b') (sym k);
       ready = f;
     }
 
@@ -76,6 +82,7 @@ ticks v c b e s k r w h f few g = record {
   tells = λ n next. told_comes n v c b e (Done (Ticks s k)) next h
       ∙ ap (λ x. telling (x ∷ []) (next (after_ticks v s k) b)) (sym f) ∙ ap (λ x. telling (line_of r ∷ []) (next x b)) (sym g);
   goes = goes_unless c.raw b e (λ x. let l : Done (Ticks s k) ≡ Done Quits = sym h.is ∙ x in cc);
+  leaves = λ stays next. left_comes v c b e (Done (Ticks s k)) stays next h ∙ ap (λ x. next x b) (sym g);
   ready = few;
 }
 
@@ -85,12 +92,18 @@ pub peeks : (w : World) (c : State) (b : Block) (e : Event) (s : ℕ) (r : Reply
 peeks w c b e s r h f few = record {
   tells = λ n next. told_comes n (state_of w) c b e (Peeks s) next h ∙ ap (λ x. telling (x ∷ []) (next (state_of w) b)) (sym f);
   goes = goes_unless c.raw b e (λ x. let l : Peeks s ≡ Done Quits = sym h.is ∙ x in cc);
+  leaves = λ stays next. left_comes (state_of w) c b e (Peeks s) stays next h;
   ready = few;
 }
 
 pub refuses : (v c : State) (b b' : Block) (e : Event) (r : Refusal) (w : World)
     → Comes v b e c (Done (Refuses (reason_of r))) → Performed (Err (overs.Refused r)) v b e w b'
-refuses v c b b' e r w h = record { tells = λ n next. told_comes n v c b e (Done (Refuses (reason_of r))) next h; goes = tt; ready = tt }
+refuses v c b b' e r w h = record { tells = λ n next. told_comes n v c b e (Done (Refuses (reason_of r))) next h; goes = tt; leaves = tt; ready = tt }
 
-pub ends : (v : State) (b b' : Block) (w : World) → Performed (Err overs.Ended) v b events.End w b'
-ends v b b' w = record { tells = λ n next. told_comes n v v b events.End (Done Quits) next (end_comes v b); goes = refl; ready = tt }
+pub ends : (b b' : Block) (w : World) → Performed (Err overs.Ended) (state_of w) b events.End w b'
+ends b b' w = record {
+  tells = λ n next. told_comes n (state_of w) (state_of w) b events.End (Done Quits) next (end_comes (state_of w) b);
+  goes = refl;
+  leaves = refl;
+  ready = tt;
+}

@@ -32,7 +32,7 @@ use Rattle.its_stepped.proofs.Running.UpkeepLaws.{Good, upkeep}
 use Rattle.its_stepped.proofs.Running.WrittenLaws.{lasting}
 
 -- the machine after a letter that is licensed
-letter_leads : (m n : Machine) (i : ℕ) (p : Pace) → Licensed m i p n → machine_after m i p ≡ n
+pub letter_leads : (m n : Machine) (i : ℕ) (p : Pace) → Licensed m i p n → machine_after m i p ≡ n
 letter_leads m n i Step h = ap (λ o. unwrap_or o m) h
 letter_leads m n i Work h = sym h.1
 letter_leads m n i Wait h = sym h.2
@@ -48,7 +48,7 @@ abbrev Few : List Moment → Type 0
 Few ts = AllByRecursion (λ (t : Moment). FewAt t.dots t.deed) ts
 
 -- a walk in the state of the stepped machine, at line k
-abbrev at : ℕ → State → Dots → Block → Walk
+abbrev pub at : ℕ → State → Dots → Block → Walk
 at k w d b = record { machine = plain w; dots = d; block = b; line = k }
 
 -- a `.` leaves a bound that is one more, which is at most twelve
@@ -58,10 +58,10 @@ fewer p d before after own h few is =
     omega arith
 
 module _ (decoding : Decoding) where
-  abbrev Fine : Dots → State → Type 0
+  abbrev pub Fine : Dots → State → Type 0
   Fine d w = Good Forest d w
 
-  abbrev u : Upkeep Fine
+  abbrev pub u : Upkeep Fine
   u = upkeep (lasting decoding)
 
   letter_few : (w : State) (d : Dots) (i : ℕ) → Fine d w → (tick w i).pace ≡ Work → d i < most_in_a_row

@@ -12,6 +12,7 @@ use Rattle.std.proofs.lemmas.Option.{slice_get_within, slice_get-get_or, get_or_
 use Rattle.its_word.specs.Directory.{same_names, longer}
 use Rattle.its_records.specs.declared.session.Reason.{Reason}
 use Rattle.its_records.specs.declared.session.Refusal.{Refusal}
+use Rattle.its_records.specs.declared.session.Refusal.TheVariants as refusals
 use Rattle.its_records.specs.declared.show.FileShow.{FileShow}
 use Rattle.its_print.specs.Printing.{Line, text_of_line, text}
 use Rattle.its_print.specs.Printing as printed
@@ -440,14 +441,13 @@ module _ (old mid : World) (e : state_of mid ≡ help (state_of old)) (files : m
   adds_refused (Ok x) n id w h f = tt
   adds_refused (Err r) n id w h f = sym (adds_same n id w h) ∙ f.calmed
 
-  -- if there is no file with these names, nothing is added
-  pub adds_nothing : (n : Names) (w : ℕ) → file_named n (plain (state_of old)).files ≡ None
-      → Lands (help (state_of old)) (state_of mid) (with_word_added (help (state_of old)).raw n w)
+  -- if there is no file with these names, the word is refused
+  pub adds_nothing : (n : Names) (w : ℕ) (r : Refusal) → r ≡ refusals.NoFile → file_named n (plain (state_of old)).files ≡ None
+      → with_word_added (help (state_of old)).raw n w ≡ Err (reason_of r)
   unfolding with_word_added
-  adds_nothing n w h = record {
-    is = ap (with_word_added_to (help (state_of old)).raw n w) (ap (file_named n) (sym (found_files (state_of old))) ∙ h) ∙ ap (λ v. Ok v.raw) (sym e);
-    rest = e ∙ ap (λ v. with_raw (help (state_of old)) v.raw) (sym e);
-  }
+  adds_nothing n w r is h =
+      ap (with_word_added_to (help (state_of old)).raw n w) (ap (file_named n) (sym (found_files (state_of old))) ∙ h)
+      ∙ ap (λ x. Err (reason_of x)) (sym is)
 
 -- the three names of a file, read one by one
 pub three : (ns : Names) (a b c : ℕ) → length ns ≡ 3 → names_of (get_or ns 0 a) (get_or ns 1 b) (get_or ns 2 c) ≡ ns

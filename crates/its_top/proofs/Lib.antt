@@ -5,6 +5,8 @@ pub mod AnswerLaws
 pub mod PerformLaws
 pub mod ExamLaws
 pub mod FewDotsLaws
+pub mod LeavingLaws
+pub mod SilentLaws
 pub mod TopLaws
 pub mod PaceLaws
 pub mod LoadingLaws

@@ -96,6 +96,7 @@ then_fits (Ok e) rest h k = (h, k e)
 then_fits (Err bad) rest h k = (tt, tt)
 
 end_fits : (whole : Bool) (place : Place) → AllFit (end_of whole place)
+end_fits true places.System = (tt, tt)
 end_fits true places.Load = (tt, tt)
 end_fits true places.File = (tt, tt)
 end_fits true places.First = tt

@@ -56,8 +56,8 @@ unfolding lined operate after_calm
 end_file_performed b w = does (state_of w) (state_of w) (state_of w).raw b b events.EndFile shows.Nothing w nobody
     (record { calm = refl; is = refl }) refl tt
 
-pub end_performed : (v : State) (b b' : Block) (w : World) → Performed (Err overs.Ended) v b events.End w b'
-end_performed v b b' w = ends v b b' w
+pub end_performed : (b b' : Block) (w : World) → Performed (Err overs.Ended) (state_of w) b events.End w b'
+end_performed b b' w = ends b b' w
 
 -- a line that shows nothing, by what its call answers
 silent_done : (v c : State) (b b' : Block) (e : Event) (w : World) (o : Result Machine Reason)

@@ -6,8 +6,10 @@ pub mod Counts
 pub mod Checking
 pub mod Assembling
 pub mod Verifying
+pub mod Leaving
 pub mod Performing
 pub mod Generating
+pub mod Silent
 pub mod Promise
 pub mod Outcomes
 pub mod Top

@@ -22,6 +22,7 @@ use Rattle.its_top.specs.declared.sessions.shown.Shown.TheVariants as shows
 use Rattle.its_top.specs.declared.sessions.flow.Flow.{Flow}
 use Rattle.its_top.specs.declared.sessions.flow.Flow.TheVariants as flows
 use Rattle.its_top.specs.Telling.{goes_on_after}
+use Rattle.its_top.specs.Leaving.{Left, line_left}
 
 -- the lines that are shown of a world
 abbrev pub lines_of : Shown → World → List Line
@@ -69,10 +70,17 @@ GoesBy (Ok s) e = goes_on_after e ≡ true
 GoesBy (Err overs.Ended) e = goes_on_after e ≡ false
 GoesBy (Err (overs.Refused r)) e = Unit {0}
 
+-- a line after which the session goes on leaves this world and block; END leaves all as it was
+abbrev pub LeavesBy : Result Shown Over → State → Block → Event → World → Block → Type 0
+LeavesBy (Ok s) v b e w b' = (stays : Left) (next : State → Block → Left) → line_left v b stays e next ≡ next (state_of w) b'
+LeavesBy (Err overs.Ended) v b e w b' = state_of w ≡ v
+LeavesBy (Err (overs.Refused r)) v b e w b' = Unit {0}
+
 -- in state v an event had this result; world w and block b' are left
 pub record Performed (r : Result Shown Over) (v : State) (b : Block) (e : Event) (w : World) (b' : Block) : Type 0 where
   pub tells : (n : ℕ) (next : State → Block → Told) → line_told n v b e next ≡ telling (lines_shown n r w) (told_behind r (next (state_of w) b'))
   pub goes : GoesBy r e
+  pub leaves : LeavesBy r v b e w b'
   pub ready : IfOk r (λ s. CanShow s w)
 
 -- the result of an event whose call answers nothing

@@ -12,5 +12,6 @@ pub mod progress;
 pub mod room;
 pub mod run;
 pub mod shown;
+pub mod silent;
 pub mod ticking;
 pub mod writing;

@@ -63,7 +63,7 @@ pub fn add_words(m: &mut Monitor, names: [Word; 3], words: &[Word]) -> Result<()
     Ok(())
 }
 
-/// One of them, if there is a file with these names.
+/// One of them. NoFile if there is no file with these names.
 #[tactic(auto, using(crate::proofs::FilingLaws::adds_file, crate::proofs::FilingLaws::adds_done, crate::proofs::FilingLaws::adds_refused, crate::proofs::FilingLaws::adds_nothing))]
 fn add_word(m: &mut Monitor, names: [Word; 3], w: Word) -> Result<(), Refusal>
     requires sound { Kept m.old.world }
@@ -74,7 +74,7 @@ fn add_word(m: &mut Monitor, names: [Word; 3], w: Word) -> Result<(), Refusal>
     let [d, x, y] = names;
     match m.file(d, x, y) {
         Ok(id) => m.file_add(id, w),
-        Err(_) => Ok(()),
+        Err(e) => Err(e),
     }
 }
 

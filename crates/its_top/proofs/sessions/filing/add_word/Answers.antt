@@ -21,9 +21,10 @@ returns-in-Ok-clause-refused c =
     subst (λ n. IfErr c.file_add.result (λ r. with_word_added v.raw n c.args.w ≡ Err (reason_of r))) names
     (adds_refused c.args.m.now.world c.file.new.self.world c.file.ensures.state c.file.ensures.files _ _ _ _ c.in-Ok.ensures.found c.file_add.ensures.refused)
 
-pub returns-in-Err-clause-done : goal.returns-in-Err-clause-done
-returns-in-Err-clause-done c =
+pub returns-in-Err-clause-refused : goal.returns-in-Err-clause-refused
+returns-in-Err-clause-refused c =
     let names = three c.args.names _ _ _ (omega arith) in
     let v = help (state_of c.args.m.now.world) in
-    subst (λ n. Lands v (state_of c.file.new.self.world) (with_word_added v.raw n c.args.w)) names
-    (adds_nothing c.args.m.now.world c.file.new.self.world c.file.ensures.state c.file.ensures.files _ _ c.in-Err.ensures.refused.1)
+    subst (λ n. with_word_added v.raw n c.args.w ≡ Err (reason_of c.in-Err.e)) names
+    (adds_nothing c.args.m.now.world c.file.new.self.world c.file.ensures.state c.file.ensures.files _ _ _ c.in-Err.ensures.refused.0
+    c.in-Err.ensures.refused.1)

@@ -52,7 +52,7 @@ pub returns-in-Run-clause-performed : goal.returns-in-Run-clause-performed
 returns-in-Run-clause-performed c = at_event _ _ _ _ _ _ _ c.in-Run.is (run_performed _ _ _ _)
 
 pub returns-in-End-clause-performed : goal.returns-in-End-clause-performed
-returns-in-End-clause-performed c = at_event _ _ _ _ _ _ _ c.in-End.is (end_performed _ _ _ _)
+returns-in-End-clause-performed c = at_event _ _ _ _ _ _ _ c.in-End.is (end_performed _ _ _)
 
 pub returns-in-Version-clause-performed : goal.returns-in-Version-clause-performed
 returns-in-Version-clause-performed c = at_event _ _ _ _ _ _ _ c.in-Version.is (version_performed _ _ _ _ c.version.ensures.done)

@@ -1,4 +1,4 @@
-use Rattle.std.proofs.Common.{◌≤◌, ◌∙◌, ℕ, List, ap, arith, length, subst, sym}
+use Rattle.std.proofs.Common.{◌≤◌, ◌∙◌, ap, arith, length, subst, sym}
 use Rattle.its_print.specs.Printing.{Ticks}
 use Rattle.its_print.specs.Runs.{paces_in}
 use Rattle.its_top.proofs.PerformLaws.{ticks_performed}
