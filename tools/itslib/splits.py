@@ -51,6 +51,9 @@ OTHER = {
     "its_top/specs/Telling.antt": {KIND: "goes_on_after"},
     # what may follow a session may follow the lines that its machine is saved in
     "its_saved/specs/GoingOn.antt": {WALK: "ReadAt"},
+    # the state that a session leaves, and the lines of the state part obeyed one by one
+    "its_top/specs/Leaving.antt": {WALK: "left", EFFECT: "left_by"},
+    "its_saved/specs/Text.antt": {EFFECT: "Obeys"},
     # what the numbers of a line may be, and the generated session
     "its_session/specs/Fits.antt": {KIND: "EventFits place_of Stands"},
     "its_session/specs/Generated.antt": {KIND: "IsGenerated"},

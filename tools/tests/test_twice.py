@@ -1,4 +1,4 @@
-"""tools/twice: the runs of lines that are the same on both sides, and the table of their reasons."""
+"""tools/twice: the runs of lines that are the same on both sides, and the list of their reasons."""
 
 import os
 import tempfile
@@ -15,10 +15,10 @@ BODY = "    let a = 1;\n    let b = 2;\n    let c = 3;\n    let d = 4;\n    a + 
 MONITOR = "//! One.\nuse its_word::Word;\n\n/// Adds.\nfn sum(n: u8) -> u8\n    requires { n < 2 }\n{\n" + BODY + "}\n"
 CHECKER = "ghost use Rattle.x.{y};\nuse its_core::Core;\n\nimpl Plain {\n/// Adds as well.\n#[tactic(auto)]\nfn sum(n: u8) -> u8\n    ensures { result\n      ≡ n }\n{\n\n" + BODY + "}\n}\n"
 RECORD = "-- only one is another\npub record One (old new : X) : Type 0 where\n" + "".join("  pub %s : new.%s ≡ old.%s\n" % (3 * (x,)) for x in "abcde")
-TABLE = "\n\nWords.\n\n| What | One | Other | Why |\n|---|---|---|---|\n%s\n"
-CHANCE = REAL.CONSTANTS + "\n\n| Which | Why |\n|---|---|\n"
-PAGE = "# Decisions\n\n%s" + TABLE + REAL.BODIES + TABLE % "" + CHANCE + "\n### More\n\n| a | b | c | d |\n"
-ROW = "| `sum` | `crates/its_world/src/a.rt` | `crates/its_direct/src/b.rt` | It has to be. |\n"
+BODIES = "\n# Bodies.\n[bodies]\n"
+CHANCE = "\n[constants]\n"
+REASONS = "# Words.\n[%s]\n%s" + BODIES + CHANCE
+ROW = "sum | crates/its_world/src/a.rt | crates/its_direct/src/b.rt | It has to be.\n"
 ALIKE = "crates/its_world/src/a.rt:5 sum and crates/its_direct/src/b.rt:7 sum: 100 of 100 words are the same"
 SAID = "crates/its_world/src/a.rt:5-12 and crates/its_direct/src/b.rt:7-16 have 6 lines in common (sum)"
 
@@ -96,28 +96,28 @@ class Bodies(unittest.TestCase):
 
 
 class Reasons(unittest.TestCase):
-    """The table."""
+    """The list."""
 
     def test_rows(self):
-        self.assertEqual(REAL.reasons_of(PAGE % (REAL.HEADING, "| `a`, `b` | `x` | `y` | why |\n")), [(["a", "b"], "x", "y")])
-        self.assertEqual(REAL.reasons_of(PAGE % (REAL.HEADING, "")), [])
+        self.assertEqual(REAL.reasons_of(REASONS % (REAL.LINES, "a, b | x | y | why\n")), [(["a", "b"], "x", "y")])
+        self.assertEqual(REAL.reasons_of(REASONS % (REAL.LINES, "")), [])
 
     def test_refused(self):
-        for row in ("| `a` | `x` | `y` | |", "| `a` | `x` | why |"):
-            with self.assertRaisesRegex(REAL.Wrong, "is no row"):
-                REAL.reasons_of(PAGE % (REAL.HEADING, row + "\n"))
-        with self.assertRaisesRegex(REAL.Wrong, "there is no '### The same"):
-            REAL.reasons_of(PAGE % ("### Others", ROW))
+        for row in ("a | x | y | ", "a | x | why"):
+            with self.assertRaisesRegex(REAL.Wrong, "is no line of what"):
+                REAL.reasons_of(REASONS % (REAL.LINES, row + "\n"))
+        with self.assertRaisesRegex(REAL.Wrong, r"there is no \[lines\]"):
+            REAL.reasons_of(REASONS % ("others", ROW))
 
 
 class Calls(unittest.TestCase):
     """The tool on a repository."""
 
     def told(self, rows, monitor=MONITOR, *words, bodies=ROW, checker=CHECKER, chance=""):
-        """What the tool says of a repository with these rows, these texts of both machines, and these rows of bodies and of constants."""
-        page = (PAGE % (REAL.HEADING, rows)).replace(REAL.BODIES + TABLE % "", REAL.BODIES + TABLE % bodies).replace(CHANCE, CHANCE + chance)
+        """What the tool says of a repository with these reasons, these texts of both machines, and these reasons of bodies and of constants."""
+        reasons = (REASONS % (REAL.LINES, rows)).replace(BODIES, BODIES + bodies).replace(CHANCE, CHANCE + chance)
         files = {"crates/its_world/src/a.rt": monitor, "crates/its_world/src/a/tests.rt": CHECKER, "crates/its_direct/src/b.rt": checker,
-                 "crates/its_direct/src/b.antt": MONITOR, "docs/DECISIONS.md": page}
+                 "crates/its_direct/src/b.antt": MONITOR, "tools/twice.txt": reasons}
         with tempfile.TemporaryDirectory() as top, mock.patch.object(REAL, "TOP", top):
             for name, text in files.items():
                 os.makedirs(os.path.dirname(os.path.join(top, name)), exist_ok=True)
@@ -139,7 +139,7 @@ class Calls(unittest.TestCase):
 
     def test_bodies(self):
         self.assertEqual(self.told(ROW, bodies=""), (1, ALIKE + "\n", ""))
-        said = "docs/DECISIONS.md: 'other' is not alike in crates/its_world/src/a.rt and crates/its_direct/src/b.rt\n"
+        said = "tools/twice.txt: 'other' is not alike in crates/its_world/src/a.rt and crates/its_direct/src/b.rt\n"
         self.assertEqual(self.told(ROW, bodies=ROW + ROW.replace("sum", "other")), (1, said, ""))
 
     def test_constants(self):
@@ -153,19 +153,19 @@ class Calls(unittest.TestCase):
         by_value, by_name = CHECKER + "const C: usize = 0o1_000;\n", CHECKER + "const A: u32 = 7;\n"
         self.assertEqual(self.told(ROW, MONITOR + one, "--constants", checker=by_value), (1, alike % "C = 0o1000" + "\n", ""))
         self.assertEqual(self.told(ROW, MONITOR + one, "--constants", checker=by_name), (1, alike % "A = 7" + "\n", ""))
-        row = "| `its_world::A`, `its_direct::C` | a size, and a mask |\n"
+        row = "its_world::A, its_direct::C | a size, and a mask\n"
         self.assertEqual(self.told(ROW, MONITOR + one, "--constants", checker=by_value, chance=row), (0, "", ""))
         self.assertEqual(self.told(ROW, MONITOR + one, "--constants", "--all", checker=by_value, chance=row),
                          (0, alike % "C = 0o1000" + ": by chance\n", ""))
-        stale = "docs/DECISIONS.md: 'its_direct::C, its_world::A' are not alike in several files\n"
+        stale = "tools/twice.txt: 'its_direct::C, its_world::A' are not alike in several files\n"
         self.assertEqual(self.told(ROW, MONITOR + one, "--constants", chance=row), (1, stale, ""))
-        self.assertIn("is no row of which and why", self.told(ROW, MONITOR + one, "--constants", chance="| `its_world::A` | |\n").said)
+        self.assertIn("is no line of which and why", self.told(ROW, MONITOR + one, "--constants", chance="its_world::A | \n").said)
 
     def test_constants_of_the_repository(self):
         self.assertEqual(called(REAL, "--constants"), (0, "", ""))
 
     def test_a_reason_for_nothing(self):
-        said = "docs/DECISIONS.md: 'sum' is not the same in crates/its_world/src/a.rt and crates/its_direct/src/b.rt\n"
+        said = "tools/twice.txt: 'sum' is not the same in crates/its_world/src/a.rt and crates/its_direct/src/b.rt\n"
         self.assertEqual(self.told(ROW, MONITOR.replace("a + b", "b + a")), (1, said, ""))
 
     def test_help(self):
