@@ -21,6 +21,7 @@ PAGE = os.path.join(TOP, "docs", "its.html")
 ENTRIES = ["page/page.js", "page/answers.js"]     # of the page itself, and of its worker
 GZIP = 16 + zlib.MAX_WBITS       # packs as gzip does, without a time, and alike in each version of Python
 ITEM = '<script type="application/json" id="%s">\n%s\n</script>'
+MOST_BYTES = 1_200_000           # of the page
 
 
 def examples() -> List[dict]:
@@ -65,20 +66,50 @@ def as_json(value: object) -> str:
     return json.dumps(value, separators=(",", ":")).replace("<", "\\u003c")
 
 
+def packed(content: bytes) -> str:
+    """Bytes as they are in the page."""
+    packer = zlib.compressobj(9, zlib.DEFLATED, GZIP)
+    return base64.b64encode(packer.compress(content) + packer.flush()).decode()
+
+
+def unpacked(pack: str) -> bytes:
+    """Such bytes again."""
+    return gzip.decompress(base64.b64decode(pack))
+
+
 def module_of(module: bytes, built: Dict[str, object]) -> dict:
     """A module in the page: its source, its sum, and its bytes, packed."""
-    packer = zlib.compressobj(9, zlib.DEFLATED, GZIP)
-    packed = packer.compress(module) + packer.flush()
-    return {**built, "sum": hashlib.sha256(module).hexdigest(), "bytes": base64.b64encode(packed).decode()}
+    return {**built, "sum": hashlib.sha256(module).hexdigest(), "bytes": packed(module)}
+
+
+def texts() -> dict:
+    """The texts of the page: the examples, the tasks, and the transcripts of other monitors."""
+    return {"examples": examples(), "tasks": tasks(), "others": wrong.examples()}
+
+
+def pack_of(content: bytes) -> str:
+    """The texts, packed: as the stored page has them if they are the same, since another zlib may pack them otherwise."""
+    try:
+        kept = item(stored(), "texts")
+        return kept if unpacked(kept) == content else packed(content)
+    except Wrong:
+        return packed(content)
 
 
 def page(module: dict) -> str:
     """The page with a module."""
-    parts = {"/* style */": part("page.css"), "/* modules */": joined(ENTRIES),
-             "<!-- module -->": as_json(module),
-             "<!-- examples -->": as_json(examples()), "<!-- tasks -->": as_json(tasks()), "<!-- others -->": as_json(wrong.examples())}
+    parts = {"/* style */": part("page.css"), "/* modules */": joined(ENTRIES), "<!-- module -->": as_json(module),
+             "<!-- texts -->": as_json(pack_of(as_json(texts()).encode()))}
     marks = "|".join(map(re.escape, parts))
     return re.sub(marks, lambda mark: parts[mark.group()].rstrip("\n"), part("page.html"))
+
+
+def fit(text: str) -> None:
+    """Refuses a page that is too large, and says what takes its room."""
+    size, some = len(text.encode()), {name: len(as_json(item(text, name))) for name in ("module", "texts")}
+    if size > MOST_BYTES:
+        raise Wrong("docs/its.html has %d bytes, and may have %d: the module takes %d, the texts %d, the scripts, the style and the rest %d"
+                    % (size, MOST_BYTES, some["module"], some["texts"], size - sum(some.values())))
 
 
 def item(text: str, name: str) -> Any:
@@ -100,4 +131,4 @@ def stored() -> str:
 
 def module_in(text: str) -> bytes:
     """The WebAssembly module of a page."""
-    return gzip.decompress(base64.b64decode(item(text, "module")["bytes"]))
+    return unpacked(item(text, "module")["bytes"])

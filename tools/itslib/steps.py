@@ -38,7 +38,7 @@ SETTLED = """new Promise(resolve => {
   look();
 })"""
 # What the page and its parts are called, and whether it has drawn the moment at which its reader is
-NAMED = "void Object.assign(globalThis, its)"
+NAMED = "its.then(parts => void Object.assign(globalThis, parts))"
 DRAWN = "page.shown && page.shown.moments && !doing.isRunning && !page.isAsking && page.now && page.drawn === page.moment"
 VIEWS = """(async () => {
   const views = [];

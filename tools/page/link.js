@@ -4,36 +4,13 @@ import {byId, copy, alertOf, itemOf} from "./dom.js";
 import {fields} from "./field.js";
 import {keepLater, kept, names} from "./keeping.js";
 import {setSession} from "./editor.js";
+import {fromLink, toLink} from "./packing.js";
 import {IDEA, act, exampleOf, examples, page} from "./state.js";
 import {openTask, taskName} from "./tasks.js";
 import {Wrong, countOf} from "../lib/words.js";
 
-/** @type {*} */
-const streams = globalThis;              // whose types do not have the streams that pack
 const LONGEST_LINK = 24000;              // characters of a session that a link carries
 const packed = itemOf("packed");         // the session that the page was packed with
-
-/** Bytes through a stream that packs or unpacks them.
- * @param {*} stream
- * @param {Uint8Array} bytes */
-async function through(stream, bytes) {
-  const blob = new Blob([/** @type {*} */ (bytes)]);
-  return new Uint8Array(await new Response(blob.stream().pipeThrough(stream)).arrayBuffer());
-}
-
-/** A text packed for an address.
- * @param {string} text */
-async function toLink(text) {
-  const bytes = await through(new streams.CompressionStream("deflate-raw"), new TextEncoder().encode(text));
-  return btoa(Array.from(bytes, byte => String.fromCharCode(byte)).join("")).replace(/\+/g, "-").replace(/\//g, "_").replace(/=+$/, "");
-}
-
-/** Such a text again.
- * @param {string} link */
-async function fromLink(link) {
-  const bytes = Uint8Array.from(atob(link.replace(/-/g, "+").replace(/_/g, "/")), one => one.charCodeAt(0));
-  return new TextDecoder().decode(await through(new streams.DecompressionStream("deflate-raw"), bytes));
-}
 
 /** What the address says: the session, the moment, who is looked at, and the words that are watched. While a task is worked on, the task alone. */
 export async function hashOf() {

@@ -1,12 +1,13 @@
 // The page: what it shows now, for all its parts.
 
-import {itemOf} from "./dom.js";
+import {texts} from "./texts.js";
 import {Program} from "./worker.js";
 
 /** @typedef {import("./looks.js").View} View */
 /** @typedef {import("./steps.js").Moment} Moment */
 /** @typedef {import("./running.js").Part} Part */
 /** @typedef {import("./sources.js").Placed} Placed */
+/** @typedef {import("./texts.js").PackedTask} PackedTask */
 
 /** The session that is shown: its name and text, its lines in parts, its moments once they are found, its picture, and the assembly texts of
  * its jobs.
@@ -15,16 +16,8 @@ import {Program} from "./worker.js";
 
 export const program = new Program();
 
-/** The examples, each with its name and its text.
- * @type {{name: string, text: string}[]} */
-export const examples = itemOf("example-texts");
-
-/** A task of labs/: its page, its public checks, and the texts beside them, each as its name and its text.
- * @typedef {{name: string, page: string, checks: [string, string][], texts: [string, string][]}} PackedTask */
-
-/** The tasks.
- * @type {PackedTask[]} */
-export const tasks = itemOf("task-texts");
+/** The examples, and the tasks. */
+export const examples = texts.examples, tasks = texts.tasks;
 
 /** What the page shows: the session, what holds at the moment that is drawn, the moment at which its reader is, which slots are looked at,
  * and the addresses that are shown in addition. */

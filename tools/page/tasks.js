@@ -11,7 +11,7 @@ import {act, page, program, startOf, tasks} from "./state.js";
 import {bodyOf, titleOf} from "./task_text.js";
 
 /** @typedef {import("../lib/grading.js").Verdict} Verdict */
-/** @typedef {import("./state.js").PackedTask} PackedTask */
+/** @typedef {import("./texts.js").PackedTask} PackedTask */
 
 const LAST = 1e6;                        // a moment after each other one, so that the last one is shown
 

@@ -3,15 +3,12 @@
 import {decoded} from "../lib/bytes.js";
 import {atLine} from "../lib/session.js";
 import {countOf} from "../lib/words.js";
-import {byId, element, itemOf, on, tried} from "./dom.js";
+import {byId, element, on, tried} from "./dom.js";
 import {STATUS} from "../lib/engine.js";
 import {beginningOf, fields} from "./field.js";
 import {asked, give, isOwn, replace} from "./keeping.js";
 import {exampleOf, program} from "./state.js";
-
-/** The transcripts of other monitors: a name, the session, the transcript, and a sentence that says what is wrong with that monitor.
- * @type {{name: string, session: string, transcript: string, about: string}[]} */
-const others = itemOf("other-transcripts");
+import {texts} from "./texts.js";
 
 /** What was verified last is stale: a text was changed. */
 function stale() {
@@ -95,7 +92,7 @@ export function judge(name, session, transcript) {
 /** Takes an example: a session with the transcript of this program, or that of another monitor.
  * @param {string} name */
 function take(name) {
-  const other = others.find(one => one.name === name);
+  const other = texts.others.find(one => one.name === name);
   byId("verify-about").textContent = other ? other.about : "";
   if (!other) tried(() => putOwn(name, exampleOf(name)));
   else {
@@ -118,7 +115,7 @@ function fillExamples(sessions) {
     list.append(...names.map(name => new Option(name.replace(/\.its$/, ""), name)));
     return names.length ? [list] : [];
   };
-  menu.replaceChildren(new Option("(own)", ""), ...group("Monitors that are wrong", others.map(one => one.name)),
+  menu.replaceChildren(new Option("(own)", ""), ...group("Monitors that are wrong", texts.others.map(one => one.name)),
                        ...group("This program", sessions));
 }
 

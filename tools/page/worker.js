@@ -3,6 +3,7 @@
 
 import {Wrong} from "../lib/words.js";
 import {Stopped, byId, itemOf} from "./dom.js";
+import {unpacked} from "./packing.js";
 
 const PATIENCE = 250;                    // milliseconds, before a question is shown to take its time
 const BEGIN = '\n$("page/answers.js").serve(self);';      // what a worker does with the scripts of the page
@@ -13,20 +14,13 @@ export const built = itemOf("module");
 /** A question that waits for its answer.
  * @typedef {{resolve: (answer: *) => void, reject: (problem: Error) => void, words: string, since: number, more: string}} Waiting */
 
-/** The bytes of the module, which the page has packed. */
-async function moduleBytes() {
-  const packed = Uint8Array.from(atob(built.bytes), one => one.charCodeAt(0));
-  const stream = new Blob([packed]).stream().pipeThrough(new (/** @type {*} */ (globalThis).DecompressionStream)("gzip"));
-  return new Uint8Array(await new Response(stream).arrayBuffer());
-}
-
 /** The program in its worker. */
 export class Program {
   constructor() {
     /** @type {Map<number, Waiting>} */
     this.waiting = new Map();
     this.asked = 0;
-    this.bytes = moduleBytes();
+    this.bytes = unpacked(built.bytes);
     this.worker = this.begin();
     this.ready = this.opened();
     setInterval(() => this.showBusy(), 100);

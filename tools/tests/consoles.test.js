@@ -12,12 +12,13 @@ import {Rounds} from "../lib/rounds.js";
 import {split} from "../lib/session.js";
 import {counted} from "../lib/words.js";
 import {system} from "./evening.js";
-import {GIVEN, byId, elements} from "./page_substitute.js";
+import {byId, elements} from "./page_substitute.js";
+import {texts} from "../page/texts.js";
 import {pause} from "./people.js";
 
 const PATIENCE_MS = 20000;
 const programs = readdirSync(path.join(TOP, "system")).filter(name => name.endsWith(".asm"));
-GIVEN["example-texts"] = JSON.stringify(programs.map(name => ({name: "system/" + name, text: readFileSync(path.join(TOP, "system", name), "latin1")})));
+texts.examples = programs.map(name => ({name: "system/" + name, text: readFileSync(path.join(TOP, "system", name), "latin1")}));
 
 const {Answers} = /** @type {any} */ (await import("../page/answers.js"));
 const {Stopped} = /** @type {any} */ (await import("../page/dom.js"));

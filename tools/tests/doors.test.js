@@ -7,11 +7,11 @@ import path from "node:path";
 import {test} from "node:test";
 
 import {verdictLine} from "../lib/grading.js";
-import {moduleInPage, storedPage} from "../lib/node/page.js";
+import {moduleInPage} from "../lib/node/page.js";
 import {TOP} from "../lib/node/program.js";
 import {reportOf, taskOf} from "../lib/node/tasks.js";
 import {Answers} from "../page/answers.js";
-import {textOf} from "./page.js";
+import {textOf, textsInPage} from "./page.js";
 import {calledWith, put} from "./shared.js";
 
 const answers = new Answers(() => {});
@@ -60,7 +60,7 @@ test("A transcript that is wrong: the page says what explain says", async () => 
 });
 
 /** The tasks that the page has. */
-const TASKS = JSON.parse(/** @type {string[]} */ (/ id="task-texts">\n(.*)\n/.exec(storedPage()))[1]);
+const TASKS = textsInPage().tasks;
 
 /** What the page finds of a text by the checks of a task.
  * @param {{checks: [string, string][], texts: [string, string][]}} task

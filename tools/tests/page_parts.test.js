@@ -4,10 +4,11 @@
 import assert from "node:assert";
 import {test} from "node:test";
 
-import {GIVEN, byId, posted, settle, workers} from "./page_substitute.js";
+import {byId, posted, settle, workers} from "./page_substitute.js";
+import {texts} from "../page/texts.js";
 
 const JOB = "LOAD U J 0\n100/ 254000000100\nGO 100\n";
-GIVEN["example-texts"] = JSON.stringify([{name: "old.its", text: "VERSION 002\n" + JOB + "TICK 0 1\nEND\n"}, {name: "edit.its", text: JOB}]);
+texts.examples = [{name: "old.its", text: "VERSION 002\n" + JOB + "TICK 0 1\nEND\n"}, {name: "edit.its", text: JOB}];
 
 const {program} = /** @type {any} */ (await import("../page/state.js"));
 const {Program} = /** @type {any} */ (await import("../page/worker.js"));

@@ -1,12 +1,11 @@
 // For tests of parts of the page by node: a substitute for the document and for the worker. Modules of
-// the page are imported after this one, and after the values are given that the page is packed with.
+// the page are imported after this one, and after the values and texts are given that the page is packed with.
 
 import {gzipSync} from "node:zlib";
 
 /** The values that the page is packed with, by their names.
  * @type {Record<string, string>} */
-export const GIVEN = {module: JSON.stringify({bytes: gzipSync("module").toString("base64")}), "task-texts": "[]", "example-texts": "[]",
-                      "other-transcripts": "[]"};
+export const GIVEN = {module: JSON.stringify({bytes: gzipSync("module").toString("base64")})};
 
 /** An element that keeps what is put into it, and calls those who listen. */
 class Fake {
@@ -37,6 +36,7 @@ class Fake {
   after() {}
   remove() {}
   focus() {}
+  scrollIntoView() {}
   setAttribute() {}
   removeAttribute() {}
   getAttribute() { return null; }

@@ -1,5 +1,8 @@
 """The page docs/its.html: its parts, its module, and a session in it."""
 
+import base64
+import gzip
+import json
 import os
 import unittest
 from unittest import mock
@@ -18,7 +21,7 @@ class Pages(unittest.TestCase):
     def test_stored(self):
         text = page.stored()
         self.assertTrue(page.module_in(text).startswith(b"\0asm"))
-        self.assertIn(page.as_json(page.examples()), text)
+        self.assertEqual(page.unpacked(page.item(text, "texts")), page.as_json(page.texts()).encode())
         programs = [one for one in page.examples() if one["name"].startswith("system/")]
         self.assertEqual({one["name"] for one in programs}, {"system/%s.asm" % name for name in ("calc", "edit", "hactrn", "mail", "talk")})
         self.assertEqual(programs[0]["text"], text_of(programs[0]["name"]))
@@ -27,8 +30,7 @@ class Pages(unittest.TestCase):
 
     def test_tasks(self):
         """The page has the tasks as students have them, without the folder of those who teach."""
-        tasks = page.item(page.stored(), "task-texts")
-        self.assertEqual(tasks, page.tasks())
+        tasks = json.loads(page.unpacked(page.item(page.stored(), "texts")))["tasks"]
         self.assertEqual([one["name"][0] for one in tasks], list("12345678"))
         for one in tasks:
             folder = os.path.join(TOP, "labs", one["name"])
@@ -51,6 +53,29 @@ class Pages(unittest.TestCase):
         self.assertEqual(page.module_of(page.module_in(page.stored()), {})["bytes"], stored["bytes"])
         text = page.page(made)
         self.assertEqual((page.item(text, "module"), page.module_in(text)), (made, b"\0asm" * 100))
+
+    def test_a_pack(self):
+        """The pack of a page stays as another zlib has made it, until its texts change."""
+        kept = base64.b64encode(gzip.compress(b"texts", 1)).decode()
+        stored = page.ITEM % ("texts", page.as_json(kept))
+        with mock.patch.object(page, "stored", lambda: stored):
+            self.assertEqual([page.pack_of(b"texts") == kept, page.pack_of(b"others") == page.packed(b"others")], [True, True])
+        with mock.patch.object(page, "stored", lambda: "<html>"):
+            self.assertEqual(page.pack_of(b"texts"), page.packed(b"texts"))
+        self.assertEqual(page.unpacked(page.packed(b"texts")), b"texts")
+
+    def test_the_size(self):
+        """A page that is too large is refused, with what takes its room."""
+        text = page.stored()
+        page.fit(text)
+        size, most = len(text.encode()), page.MOST_BYTES
+        page.fit(text + " " * (most - size))
+        large = text + " " * (most - size + 1)
+        with self.assertRaisesRegex(Wrong, "^docs/its.html has 1200001 bytes, and may have 1200000: the module takes [0-9]+, the texts [0-9]+, the scripts"):
+            page.fit(large)
+        for word in ("--packed", "--check"):
+            with mock.patch.object(WEB, "stored", lambda: large), mock.patch("sys.argv", ["web", word]):
+                self.assertRaisesRegex(Wrong, "1200001 bytes", WEB.main)
 
     def test_a_fresh_build(self):
         text = page.stored()

@@ -24,13 +24,17 @@ export function storedPage() {
   }
 }
 
-/** The WebAssembly module of the page. */
-export function moduleInPage() {
-  const text = storedPage(), [before, after] = item("module", "\n").split("\n\n\n"), start = text.indexOf(before);
+/** A value that the stored page has, by its name.
+ * @param {string} name */
+export function valueInPage(name) {
+  const text = storedPage(), [before, after] = item(name, "\n").split("\n\n\n"), start = text.indexOf(before);
   if (start < 0) throw new Wrong(PAGE + " is no page that tools/web made");
   const from = start + before.length + 1;
-  return gunzipSync(Buffer.from(JSON.parse(text.slice(from, text.indexOf("\n" + after, from))).bytes, "base64"));
+  return JSON.parse(text.slice(from, text.indexOf("\n" + after, from)));
 }
+
+/** The WebAssembly module of the page. */
+export function moduleInPage() { return gunzipSync(Buffer.from(valueInPage("module").bytes, "base64")); }
 
 /** The page with a session, which it opens. Of each job the words at `watch` are shown, too.
  * @param {string} name
