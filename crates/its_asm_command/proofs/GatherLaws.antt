@@ -7,6 +7,7 @@ use Rattle.std.proofs.lemmas.Bool.Decides.{nat_tests}
 use Rattle.std.proofs.lemmas.List.{length-append}
 use Rattle.its_io.specs.declared.stream.Failed.{Failed}
 use Rattle.its_session.specs.Events.{most_lines, lines_from}
+use Rattle.its_session.proofs.TextLaws.{clean}
 use Rattle.its_reader.specs.declared.lines.Lines.{Lines}
 use Rattle.its_reader.specs.declared.lines.Next.TheVariants as nexts
 use Rattle.its_reader.specs.Bytes.{pending}
@@ -18,7 +19,7 @@ use Rattle.its_asm_command.specs.declared.text.Unread.{Unread}
 use Rattle.its_asm_command.specs.declared.text.Unread.TheVariants as unreads
 use Rattle.its_asm_command.specs.Text.{Assembles, Gathered, LinesSo, StandsFor, joined, read_whole}
 use Rattle.its_asm_command.specs.Past.{runs_past}
-use Rattle.its_asm_command.proofs.TextLaws.{all_clean, clean, clean_prefix, joined_lines, joined_last, joined_more, same_lines}
+use Rattle.its_asm_command.proofs.TextLaws.{all_clean, clean_prefix, joined_lines, joined_last, joined_more, same_lines}
 use Rattle.its_asm_command.proofs.LongLaws.{assembly_by, assembly_long, few_lines, long_within, none_assembled, past_lines, short_more}
 
 -- no line yet

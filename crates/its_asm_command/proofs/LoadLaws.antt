@@ -27,7 +27,7 @@ use Rattle.its_plain.specs.Operator.Symbols.{with_symbol_kept}
 use Rattle.its_plain.specs.Operator.Version.{with_version}
 use Rattle.its_plain.specs.Operator.Lines.{Done, lined, operate}
 use Rattle.its_plain.specs.Transcript.{Ended, Fate, Shows, Transcript, Walk, at_start, end_line, next_line, obeyed_line, walk_after, Turned, all_made}
-use Rattle.its_plain.specs.Transcript.Turns.{highest, turns_asked, ticks_asked}
+use Rattle.its_plain.specs.Transcript.Turns.{highest, turn_kept, turns_asked, ticks_asked}
 use Rattle.its_plain.specs.Transcript.Course.{course, run_of}
 use Rattle.its_asm.specs.declared.assembly.Image.{Image}
 use Rattle.its_asm_command.specs.Image.{CellFits, ImageFits, rises, rises_from}
@@ -58,13 +58,15 @@ ran_then u v w a b r s =
       last = λ rest lines. ap (λ x. (course u highest x lines).last) (sym (e rest)) ∙ r.last (map Read b ++ rest) lines ∙ s.last rest lines;
     }
 
-ran_one : (v : Walk) (e : Event) (n : Machine) (touched : ℕ → Bool) (b : Block) → turns_asked e ≡ 0 → lined v.machine v.block e ≡ Done (Does n [] touched b)
+ran_one : (v : Walk) (e : Event) (n : Machine) (touched : ℕ → Bool) (b : Block) → turns_asked e ≡ 0 → turn_kept highest e ≡ highest
+    → lined v.machine v.block e ≡ Done (Does n [] touched b)
     → Ran v (next_line (walk_after v n touched b)) (e ∷ [])
-ran_one v e n touched b none h = record {
+ran_one v e n touched b none keeps h = record {
   shows = λ rest lines fate s.
       (let w = next_line (walk_after v n touched b) in
-      obeyed_line h refl (subst (λ (k : ℕ). Turned (ticks_asked e) k w highest lines w highest lines) (sym none) all_made) s);
-  last = λ rest lines. rw (h, none) refl;
+      obeyed_line h refl (subst (λ (i : ℕ). Turned (ticks_asked e) (turns_asked e) w i lines w highest lines) (sym keeps)
+      (subst (λ (k : ℕ). Turned (ticks_asked e) k w highest lines w highest lines) (sym none) all_made)) s);
+  last = λ rest lines. rw (h, none, keeps) refl;
 }
 
 -- slot 0 has the job that is being loaded, and no other slot has one
@@ -206,7 +208,7 @@ row_led j symbols cells a ws v h l =
     let k = line_kept j symbols cells a ws v.machine h.holds l in (
       next_line (walk_after v k.machine (only v.block.slot) v.block),
       record { holds = k.holds; slot = h.slot },
-      ran_one v (events.Words a (record { items = ws })) k.machine (only v.block.slot) v.block refl (rw h.slot (rw k.is refl)),
+      ran_one v (events.Words a (record { items = ws })) k.machine (only v.block.slot) v.block refl refl (rw h.slot (rw k.is refl)),
     )
 
 -- all of them
@@ -313,7 +315,7 @@ symbol_led j symbols cells a x v h l =
         };
         slot = h.slot;
       },
-      ran_one v (events.Symbol x.0 x.1) n nobody v.block refl
+      ran_one v (events.Symbol x.0 x.1) n nobody v.block refl refl
           (rw (h.slot, h.holds.stage.here) (rw (ap (λ y. nat_lt (length y) most_symbols) h.holds.stage.symbols_are ∙ room) refl)),
     )
 
@@ -339,7 +341,7 @@ unfolding lined operate with_version
 version_comes = ap (λ b. Done (Does (if b then record no_machine { version = 2 } else no_machine) [] nobody no_block)) empty_start
 
 version_ran : Ran at_start versioned_start (events.Version 2 ∷ [])
-version_ran = ran_one at_start (events.Version 2) (record no_machine { version = 2 }) nobody no_block refl version_comes
+version_ran = ran_one at_start (events.Version 2) (record no_machine { version = 2 }) nobody no_block refl refl version_comes
 
 abbrev job_made : ℕ → ℕ → Option ℕ → Machine
 job_made u j con = with_holder (with_new (record no_machine { version = 2 }) 0 (new_job u j con)) 0 con
@@ -385,7 +387,7 @@ go_led j symbols cells a start v h =
         };
         slot = h.slot;
       },
-      ran_one v (events.Go start) n (only v.block.slot) v.block refl (rw h.slot (rw h.holds.stage.here refl)),
+      ran_one v (events.Go start) n (only v.block.slot) v.block refl refl (rw h.slot (rw h.holds.stage.here refl)),
     )
 
 -- the whole session

@@ -10,6 +10,7 @@ use Rattle.its_chart.specs.Text.{is_mark}
 use Rattle.its_asm.specs.Text.{pieces}
 use Rattle.its_asm.specs.Assembly.{lines_of, whole_lines}
 use Rattle.its_session.specs.Events.{last_line, lines_from}
+use Rattle.its_session.proofs.TextLaws.{clean, over_line}
 use Rattle.its_asm_command.specs.Text.{joined}
 
 abbrev runs : List ℕ → List (List ℕ)
@@ -76,10 +77,7 @@ pub same_lines : (bytes : List ℕ) → lines_from true [] bytes ≡ lines_of by
 unfolding lines_of
 same_lines bytes = lines_are [] bytes ∙ ap whole_lines (fronted_none (runs bytes))
 
--- a line contains no LF
-abbrev pub clean : List ℕ → Bool
-clean line = list_all (λ b. not (b == 10)) line
-
+-- lines that contain no LF
 abbrev pub all_clean : List (List ℕ) → Bool
 all_clean lines = list_all clean lines
 
@@ -113,13 +111,6 @@ first_clean (l ∷ ls) more h = let p = both (clean l) (all_clean (ls ++ more)) 
 not_true : (t : Bool) → not t ≡ true → t ≡ false
 not_true true h = cc
 not_true false h = refl
-
-over_line : (kept line rest : List ℕ) → clean line ≡ true → lines_from true kept ((line ++ 10 ∷ []) ++ rest) ≡ (kept ++ line) ∷ lines_from true [] rest
-over_line kept [] rest h = ap (λ x. x ∷ lines_from true [] rest) (sym (append-nil kept))
-over_line kept (b ∷ bs) rest h =
-    let p = both (not (b == 10)) (clean bs) h in
-    let other : (b == 10) ≡ false = not_true (b == 10) p.0 in
-    rw other (over_line (kept ++ b ∷ []) bs rest p.1 ∙ ap (λ x. x ∷ lines_from true [] rest) (append_assoc kept (b ∷ []) bs))
 
 -- lines with their LF have these lines
 pub joined_from : (ls : List (List ℕ)) → all_clean ls ≡ true → lines_from true [] (joined ls) ≡ ls

@@ -1,11 +1,12 @@
 -- What is written of an assembled text: the session of its image, or the line that is refused
 -- (docs/ASM.md, "The command").
 -- A promise rests on this.
-use Rattle.std.specs.Prelude.{if◌then◌else◌, ◌==◌, ◌&&◌, ℕ, Bool, ◌+◌, Result, Ok, Err, List, [], ◌∷◌, ◌++◌, length, map, flat_map, nat_lt, codes}
+use Rattle.std.specs.Prelude.{if◌then◌else◌, ◌==◌, ◌&&◌, ℕ, Bool, ◌+◌, Result, Ok, Err, List, [], ◌∷◌, ◌++◌, length, map, nat_lt, codes}
 use Rattle.its_word.specs.Text.{digits_of, spaced}
 use Rattle.its_records.specs.declared.session.Event.{Event}
 use Rattle.its_records.specs.declared.session.Event.TheVariants as events
-use Rattle.its_session.specs.Writing.{text_of_event}
+pub use Rattle.its_session.specs.Writing.{event_line}
+unfoldable pub use Rattle.its_session.specs.Writing.{lines_text}
 use Rattle.its_asm.specs.declared.assembly.Image.{Image}
 use Rattle.its_asm.specs.declared.reason.AsmFault.{AsmFault}
 use Rattle.its_asm.specs.declared.reason.AsmFault.TheVariants.{Line, NoMemory}
@@ -36,13 +37,6 @@ symbol_lines symbols = map (λ s. events.Symbol s.0 s.1) symbols
 abbrev pub image_events : Image → List Event
 image_events i =
     events.Version 2 ∷ events.Load i.u i.j i.console ∷ (rows i.words ++ (symbol_lines i.symbols ++ (events.Go i.start ∷ events.End ∷ [])))
-
--- the lines of events, each with its LF
-abbrev pub event_line : Event → List ℕ
-event_line e = text_of_event e ++ 10 ∷ []
-
-unfoldable pub lines_text : List Event → List ℕ
-lines_text es = flat_map event_line es
 
 abbrev pub reason_word : AsmReason → List ℕ
 reason_word reasons.Long = codes "LONG"

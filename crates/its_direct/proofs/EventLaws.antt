@@ -46,11 +46,12 @@ use Rattle.its_direct.proofs.TouchLaws.{none_touched}
 abbrev Settled : Event → Type 0
 Settled e = (x : Spot) → place_after (spot_place x) e ≡ spot_place x
 
-settled : (e : Event) → place_after places.Plain e ≡ places.Plain → place_after places.Load e ≡ places.Load
-    → place_after places.File e ≡ places.File → Settled e
-settled e plain load file spots.Plain = plain
-settled e plain load file (spots.Load s) = load
-settled e plain load file (spots.File names) = file
+settled : (e : Event) → place_after places.Plain e ≡ places.Plain → place_after places.System e ≡ places.System
+    → place_after places.Load e ≡ places.Load → place_after places.File e ≡ places.File → Settled e
+settled e plain system load file spots.Plain = plain
+settled e plain system load file (spots.System s names) = system
+settled e plain system load file (spots.Load s) = load
+settled e plain system load file (spots.File names) = file
 
 stands_at : (e : Event) (old new : Plain) → Settled e → new.place ≡ old.place → spot_place new.place ≡ place_after (spot_place old.place) e
 stands_at e old new at same = ap spot_place same ∙ sym (at old.place)
@@ -88,25 +89,25 @@ pub told_int : (old new : Plain) (s v w : ℕ) (x : Result (Unit {0}) Refusal) �
     → IfErr x (λ z. on_registers (machine_of old) s (after_int v w) ≡ Err (reason_of z)) → Told (events.Int s v w) old new (answered x)
 unfolding lined operate
 told_int old new s v w x = told_operates (events.Int s v w) old new s (on_registers (machine_of old) s (after_int v w)) x (λ b at. refl)
-    (settled (events.Int s v w) refl refl refl)
+    (settled (events.Int s v w) refl refl refl refl)
 
 pub told_deposit : (old new : Plain) (s a w : ℕ) (x : Result (Unit {0}) Refusal) → OnOk x (Operates old new s (after_deposit (machine_of old) s a w))
     → IfErr x (λ z. after_deposit (machine_of old) s a w ≡ Err (reason_of z)) → Told (events.Deposit s a w) old new (answered x)
 unfolding lined operate
 told_deposit old new s a w x = told_operates (events.Deposit s a w) old new s (after_deposit (machine_of old) s a w) x (λ b at. refl)
-    (settled (events.Deposit s a w) refl refl refl)
+    (settled (events.Deposit s a w) refl refl refl refl)
 
 pub told_stop : (old new : Plain) (s : ℕ) (x : Result (Unit {0}) Refusal) → OnOk x (Operates old new s (on_registers (machine_of old) s after_stop))
     → IfErr x (λ z. on_registers (machine_of old) s after_stop ≡ Err (reason_of z)) → Told (events.Stop s) old new (answered x)
 unfolding lined operate
 told_stop old new s x = told_operates (events.Stop s) old new s (on_registers (machine_of old) s after_stop) x (λ b at. refl)
-    (settled (events.Stop s) refl refl refl)
+    (settled (events.Stop s) refl refl refl refl)
 
 pub told_cont : (old new : Plain) (s : ℕ) (x : Result (Unit {0}) Refusal) → OnOk x (Operates old new s (on_registers (machine_of old) s after_cont))
     → IfErr x (λ z. on_registers (machine_of old) s after_cont ≡ Err (reason_of z)) → Told (events.Cont s) old new (answered x)
 unfolding lined operate
 told_cont old new s x = told_operates (events.Cont s) old new s (on_registers (machine_of old) s after_cont) x (λ b at. refl)
-    (settled (events.Cont s) refl refl refl)
+    (settled (events.Cont s) refl refl refl refl)
 
 -- lines of a LOAD block
 at_load : (old : Plain) (s : ℕ) (b : Block) → old.place ≡ spots.Load s → Speaks old.place b → b.slot ≡ s
@@ -118,7 +119,7 @@ pub told_words : (old new : Plain) (s a : ℕ) (ws : ArrayVec ℕ) (x : Result (
 unfolding lined operate
 told_words old new s a ws x e = told_operates (events.Words a ws) old new s (with_words_loaded (machine_of old) s a ws.items) x
     (λ b at. ap (λ (k : ℕ). Done (disturbs k b (with_words_loaded (machine_of old) k a ws.items))) (at_load old s b e at))
-    (settled (events.Words a ws) refl refl refl)
+    (settled (events.Words a ws) refl refl refl refl)
 
 pub told_read_only : (old new : Plain) (s page : ℕ) (x : Result (Unit {0}) Refusal) → old.place ≡ spots.Load s
     → OnOk x (Operates old new s (with_page_protected (machine_of old) s page))
@@ -126,7 +127,7 @@ pub told_read_only : (old new : Plain) (s page : ℕ) (x : Result (Unit {0}) Ref
 unfolding lined operate
 told_read_only old new s page x e = told_operates (events.ReadOnly page) old new s (with_page_protected (machine_of old) s page) x
     (λ b at. ap (λ (k : ℕ). Done (disturbs k b (with_page_protected (machine_of old) k page))) (at_load old s b e at))
-    (settled (events.ReadOnly page) refl refl refl)
+    (settled (events.ReadOnly page) refl refl refl refl)
 
 pub told_symbol : (old new : Plain) (s name a : ℕ) (x : Result (Unit {0}) Refusal) → old.place ≡ spots.Load s
     → OnOk x (Keeps old new (with_symbol_kept (machine_of old) s name a))
@@ -134,7 +135,7 @@ pub told_symbol : (old new : Plain) (s name a : ℕ) (x : Result (Unit {0}) Refu
 unfolding lined operate
 told_symbol old new s name a x e = told_keeps (events.Symbol name a) old new (with_symbol_kept (machine_of old) s name a) x
     (λ b at. ap (λ (k : ℕ). Done (quietly b (with_symbol_kept (machine_of old) k name a))) (at_load old s b e at))
-    (settled (events.Symbol name a) refl refl refl)
+    (settled (events.Symbol name a) refl refl refl refl)
 
 -- lines of a FILE block
 at_file : (old : Plain) (n : Names) (b : Block) → old.place ≡ spots.File n → Speaks old.place b → b.file ≡ n
@@ -146,7 +147,7 @@ pub told_append : (old new : Plain) (n : Names) (ws : ArrayVec ℕ) (x : Result 
 unfolding lined operate
 told_append old new n ws x e = told_keeps (events.Append ws) old new (with_words_added (machine_of old) n ws.items) x
     (λ b at. ap (λ (k : Names). Done (quietly b (with_words_added (machine_of old) k ws.items))) (at_file old n b e at))
-    (settled (events.Append ws) refl refl refl)
+    (settled (events.Append ws) refl refl refl refl)
 
 pub told_file : (old new : Plain) (d x y : ℕ) (r : Result (Unit {0}) Refusal)
     → OnOk r (Leads old new (spots.File (names_of d x y)) (with_file_made (machine_of old) (names_of d x y)))
@@ -168,7 +169,7 @@ told_clock old new n (Ok u) done refused = λ b at. record {
   comes = Done (Does (machine_of new) [] (due ((machine_of old).clock + n) (machine_of old).jobs) b);
   is = ap (λ r. Done (by_clock (machine_of old) b n r)) done.is;
   obeys = (refl, done.touched, subst (λ p. Speaks p b) (sym done.place) at, refl, tt);
-  leads = stands_at (events.Clock n) old new (settled (events.Clock n) refl refl refl) done.place;
+  leads = stands_at (events.Clock n) old new (settled (events.Clock n) refl refl refl refl) done.place;
 }
 told_clock old new n (Err z) done refused = λ b at. ap (λ r. Done (by_clock (machine_of old) b n r)) refused
 
@@ -194,7 +195,7 @@ pub told_exam : (old new : Plain) (s a n : ℕ) (ws : ArrayVec ℕ) → s < slot
 unfolding lined operate
 told_exam old new s a n ws l found t =
     told_looks (events.Exam s a n) (answers.Words s a ws) old new s (in_a_line s a ws.items) l t
-    (λ b. ap (λ r. Done (by_exam (machine_of old) b s (in_a_line s a) r)) found) refl tt (settled (events.Exam s a n) refl refl refl)
+    (λ b. ap (λ r. Done (by_exam (machine_of old) b s (in_a_line s a) r)) found) refl tt (settled (events.Exam s a n) refl refl refl refl)
 
 pub told_exam_refused : (old new : Plain) (s a n : ℕ) (z : Refusal) → examined (machine_of old) s a n ≡ Err (reason_of z)
     → Told (events.Exam s a n) old new (Err z)
@@ -207,7 +208,7 @@ unfolding lined operate
 told_list old new s a n ws l below some found t =
     told_looks (events.List s a n) (answers.Listed s a ws) old new s (printed.listed s a ws.items) l t
     (λ b. ap (λ r. Done (by_exam (machine_of old) b s (printed.listed s a) r)) found) refl (below, some_words (machine_of old) s a n ws.items some found)
-    (settled (events.List s a n) refl refl refl)
+    (settled (events.List s a n) refl refl refl refl)
 
 pub told_list_refused : (old new : Plain) (s a n : ℕ) (z : Refusal) → examined (machine_of old) s a n ≡ Err (reason_of z)
     → Told (events.List s a n) old new (Err z)
@@ -221,7 +222,7 @@ told_state old new s show l found t =
     told_looks (events.State s) (answers.State new.version s show) old new s (printed.State (machine_of old).version s show ∷ []) l t
     (λ b. ap (λ r. Done (by_state (machine_of old) b s r)) found)
     (ap (λ (v : ℕ). printed.State v s show ∷ []) (version_of old ∙ sym (ap (λ (p : Plain). p.version) t))) tt
-    (settled (events.State s) refl refl refl)
+    (settled (events.State s) refl refl refl refl)
 
 pub told_state_refused : (old new : Plain) (s : ℕ) (z : Refusal) → state_shown (machine_of old) s ≡ Err (reason_of z)
     → Told (events.State s) old new (Err z)
@@ -251,7 +252,7 @@ told_type old new c n bytes is done = λ b at. record {
   comes = Done (Does (with_typed c bytes.items (machine_of old)) (printed.Typed c (dropped ((machine_of old).consoles c) bytes.items) ∷ []) nobody b);
   is = refl;
   obeys = (done.machine, done.touched, subst (λ p. Speaks p b) (sym done.place) at, ap (λ (k : ℕ). printed.Typed c k ∷ []) (sym is), tt);
-  leads = stands_at (events.TypeIn c bytes) old new (settled (events.TypeIn c bytes) refl refl refl) done.place;
+  leads = stands_at (events.TypeIn c bytes) old new (settled (events.TypeIn c bytes) refl refl refl refl) done.place;
 }
 
 pub told_drain : (old new : Plain) (c n : ℕ) (bytes : ArrayVec ℕ) → bytes.items ≡ take n ((machine_of old).consoles c).output
@@ -261,7 +262,7 @@ told_drain old new c n bytes is done = λ b at. record {
   comes = Done (Does (after_drain c n (machine_of old)) (printed.Drained c (take n ((machine_of old).consoles c).output) ∷ []) nobody b);
   is = refl;
   obeys = (done.machine, done.touched, subst (λ p. Speaks p b) (sym done.place) at, ap (λ (k : List ℕ). printed.Drained c k ∷ []) (sym is), tt);
-  leads = stands_at (events.Drain c n) old new (settled (events.Drain c n) refl refl refl) done.place;
+  leads = stands_at (events.Drain c n) old new (settled (events.Drain c n) refl refl refl refl) done.place;
 }
 
 -- the words of a line as a slice
@@ -328,7 +329,7 @@ told_version old new v done = λ b at. record {
   comes = Done (Does (with_version (machine_of old) v) [] nobody b);
   is = refl;
   obeys = (done.machine, done.touched, subst (λ p. Speaks p b) (sym done.place) at, refl, tt);
-  leads = stands_at (events.Version v) old new (settled (events.Version v) refl refl refl) done.place;
+  leads = stands_at (events.Version v) old new (settled (events.Version v) refl refl refl refl) done.place;
 }
 
 -- lines that leave the machine: those without words, DIR and SHOW
@@ -354,7 +355,7 @@ module _ (old new : Plain) (e : new ≡ record old { touched = no_slots }) where
     comes = Done (Does (machine_of old) [] nobody b);
     is = refl;
     obeys = (same_machine, none, at_same b at, refl, tt);
-    leads = same_place events.Nothing (settled events.Nothing refl refl refl);
+    leads = same_place events.Nothing (settled events.Nothing refl refl refl refl);
   }
 
   pub told_dir : (d : ℕ) → Told (events.Dir d) old new (Ok (answers.Files d))
@@ -363,7 +364,7 @@ module _ (old new : Plain) (e : new ≡ record old { touched = no_slots }) where
     comes = Done (Does (machine_of old) (listing d (files_in d (machine_of old).files)) nobody b);
     is = refl;
     obeys = (same_machine, none, at_same b at, ap (λ (m : Machine). listing d (files_in d m.files)) (sym same_machine), tt);
-    leads = same_place (events.Dir d) (settled (events.Dir d) refl refl refl);
+    leads = same_place (events.Dir d) (settled (events.Dir d) refl refl refl refl);
   }
 
   pub told_show : (d x y id : ℕ) → file_named (names_of d x y) (machine_of old).files ≡ Some (file_at old.files id)
@@ -379,7 +380,7 @@ module _ (old new : Plain) (e : new ≡ record old { touched = no_slots }) where
       ap (λ (f : Store). shown_lines d x y (words_at f id)) (sym same_files),
       subst (λ (f : Store). is_file (entry_at f id) ≡ true) (sym same_files) there,
     );
-    leads = same_place (events.Show d x y) (settled (events.Show d x y) refl refl refl);
+    leads = same_place (events.Show d x y) (settled (events.Show d x y) refl refl refl refl);
   }
 
 pub told_show_refused : (old new : Plain) (d x y : ℕ) → file_named (names_of d x y) (machine_of old).files ≡ None
@@ -399,7 +400,7 @@ told_peek old new s done some = λ b at. let q = whole_of ((machine_of old).jobs
   comes = Peeks s;
   is = ap (peeked_at s) q.1;
   obeys = (done.machine, done.touched, done.place, refl);
-  leads = stands_at (events.Peek s) old new (settled (events.Peek s) refl refl refl) done.place;
+  leads = stands_at (events.Peek s) old new (settled (events.Peek s) refl refl refl refl) done.place;
 }
 
 pub told_peek_refused : (old new : Plain) (s : ℕ) (z : Refusal) → z ≡ refusals.NoJob → (machine_of old).jobs s ≡ None

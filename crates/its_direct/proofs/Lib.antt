@@ -25,6 +25,8 @@ pub mod MovedLaws
 pub mod CallStepLaws
 pub mod CallingLaws
 pub mod HousedLaws
+pub mod HousedLineLaws
+pub mod HousedStateLaws
 pub mod ToldLaws
 pub mod ShownLaws
 pub mod SeriesLaws
@@ -37,4 +39,5 @@ pub mod WaitingLaws
 pub mod MovingLaws
 pub mod RestoringLaws
 pub mod EachLaws
+pub mod StateLaws
 pub mod Groups

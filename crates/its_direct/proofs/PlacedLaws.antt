@@ -9,6 +9,8 @@ use Rattle.its_records.specs.declared.session.Event.TheVariants as events
 use Rattle.its_records.specs.declared.session.Place.{Place}
 use Rattle.its_records.specs.declared.session.Place.TheVariants as places
 use Rattle.its_records.specs.declared.session.Reason.{Reason}
+use Rattle.its_records.specs.declared.state_line.StateLine.{StateLine}
+use Rattle.its_records.specs.declared.state_line.StateLine.TheVariants as states
 use Rattle.its_records.proofs.FreeLaws.{least_below, limit_few}
 use Rattle.its_word.proofs.NamesLaws.{same_refl}
 use Rattle.its_session.specs.Events.{place_after}
@@ -18,9 +20,10 @@ use Rattle.its_plain.specs.Operator.{Block, Does, Refuses, Ticks, Quits, and_the
 use Rattle.its_plain.specs.Operator.Files.{channels_of, with_file_made, with_file_made_if, with_word_added, with_word_added_if, with_word_added_to, with_words_added}
 use Rattle.its_plain.specs.Operator.Jobs.{after_load, after_load_in}
 use Rattle.its_plain.specs.Operator.Lines.{Lined, Done, Peeks, by_load, lined, operate}
+use Rattle.its_plain.specs.Operator.State.{restored}
 use Rattle.its_plain.specs.Machine.Own.{names_of}
 use Rattle.its_plain.proofs.CallLineLaws.{SlotKept, Stays, Made, LineKeepsBy, line_keeps}
-use Rattle.its_direct.specs.Events.{MayStand, SpotFits, Speaks, spot_place}
+use Rattle.its_direct.specs.Events.{MayStand, SpotFits, Speaks, place_before, spot_place}
 use Rattle.its_direct.specs.declared.plain.Spot.{Spot}
 use Rattle.its_direct.specs.declared.plain.Spot.TheVariants as spots
 
@@ -47,6 +50,19 @@ plain_placed (Done (Refuses r)) = tt
 plain_placed (Done (Ticks s k)) = tt
 plain_placed (Done Quits) = tt
 plain_placed (Peeks s) = tt
+
+system_placed : (l : Lined) → PlacedBy places.System l
+system_placed (Done (Does n out touched c)) = tt
+system_placed (Done (Refuses r)) = tt
+system_placed (Done (Ticks s k)) = tt
+system_placed (Done Quits) = tt
+system_placed (Peeks s) = tt
+
+-- a line of the state part
+restored_placed : (m : Machine) (b : Block) (line : StateLine)
+    → PlacedBy (place_after (place_before line) (events.Restore line)) (Done (restored m b line))
+restored_placed m b states.Ready = plain_placed (Done (restored m b states.Ready))
+restored_placed m b line = system_placed (Done (restored m b line))
 
 -- LOAD makes the job, and the lines of its block leave it
 load_placed : (m : Machine) (b : Block) (u j : ℕ) (console o : Option ℕ) → least_free (limit m) m.jobs ≡ o
@@ -165,16 +181,20 @@ line_placed m b place (events.Append words) at h =
     subst (λ (p : Place). PlacedBy (place_after p (events.Append words)) (lined m b (events.Append words))) (sym at)
     (words_placed m b (with_words_added m b.file words.items) (words_has m b.file words.items) (subst (Placed m b) at h))
 line_placed m b place events.EndFile at h = tt
+line_placed m b place (events.Restore line) at h =
+    subst (λ (p : Place). PlacedBy (place_after p (events.Restore line)) (Done (restored m b line))) (sym at) (restored_placed m b line)
 line_placed m b place e at h = subst (λ (p : Place). PlacedBy (place_after p e) (lined m b e)) (sym at) (plain_placed (lined m b e))
 
 -- a place, and a block of which it speaks
 pub placed_block : (m : Machine) (x : Spot) (b : Block) → Speaks x b → SpotFits m x → Placed m b (spot_place x)
 placed_block m spots.Plain b at h = tt
+placed_block m (spots.System s names) b at h = tt
 placed_block m (spots.Load s) b at h = subst (λ k. (k < slots) × (is_some (m.jobs k) ≡ true)) (sym at) h
 placed_block m (spots.File names) b at h = subst (λ k. has_file k m.files ≡ true) (sym at) h
 
 pub spot_placed : (m : Machine) (x : Spot) (b : Block) (p : Place) → spot_place x ≡ p → Speaks x b → Placed m b p → SpotFits m x
 spot_placed m spots.Plain b p is at h = tt
+spot_placed m (spots.System s names) b p is at h = tt
 spot_placed m (spots.Load s) b p is at h =
     let here : Placed m b places.Load = subst (Placed m b) (sym is) h in subst (λ k. (k < slots) × (is_some (m.jobs k) ≡ true)) at here
 spot_placed m (spots.File names) b p is at h =

@@ -1,7 +1,8 @@
 -- What an event that was obeyed leaves: what holds between two events, the place of the next line,
 -- and the jobs that there were.
-use Rattle.std.specs.Prelude.{◌≡◌, Option, Some, None, IfOk, OnErr, Result, Ok, Err, refl}
+use Rattle.std.specs.Prelude.{◌≡◌, true, Option, Some, None, is_some, IfOk, OnErr, Result, Ok, Err, refl}
 use Rattle.std.proofs.Common.{ap, sym, subst, ◌∙◌}
+use Rattle.std.proofs.lemmas.Bool.{false≢true}
 use Rattle.its_records.specs.declared.session.Event.{Event}
 use Rattle.its_records.specs.declared.session.Refusal.{Refusal}
 use Rattle.its_session.specs.Events.{place_after}
@@ -9,7 +10,7 @@ use Rattle.its_session.specs.Fits.{EventFits}
 use Rattle.its_plain.specs.Machine.{Whole, Machine, no_machine}
 use Rattle.its_plain.specs.Operator.{Block, no_block, Does, Refuses, Ticks, Quits}
 use Rattle.its_plain.specs.Operator.Lines.{Lined, Done, Peeks, lined}
-use Rattle.its_plain.proofs.CallLineLaws.{SlotKept, Stays, Made, LineKeepsBy, line_keeps}
+use Rattle.its_plain.proofs.CallLineLaws.{line_stays}
 use Rattle.its_stepped.specs.Alarmed.{Alarmed}
 use Rattle.its_stepped.specs.Consoled.{Consoled}
 use Rattle.its_stepped.specs.Forest.{Forest}
@@ -23,7 +24,7 @@ use Rattle.its_direct.specs.declared.lines.events.Answer.{Answer}
 use Rattle.its_direct.specs.declared.plain.Plain.{Plain}
 use Rattle.its_direct.specs.declared.plain.Spot.{Spot}
 use Rattle.its_direct.specs.declared.plain.Spot.TheVariants as spots
-use Rattle.its_direct.proofs.HousedLaws.{line_consoled}
+use Rattle.its_direct.proofs.HousedLineLaws.{line_consoled}
 use Rattle.its_direct.proofs.PlacedLaws.{Placed, PlacedBy, line_placed, placed_block, spot_placed}
 
 -- what holds at the start of a session
@@ -42,11 +43,13 @@ kept_starts p tidy start place = record {
 -- a block of which a place speaks
 abbrev block_at : Spot → Block
 block_at spots.Plain = no_block
+block_at (spots.System s names) = record { slot = s; file = names }
 block_at (spots.Load s) = record no_block { slot = s }
 block_at (spots.File names) = record no_block { file = names }
 
 speaks_at : (x : Spot) → Speaks x (block_at x)
 speaks_at spots.Plain = tt
+speaks_at (spots.System s names) = (refl, refl)
 speaks_at (spots.Load s) = refl
 speaks_at (spots.File names) = refl
 
@@ -76,16 +79,13 @@ obeyed_kept e a old new b (Peeks s) ranged stands speaks leads is o kept tidy = 
 }
 
 -- a line leaves each job in its slot
-slot_stays : (o p : Option Whole) → SlotKept o p → p ≡ None → o ≡ None
-slot_stays None p kept e = refl
-slot_stays (Some q) (Some r) kept e = cc
-slot_stays (Some q) None (Stays h) e = cc
-slot_stays (Some q) None (Made u j console none is) e = cc
+none_before : (o p : Option Whole) → (is_some o ≡ true → is_some p ≡ true) → p ≡ None → o ≡ None
+none_before None p stays e = refl
+none_before (Some q) p stays e = absurd (false≢true (sym (ap is_some e) ∙ stays refl))
 
 obeyed_jobs : (e : Event) (a : Answer) (old new : Plain) (b : Block) (l : Lined) → lined (machine_of old) b e ≡ l → Obeys a old new l → JobsStay old new
 obeyed_jobs e a old new b (Done (Does n out touched c)) is o k h =
-    slot_stays ((machine_of old).jobs k) (n.jobs k) ((subst (LineKeepsBy (machine_of old)) is (line_keeps (machine_of old) b e)).slots k)
-    (sym (ap (λ (m : Machine). m.jobs k) o.0) ∙ h)
+    none_before ((machine_of old).jobs k) (n.jobs k) (line_stays (machine_of old) n b c e out touched is k) (sym (ap (λ (m : Machine). m.jobs k) o.0) ∙ h)
 obeyed_jobs e a old new b (Peeks s) is o k h = sym (ap (λ (m : Machine). m.jobs k) o.0) ∙ h
 obeyed_jobs e a old new b _ is o k h = absurd o
 

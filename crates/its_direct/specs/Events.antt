@@ -10,6 +10,8 @@ use Rattle.its_records.specs.declared.session.Event.TheVariants as events
 use Rattle.its_records.specs.declared.session.Place.{Place}
 use Rattle.its_records.specs.declared.session.Place.TheVariants as places
 use Rattle.its_records.specs.declared.session.Refusal.{Refusal}
+use Rattle.its_records.specs.declared.state_line.StateLine.{StateLine}
+use Rattle.its_records.specs.declared.state_line.StateLine.TheVariants as states
 use Rattle.its_print.specs.Printing.{Line}
 use Rattle.its_print.specs.Printing as printed
 use Rattle.its_session.specs.Events.{place_after}
@@ -33,6 +35,7 @@ use Rattle.its_direct.specs.declared.lines.events.Answer.TheVariants as answers
 abbrev pub SpotFits : Machine → Spot → Type 0
 SpotFits m (spots.Load s) = (s < slots) × (is_some (m.jobs s) ≡ true)
 SpotFits m spots.Plain = Unit {0}
+SpotFits m (spots.System s names) = Unit {0}
 SpotFits m (spots.File names) = has_file names m.files ≡ true
 
 -- what holds between two events, and between two steps: the machine is tidy, its jobs are a forest,
@@ -48,11 +51,13 @@ pub record Kept (p : Plain) : Type 0 where
 -- the place of a line of a session, and what a block of lines is about there
 abbrev pub spot_place : Spot → Place
 spot_place spots.Plain = places.Plain
+spot_place (spots.System s names) = places.System
 spot_place (spots.Load s) = places.Load
 spot_place (spots.File names) = places.File
 
 abbrev pub Speaks : Spot → Block → Type 0
 Speaks spots.Plain b = Unit {0}
+Speaks (spots.System s names) b = (b.slot ≡ s) × (b.file ≡ names)
 Speaks (spots.Load s) b = b.slot ≡ s
 Speaks (spots.File names) b = b.file ≡ names
 
@@ -64,10 +69,16 @@ IsTold (events.Run n q) = ⊥
 IsTold events.End = ⊥
 IsTold _ = Unit {0}
 
+-- the place of a line of the state part: SYSTEM begins it, outside any block
+abbrev pub place_before : StateLine → Place
+place_before (states.System v) = places.Plain
+place_before _ = places.System
+
 -- an event may occur at a place; the version is outside any block
 abbrev pub MayStand : Place → Event → Type 0
 MayStand place events.Nothing = Unit {0}
 MayStand place (events.Version v) = place ≡ places.Plain
+MayStand place (events.Restore line) = place ≡ place_before line
 MayStand place e = place ≡ event_place e
 
 -- the lines that an answer shows; files are read from the machine

@@ -14,3 +14,4 @@ pub mod Series
 pub mod Waiting
 pub mod InPlace
 pub mod Parts
+pub mod State

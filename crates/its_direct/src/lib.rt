@@ -12,9 +12,9 @@
 //! - `event` is exactly the operator's line (`told`), with exactly its refusals. Its `Answer` says
 //!   what the line shows. A refused line changes nothing (`same`), and no line removes a job
 //!   (`jobs`).
-//! - What a line of the state part restores (`lines/restoring.rt`) is exactly what its definition
-//!   says (`its_plain/specs/Operator/State`), with exactly its refusals. A refused line changes
-//!   nothing.
+//! - `restore` is exactly a line of the state part (`restores`), with exactly its refusals. A
+//!   refused line changes nothing (`same`). Each thing that a line restores has a function of its
+//!   own.
 //! - The slots that a step or a line touches are marked, and no others.
 //! - `words`, `shown`, `listed`, `show`, `file` and `row` are what EXAM, LIST, STATE, DIR and SHOW
 //!   show.
@@ -32,7 +32,8 @@
 //! (`Events.Told`). `Plain::begin` performs the step if that is a delivery or a unit; for a call it
 //! gives the site (`Steps.StepBegins`). A line has the effect of the operator's definition
 //! (`Lines.Operates`, `Lines.Loads`), and refuses exactly if the definition does, with nothing
-//! changed. Its answer says what is shown (`Events.lines_of`).
+//! changed. Its answer says what is shown (`Events.lines_of`). `Plain::restore` is
+//! `its_plain/specs/Operator/State.restored` (`State.Restores`).
 //!
 //! In `its_direct` an `a/` line is tested for room before its first word is stored: the absent
 //! pages from that of its first word to that of its last are counted. The words of a FILE block are
@@ -74,7 +75,8 @@
 // - `lines/clock.rt`: CLOCK
 // - `lines/shown.rt`: what EXAM, LIST and STATE show
 // - `lines/directory.rt`: what DIR and SHOW show
-// - `lines/restoring.rt`: what the lines of the state part restore, each one thing of a system
+// - `lines/restoring.rt`, `lines/state.rt`: what the lines of the state part restore, each one
+//   thing of a system; and each of these lines
 mod changes;
 mod lines;
 mod plain;

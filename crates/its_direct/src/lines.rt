@@ -10,4 +10,5 @@ pub mod loading;
 pub mod restoring;
 pub mod settings;
 pub mod shown;
+pub mod state;
 pub mod words;

@@ -13,11 +13,14 @@ use its_shared::{SymbolTable, no_alarms, no_symbols, quiet_consoles};
 use its_word::{CONSOLES, NoMemory, SLOTS, Slot, Word};
 use std::alloc::Global;
 
-/// The place of a line of a session: outside any block; in the LOAD block of the job of a slot; or
-/// in the FILE block of the file with a directory and two names.
+/// The place of a line of a session: outside any block; in the state part, whose last JOB line was
+/// about a slot, and whose last FILE line about the file with a directory and two names; in the
+/// LOAD block of the job of a slot; or in the FILE block of the file with a directory and two
+/// names.
 #[derive(Clone, Copy, Debug, PartialEq, Eq)]
 pub enum Spot {
     Plain,
+    System { slot: Slot, names: [Word; 3] },
     Load { slot: Slot },
     File { names: [Word; 3] },
 }

@@ -14,4 +14,14 @@ pub mod ClockLaws
 pub mod ProtectLaws
 pub mod SymbolLaws
 pub mod OneByteLaws
+pub mod OneJobLaws
+pub mod TestsLaws
+pub mod GivenLaws
+pub mod JobLineLaws
+pub mod ByteLineLaws
+pub mod SettledLaws
+pub mod RestoresLaws
+pub mod ChannelLineLaws
+pub mod LinkLineLaws
+pub mod DraftLineLaws
 pub mod Groups

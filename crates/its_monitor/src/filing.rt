@@ -154,7 +154,7 @@ impl Monitor {
 
 /// Performs the pending parts of a close.
 #[tactic(auto, using(crate::proofs::FileLaws::helped_is))]
-fn help(w: &mut World)
+pub fn help(w: &mut World)
     requires kept { Kept w.old }
     ensures { Helped w.old w.new }
 {

@@ -12,6 +12,10 @@
 //!   stepped machine (`done`, `shown`, `word`, `unwinds`). Its refusals are those of the definition
 //!   (`refused`). A refused call changes nothing (`same`). What holds between two calls is kept
 //!   (`kept`).
+//! - `make_job`, `set_registers`, `set_alarm`, `set_superior`, `open_tty`, `put_input`,
+//!   `put_output` and `set_holder` are lines of the state part, by the same clauses.
+//! - `settle` unwinds all jobs and performs the pending parts of a close: the plain machine is
+//!   unchanged (`plain`), and the raw machine is the plain one then (`settled`).
 //! - `exam` and `state` leave the plain machine unchanged (`leaves`).
 //! - `barred` says whether an `a/` line would store on a read-only page, before and after its job
 //!   is unwound (`plain`, `calmed`).
@@ -27,6 +31,11 @@
 //!   definitions on the plain machine, with exactly their refusals (`plain`, `refused`). The first
 //!   four change no more of the world than the files, by these parts, and so do the other two if
 //!   they are refused (`alone`).
+//! - `open_disk`, `open_draft`, `write_draft`, `open_usr`, `open_link`, `send_words` and `shut_end`
+//!   are the lines of the state part on channels and links: each is the definition on the plain
+//!   machine (`plain`) and its exact row (`done`), with exactly its refusals (`refused`). The first
+//!   three perform the pending parts of a close first, even if they are refused (`state`), and then
+//!   unwind their job; if another is refused, it changes nothing (`same`).
 //!
 //! `Monitor` is a struct of one field, `World`. The operator's calls are its methods, in `impl
 //! Monitor` blocks in the files of their kinds: each call has one contract, with its body. A method
@@ -51,6 +60,10 @@
 // - `pages.rt`: RO, and whether an `a/` line would store on a read-only page
 // - `registers.rt`: GO, STOP, CONT, INT and STATE
 // - `symbols.rt`: SYM
+// - `restoring.rt`: the lines of the state part on jobs and consoles: JOB, REGS, ALARM, UNDER, TTY,
+//   IN, OUT and HOLD
+// - `restoring_channels.rt`: the lines of the state part on channels and links
+// - `settling.rt`: all jobs unwound, before a system is saved
 // - `peeking.rt`: PEEK, which unwinds nobody
 // - `typing.rt`: TYPE and DRAIN
 // - `clock.rt`: CLOCK, which acts on due alarms
@@ -62,6 +75,9 @@ mod monitor;
 mod pages;
 mod peeking;
 mod registers;
+mod restoring;
+mod restoring_channels;
+mod settling;
 mod symbols;
 mod typing;
 mod words;

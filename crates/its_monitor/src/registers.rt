@@ -114,7 +114,7 @@ impl Monitor {
 
 /// The registers of a slot's job, which is unwound first. NoJob if the slot is empty.
 #[tactic(auto, using(crate::proofs::KeptLaws::unwound_kept, crate::proofs::KeptLaws::unwound_missing))]
-fn calmed(w: &mut World, slot: Slot) -> Result<Job, Refusal>
+pub fn calmed(w: &mut World, slot: Slot) -> Result<Job, Refusal>
     requires kept { Kept w.old }
     ensures calm { IfOk result (λ j. Calm w.old w.new slot j) }
     ensures job { IfOk result (λ j. job_at w.new.jobs slot ≡ Some j) }

@@ -1,6 +1,7 @@
 -- What the lines of a session leave of the plain machine: names, superiors and channels, and how
--- consoles and their holders change. What holds of these alone is kept by every line.
-use Rattle.std.specs.Prelude.{◌≡◌, ◌≢◌, ◌<◌, ◌≤◌, ◌⊎◌, ℕ, ◌+◌, Bool, true, false, Option, Some, None, List, [], ◌∷◌, ◌++◌, Result, Ok, Err, option_map, is_some, nat_lt, length, take, drop, refl}
+-- consoles and their holders change. A line of the state part may change any of these, and of each
+-- the law says what it has found.
+use Rattle.std.specs.Prelude.{if◌then◌else◌, ◌==◌, ◌≡◌, ◌≢◌, ◌<◌, ◌≤◌, ◌⊎◌, ℕ, ◌+◌, Bool, true, false, Option, Some, None, List, [], ◌∷◌, ◌++◌, Result, Ok, Err, option_map, is_some, nat_lt, length, take, drop, refl}
 use Rattle.std.proofs.Common.{sym, ◌∙◌, ap, subst, inl, inr, arith}
 use Rattle.std.proofs.lemmas.Bool.{cases_Bool, cases_eq, eq-eqb, ne_eqb, ltb-true}
 use Rattle.its_word.specs.Console.{most_waiting}
@@ -12,19 +13,24 @@ use Rattle.its_records.specs.declared.session.Event.{Event}
 use Rattle.its_records.specs.declared.session.Event.TheVariants as events
 use Rattle.its_records.specs.declared.session.Reason.{Reason}
 use Rattle.its_records.specs.declared.show.JobShow.{JobShow}
+use Rattle.its_records.specs.declared.state_line.StateLine.{StateLine}
+use Rattle.its_records.specs.declared.state_line.StateLine.TheVariants as states
+use Rattle.its_frame.specs.declared.change.Change.TheVariants as changes
 use Rattle.its_records.proofs.FreeLaws.{least_empty, least_below, no_job_there}
-use Rattle.its_plain.specs.Machine.{Names, File, Chan, Console, Whole, Machine, changed, with_job, mapped, limit}
+use Rattle.its_plain.specs.Machine.{Names, File, Chan, Reads, On, Console, Whole, Machine, changed, with_job, with_new, mapped, limit}
 use Rattle.its_plain.specs.Operator.{Block, Refuses, Does, Ticks, Quits, and_then, disturbs, quietly}
 use Rattle.its_plain.specs.Operator.Jobs.{new_job, held_by, after_load_in, after_load, with_stored, with_core, with_word_loaded_of, with_word_loaded, with_words_stored, words_barred, with_words_loaded_if, with_words_loaded, with_page_protected_in, with_page_protected, on_job, with_registers, on_registers, after_go, after_int, after_stop, after_cont, examined, state_shown, after_deposit_in, after_deposit}
 use Rattle.its_plain.specs.Operator.Symbols.{with_symbol_kept_if, with_symbol_kept_of, with_symbol_kept}
 use Rattle.its_plain.specs.Operator.Version.{with_version}
-use Rattle.its_plain.specs.Machine.Change.{with_protection}
+use Rattle.its_plain.specs.Machine.Change.{in_job, with_protection, effect, effects}
 use Rattle.its_plain.specs.Operator.Lines.{by_load, by_exam, in_a_line, by_state, by_clock, operate, shows, Lined, Done, Peeks, peeked_at, lined}
 use Rattle.its_plain.specs.Machine.Own.{names_of}
 use Rattle.its_plain.specs.Call.File.{most_files, is_full, file_named, has_file}
 use Rattle.its_plain.specs.Operator.Files.{channels_of, with_files, with_file_made_if, with_file_made, with_word_added_if, with_word_added_to, with_word_added, with_words_added, file_shown}
 use Rattle.its_plain.specs.Operator.Clock.{alarm_in, due, after_alarm, after_alarm_if, at_clock, clock_end, after_clock_if, after_clock}
 use Rattle.its_plain.specs.Operator.Consoles.{with_typed, after_drain}
+use Rattle.its_plain.specs.Operator.State.{after_registers, on_tty, restored}
+use Rattle.its_plain.proofs.RestoredLaws.{OkBy, MakesJob, job_made, SetsAlarm, alarm_set, SetsSuperior, superior_set, Opens, tty_opened, disk_opened, empty_draft, draft_opened, usr_opened, words_appended, WritesWords, words_written, Joins, link_joined, Sends, words_sent, ShutsEnd, end_shut, PutsBytes, bytes_put, SetsHolder, holder_set}
 use Rattle.its_print.specs.Printing.{Line, listed}
 
 -- what no line changes of a job
@@ -65,6 +71,7 @@ pub data AlarmsKept (m n : Machine) : Type 0 where
 abbrev pub IsSlot : ℕ → Type 0
 IsSlot k = k < slots
 
+-- what a line outside the state part leaves
 pub record LineKeeps (m n : Machine) : Type 0 where
   pub slots : (k : ℕ) → SlotKept (m.jobs k) (n.jobs k)
   pub few : (k : ℕ) → limit m ≤ k → m.jobs k ≡ None → n.jobs k ≡ None
@@ -278,16 +285,15 @@ peek_keeps m s (Some q) = tt
 peek_keeps m s None = tt
 
 -- LOAD makes a job in the least free slot
-made_slots : (m : Machine) (u j : ℕ) (console : Option ℕ) (s k : ℕ) → least_free (limit m) m.jobs ≡ Some s
+made_slots : (m : Machine) (u j : ℕ) (console : Option ℕ) (s k : ℕ) → m.jobs s ≡ None
     → SlotKept (m.jobs k) (changed m.jobs s (Some (new_job u j console)) k)
-made_slots m u j console s k is = elim (cases_eq k s) [
-  | inl at ↦ rw at (Made u j console (least_empty (limit m) m.jobs s is) (rw (eq-eqb s s refl) refl))
+made_slots m u j console s k free = elim (cases_eq k s) [
+  | inl at ↦ rw at (Made u j console free (rw (eq-eqb s s refl) refl))
   | inr ne ↦ Stays (rw (ne_eqb k s ne) refl)
 ]
 
-made_few : (m : Machine) (q : Whole) (s k : ℕ) → least_free (limit m) m.jobs ≡ Some s → limit m ≤ k → m.jobs k ≡ None → changed m.jobs s (Some q) k ≡ None
-made_few m q s k is l e =
-    let below : s < limit m = least_below (limit m) m.jobs s is in let ne : k ≢ s = λ at. omega arith in rw (ne_eqb k s ne) e
+made_few : (m : Machine) (q : Whole) (s k : ℕ) → s < limit m → limit m ≤ k → m.jobs k ≡ None → changed m.jobs s (Some q) k ≡ None
+made_few m q s k below l e = let ne : k ≢ s = λ at. omega arith in rw (ne_eqb k s ne) e
 
 made_alarms : (m : Machine) (u j : ℕ) (console : Option ℕ) (s k : ℕ)
     → (alarm_in (changed m.jobs s (Some (new_job u j console)) k) ≡ alarm_in (m.jobs k)) ⊎ (alarm_in (changed m.jobs s (Some (new_job u j console)) k) ≡ None)
@@ -310,11 +316,27 @@ holder_kept m n u j c s k none is holds = elim (cases_eq k c) [
   | inr ne ↦ Keeps (holds k ∙ rw (ne_eqb k c ne) refl)
 ]
 
+-- a job with no console that it could hold, or that JOB makes: no holder changes
+new_keeps : (m : Machine) (u j : ℕ) (console : Option ℕ) (s : ℕ) → s < limit m → m.jobs s ≡ None → LineKeeps m (with_new m s (new_job u j console))
+new_keeps m u j console s below free = record {
+  slots = λ k. made_slots m u j console s k free;
+  few = λ k l e. made_few m (new_job u j console) s k below l e;
+  consoles = λ k. Quiet refl;
+  holders = λ k. Keeps refl;
+  clock = inl refl;
+  version = inl refl;
+  alarms = Same refl (λ k. made_alarms m u j console s k);
+  links = refl;
+}
+
+pub job_keeps : (m n : Machine) (s u j : ℕ) (console : Option ℕ) → MakesJob m s u j console n → LineKeeps m n
+job_keeps m n s u j console f = subst (LineKeeps m) (sym f.is) (new_keeps m u j console s f.few f.free)
+
 load_keeps : (m : Machine) (b : Block) (u j : ℕ) (console o : Option ℕ) → least_free (limit m) m.jobs ≡ o
     → LineKeepsBy m (Done (by_load b (after_load_in m u j console o)))
 load_keeps m b u j (Some c) (Some s) is = record {
-  slots = λ k. made_slots m u j (Some c) s k is;
-  few = λ k l e. made_few m (new_job u j (Some c)) s k is l e;
+  slots = λ k. made_slots m u j (Some c) s k (least_empty (limit m) m.jobs s is);
+  few = λ k l e. made_few m (new_job u j (Some c)) s k (least_below (limit m) m.jobs s is) l e;
   consoles = λ k. Quiet refl;
   holders = λ k. holder_kept m _ u j c s k (least_empty (limit m) m.jobs s is) (rw (eq-eqb s s refl) refl) (λ i. refl);
   clock = inl refl;
@@ -322,16 +344,7 @@ load_keeps m b u j (Some c) (Some s) is = record {
   alarms = Same refl (λ k. made_alarms m u j (Some c) s k);
   links = refl;
 }
-load_keeps m b u j None (Some s) is = record {
-  slots = λ k. made_slots m u j None s k is;
-  few = λ k l e. made_few m (new_job u j None) s k is l e;
-  consoles = λ k. Quiet refl;
-  holders = λ k. Keeps refl;
-  clock = inl refl;
-  version = inl refl;
-  alarms = Same refl (λ k. made_alarms m u j None s k);
-  links = refl;
-}
+load_keeps m b u j None (Some s) is = new_keeps m u j None s (least_below (limit m) m.jobs s is) (least_empty (limit m) m.jobs s is)
 load_keeps m b u j console None is = tt
 
 -- one console changed
@@ -449,7 +462,98 @@ shown_keeps : (m : Machine) (b : Block) (r : Result (List Line) Reason) → Line
 shown_keeps m b (Ok out) = alike_keeps m m (alike_same m)
 shown_keeps m b (Err r) = tt
 
-pub line_keeps : (m : Machine) (b : Block) (e : Event) → LineKeepsBy m (lined m b e)
+-- a line of the state part that is no line of the rest of a session has found this; each other one
+-- leaves what a line there leaves
+abbrev pub Restores : Machine → StateLine → Machine → Type 0
+Restores m (states.Job s u j console) n = MakesJob m s u j console n
+Restores m (states.Alarm s period next) n = SetsAlarm m s period next n
+Restores m (states.Under s t) n = SetsSuperior m s t n
+Restores m (states.Tty s i write) n = Opens m s i (on_tty write) n
+Restores m (states.Disk s i d x y at) n = Opens m s i (Reads (names_of d x y) at) n
+Restores m (states.Draft s i d x y) n = Opens m s i (empty_draft (names_of d x y)) n
+Restores m (states.Wrote s i words) n = WritesWords m s i words.items n
+Restores m (states.Usr s i t write at) n = Opens m s i (On t write at) n
+Restores m (states.Join s i l write x y) n = Joins m s i l write x y n
+Restores m (states.Sent l words) n = Sends m l words.items n
+Restores m (states.EndShut l write) n = ShutsEnd m l write n
+Restores m (states.Input c bytes) n = PutsBytes m c false bytes.items n
+Restores m (states.Output c bytes) n = PutsBytes m c true bytes.items n
+Restores m (states.Hold c s) n = SetsHolder m c s n
+Restores m _ n = LineKeeps m n
+
+abbrev pub RestoresBy : Machine → StateLine → Lined → Type 0
+RestoresBy m line (Done (Does n out touched b)) = Restores m line n
+RestoresBy m line (Done (Refuses r)) = Unit {0}
+RestoresBy m line (Done (Ticks s k)) = Unit {0}
+RestoresBy m line (Done Quits) = Unit {0}
+RestoresBy m line (Peeks s) = Unit {0}
+
+disturbs_restores : (m : Machine) (line : StateLine) (s : ℕ) (b : Block) (r : Result Machine Reason) → OkBy (Restores m line) r
+    → RestoresBy m line (Done (disturbs s b r))
+disturbs_restores m line s b (Ok n) h = h
+disturbs_restores m line s b (Err r) h = tt
+
+quiet_restores : (m : Machine) (line : StateLine) (b : Block) (r : Result Machine Reason) → OkBy (Restores m line) r
+    → RestoresBy m line (Done (quietly b r))
+quiet_restores m line b (Ok n) h = h
+quiet_restores m line b (Err r) h = tt
+
+-- a line that is one of the rest of a session too
+shared_restores : (m : Machine) (line : StateLine) (l : Lined) → ((n : Machine) → LineKeeps m n → Restores m line n) → LineKeepsBy m l → RestoresBy m line l
+shared_restores m line (Done (Does n out touched b)) f h = f n h
+shared_restores m line (Done (Refuses r)) f h = tt
+shared_restores m line (Done (Ticks s k)) f h = tt
+shared_restores m line (Done Quits) f h = tt
+shared_restores m line (Peeks s) f h = tt
+
+pub restored_keeps : (m : Machine) (b : Block) (line : StateLine) → RestoresBy m line (Done (restored m b line))
+unfolding restored after_clock
+restored_keeps m b (states.System v) = version_keeps m v
+restored_keeps m b (states.Clock n) =
+    shared_restores m (states.Clock n) (Done (by_clock m b n (after_clock_if m n (nat_lt (m.clock + n) clock_end)))) (λ k h. h)
+    (clock_keeps m b n (nat_lt (m.clock + n) clock_end) refl)
+restored_keeps m b (states.File d x y) =
+    let c : Block = record b { file = names_of d x y } in
+    shared_restores m (states.File d x y) (Done (quietly c (with_file_made m (names_of d x y)))) (λ k h. h)
+    (file_keeps m c (with_file_made m (names_of d x y)) (made_files m (names_of d x y)))
+restored_keeps m b (states.FileWords words) =
+    shared_restores m (states.FileWords words) (Done (quietly b (with_words_added m b.file words.items))) (λ k h. h)
+    (file_keeps m b (with_words_added m b.file words.items) (added_files m b.file words.items))
+restored_keeps m b (states.CoreWords a words) =
+    shared_restores m (states.CoreWords a words) (Done (disturbs b.slot b (with_words_loaded m b.slot a words.items))) (λ k h. h)
+    (disturbs_keeps m b.slot b (with_words_loaded m b.slot a words.items) (words_alike m b.slot a words.items))
+restored_keeps m b (states.ReadOnly page) =
+    shared_restores m (states.ReadOnly page) (Done (disturbs b.slot b (with_page_protected m b.slot page))) (λ k h. h)
+    (disturbs_keeps m b.slot b (with_page_protected m b.slot page) (page_alike m b.slot page))
+restored_keeps m b (states.Symbol name a) =
+    shared_restores m (states.Symbol name a) (Done (quietly b (with_symbol_kept m b.slot name a))) (λ k h. h)
+    (quiet_keeps m b (with_symbol_kept m b.slot name a) (symbol_alike m b.slot name a))
+restored_keeps m b (states.Regs r) =
+    shared_restores m (states.Regs r) (Done (disturbs b.slot b (on_registers m b.slot (after_registers r)))) (λ k h. h)
+    (disturbs_keeps m b.slot b (on_registers m b.slot (after_registers r)) (registers_alike m b.slot (after_registers r) (λ q. refl)))
+restored_keeps m b (states.Job s u j console) = disturbs_restores m (states.Job s u j console) s _ _ (job_made m s u j console)
+restored_keeps m b (states.Alarm s period next) = disturbs_restores m (states.Alarm s period next) s b _ (alarm_set m s period next)
+restored_keeps m b (states.Under s t) = disturbs_restores m (states.Under s t) s b _ (superior_set m s t)
+restored_keeps m b (states.Tty s i write) = disturbs_restores m (states.Tty s i write) s b _ (tty_opened m s i write)
+restored_keeps m b (states.Disk s i d x y at) = disturbs_restores m (states.Disk s i d x y at) s b _ (disk_opened m s i (names_of d x y) at)
+restored_keeps m b (states.Draft s i d x y) = disturbs_restores m (states.Draft s i d x y) s b _ (draft_opened m s i (names_of d x y))
+restored_keeps m b (states.Wrote s i words) = disturbs_restores m (states.Wrote s i words) s b _ (words_written m s i words.items)
+restored_keeps m b (states.Usr s i t write at) = disturbs_restores m (states.Usr s i t write at) s b _ (usr_opened m s i t write at)
+restored_keeps m b (states.Join s i l write x y) = disturbs_restores m (states.Join s i l write x y) s b _ (link_joined m s i l write x y)
+restored_keeps m b (states.Sent l words) = quiet_restores m (states.Sent l words) b _ (words_sent m l words.items)
+restored_keeps m b (states.EndShut l write) = quiet_restores m (states.EndShut l write) b _ (end_shut m l write)
+restored_keeps m b (states.Input c bytes) = quiet_restores m (states.Input c bytes) b _ (bytes_put m c false bytes.items)
+restored_keeps m b (states.Output c bytes) = quiet_restores m (states.Output c bytes) b _ (bytes_put m c true bytes.items)
+restored_keeps m b (states.Hold c s) = quiet_restores m (states.Hold c s) b _ (holder_set m c s)
+restored_keeps m b (states.Turn s) = alike_keeps m m (alike_same m)
+restored_keeps m b states.Ready = alike_keeps m m (alike_same m)
+
+-- what each line leaves
+abbrev pub KeepsBy : Machine → Event → Lined → Type 0
+KeepsBy m (events.Restore line) l = RestoresBy m line l
+KeepsBy m _ l = LineKeepsBy m l
+
+pub line_keeps : (m : Machine) (b : Block) (e : Event) → KeepsBy m e (lined m b e)
 unfolding lined operate after_load after_clock
 line_keeps m b (events.Load u j console) = load_keeps m b u j console (least_free (limit m) m.jobs) refl
 line_keeps m b (events.Words a words) = disturbs_keeps m b.slot b (with_words_loaded m b.slot a words.items) (words_alike m b.slot a words.items)
@@ -473,4 +577,69 @@ line_keeps m b (events.Append words) = file_keeps m b (with_words_added m b.file
 line_keeps m b (events.TypeIn c bytes) = typed_keeps m c bytes.items
 line_keeps m b (events.Drain c n) = drained_keeps m c n
 line_keeps m b (events.Show d x y) = shown_keeps m b (file_shown m d x y)
+line_keeps m b (events.Restore line) = restored_keeps m b line
 line_keeps m b _ = alike_keeps m m (alike_same m)
+
+-- the same of a line that leads to machine n
+abbrev pub Leaves : Machine → Event → Machine → Type 0
+Leaves m (events.Restore line) n = Restores m line n
+Leaves m _ n = LineKeeps m n
+
+pub line_does : (m n : Machine) (b c : Block) (e : Event) (out : List Line) (touched : ℕ → Bool) → lined m b e ≡ Done (Does n out touched c)
+    → Leaves m e n
+line_does m n b c e out touched is = by e (subst (KeepsBy m e) is (line_keeps m b e))
+  where
+    by : (e : Event) → KeepsBy m e (Done (Does n out touched c)) → Leaves m e n
+    by (events.Restore line) h = h
+    by e h = h
+
+-- no line takes a job away
+some_faced : (o : Option Whole) → is_some o ≡ is_some (option_map face o)
+some_faced (Some q) = refl
+some_faced None = refl
+
+pub slot_some : (o p : Option Whole) → SlotKept o p → is_some o ≡ true → is_some p ≡ true
+slot_some o p (Stays e) h = some_faced p ∙ ap is_some e ∙ sym (some_faced o) ∙ h
+slot_some o p (Made u j console none is) h = ap is_some is
+
+abbrev pub JobsStay : Machine → Machine → Type 0
+JobsStay m n = (k : ℕ) → is_some (m.jobs k) ≡ true → is_some (n.jobs k) ≡ true
+
+pub job_stays : (m : Machine) (s : ℕ) (f : Whole → Whole) → JobsStay m (in_job m s f)
+job_stays m s f k h = by (k == s) (m.jobs k) h
+  where
+    by : (x : Bool) (o : Option Whole) → is_some o ≡ true → is_some (if x then option_map f o else o) ≡ true
+    by true (Some q) h = refl
+    by true None h = h
+    by false o h = h
+
+words_stay : (m : Machine) (s i : ℕ) (ws : List ℕ) → JobsStay m (effects (words_appended i ws) s m)
+unfolding effect
+words_stay m s i [] k h = h
+words_stay m s i (w ∷ ws) k h = words_stay (effect (changes.Append i w) s m) s i ws k (job_stays m s _ k h)
+
+restored_stays : (m n : Machine) (line : StateLine) → Restores m line n → JobsStay m n
+unfolding effect
+restored_stays m n (states.Job s u j console) f = λ k h. slot_some (m.jobs k) (n.jobs k) ((job_keeps m n s u j console f).slots k) h
+restored_stays m n (states.Alarm s period next) f = subst (JobsStay m) (sym f.is) (job_stays m s _)
+restored_stays m n (states.Under s t) f = subst (JobsStay m) (sym f.is) (job_stays m s _)
+restored_stays m n (states.Tty s i write) f = subst (JobsStay m) (sym f.is) (job_stays m s _)
+restored_stays m n (states.Disk s i d x y at) f = subst (JobsStay m) (sym f.is) (job_stays m s _)
+restored_stays m n (states.Draft s i d x y) f = subst (JobsStay m) (sym f.is) (job_stays m s _)
+restored_stays m n (states.Wrote s i words) f = subst (JobsStay m) (sym f.is) (words_stay m s i words.items)
+restored_stays m n (states.Usr s i t write at) f = subst (JobsStay m) (sym f.is) (job_stays m s _)
+restored_stays m n (states.Join s i l write x y) f = subst (JobsStay m) (sym f.is) (job_stays m s _)
+restored_stays m n (states.Sent l words) f = subst (JobsStay m) (sym f.is) (λ k h. h)
+restored_stays m n (states.EndShut l write) f = subst (JobsStay m) (sym f.is) (λ k h. h)
+restored_stays m n (states.Input c bytes) f = subst (JobsStay m) (sym f.is) (λ k h. h)
+restored_stays m n (states.Output c bytes) f = subst (JobsStay m) (sym f.is) (λ k h. h)
+restored_stays m n (states.Hold c s) f = subst (JobsStay m) (sym f.is) (λ k h. h)
+restored_stays m n line f = λ k h. slot_some (m.jobs k) (n.jobs k) (f.slots k) h
+
+pub line_stays : (m n : Machine) (b c : Block) (e : Event) (out : List Line) (touched : ℕ → Bool) → lined m b e ≡ Done (Does n out touched c)
+    → JobsStay m n
+line_stays m n b c e out touched is = by e (line_does m n b c e out touched is)
+  where
+    by : (e : Event) → Leaves m e n → JobsStay m n
+    by (events.Restore line) h = restored_stays m n line h
+    by e h = λ k x. slot_some (m.jobs k) (n.jobs k) (h.slots k) x

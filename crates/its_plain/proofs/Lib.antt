@@ -5,6 +5,7 @@ pub mod CallLineLaws
 pub mod SizeLaws
 pub mod TracedLaws
 pub mod ProvidedLaws
+pub mod RestoredLaws
 pub mod RunLaws
 pub mod StepLaws
 pub mod TranscriptExamples

@@ -1,5 +1,5 @@
 -- What the tests of a line of the state part decide.
-use Rattle.std.specs.Prelude.{◌≡◌, ◌⊎◌, Bool, true, false, List, [], ◌∷◌, Result, Ok, Err, refl}
+use Rattle.std.specs.Prelude.{◌≡◌, ◌⊎◌, Bool, true, false, List, [], ◌∷◌, Ok, Err, refl}
 use Rattle.std.proofs.Common.{◌∙◌, ap, inl, inr}
 use Rattle.its_records.specs.declared.session.Reason.{Reason}
 use Rattle.its_plain.specs.Machine.{Machine}

@@ -9,6 +9,7 @@ use Rattle.its_records.specs.declared.calls.Pace.TheVariants.{Work}
 use Rattle.its_records.specs.declared.session.Event.{Event}
 use Rattle.its_records.specs.declared.session.Event.TheVariants as events
 use Rattle.its_records.specs.declared.show.Peek.{Peek}
+use Rattle.its_records.specs.declared.state_line.StateLine.TheVariants as states
 use Rattle.its_print.specs.Printing.{Line}
 use Rattle.its_print.specs.Printing as printed
 use Rattle.its_plain.specs.Operator.Lines.{Lined, Done, Peeks, lined, operate}
@@ -16,7 +17,8 @@ use Rattle.its_plain.specs.Transcript.Licence.{Licensed, most_dots}
 use Rattle.its_plain.specs.Machine.{Machine}
 use Rattle.its_plain.specs.Operator.{Block, Refuses, Does, Ticks, Quits}
 use Rattle.its_plain.specs.Transcript.{Fate, Ended, Open, Refused, TooLong, Walk, after_letter, walk_after, next_line, Paced, none, letter, Turned, all_made, none_runs, a_turn, Shows, end_line, input_end, too_long, unread_line, refused_line, obeyed_line, tick_line, peek_line}
-use Rattle.its_plain.specs.Transcript.Turns.{turn_after, turns_asked, ticks_asked}
+use Rattle.its_plain.specs.Operator.State.{restored}
+use Rattle.its_plain.specs.Transcript.Turns.{turn_after, turn_kept, turns_asked, ticks_asked}
 
 -- each letter is licensed in turn, and what follows goes on from there
 abbrev pub PacedOn : Walk → ℕ → List Pace → (Walk → Type 0) → Type 0
@@ -46,11 +48,12 @@ LinedOn v (Peeks i) next lines fate = (peek : Peek) × (rest : List Line) × (li
 abbrev pub Run : Walk → ℕ → List Item → List Line → Fate → Type 0
 Run v last [] lines fate = (lines ≡ []) × (fate ≡ Open)
 Run v last (Read e ∷ es) lines fate =
-    LinedOn v (lined v.machine v.block e) (λ w rest. TurnsOn (turns_asked e) (ticks_asked e) w last (λ x l more. Run x l es more fate) rest) lines fate
+    LinedOn v (lined v.machine v.block e)
+    (λ w rest. TurnsOn (turns_asked e) (ticks_asked e) w (turn_kept last e) (λ x l more. Run x l es more fate) rest) lines fate
 Run v last (Unread r ∷ es) lines fate = (lines ≡ printed.Refused v.line r ∷ []) × (fate ≡ Refused)
 Run v last (Beyond ∷ es) lines fate = (lines ≡ []) × (fate ≡ TooLong)
 
--- TICK and PEEK ask for no turns
+-- TICK and PEEK ask for no turns, and the last turn is that of the same slot
 pub ticks_no_turns : (m : Machine) (b : Block) (e : Event) (i k : ℕ) → lined m b e ≡ Done (Ticks i k) → turns_asked e ≡ 0
 unfolding lined operate
 ticks_no_turns m b (events.Run n q) i k is = cc
@@ -60,6 +63,16 @@ pub peek_no_turns : (m : Machine) (b : Block) (e : Event) (i : ℕ) → lined m 
 unfolding lined operate
 peek_no_turns m b (events.Run n q) i is = cc
 peek_no_turns m b _ i is = refl
+
+pub ticks_keep_turn : (m : Machine) (b : Block) (e : Event) (i k last : ℕ) → lined m b e ≡ Done (Ticks i k) → turn_kept last e ≡ last
+unfolding lined operate restored
+ticks_keep_turn m b (events.Restore (states.Turn s)) i k last is = cc
+ticks_keep_turn m b _ i k last is = refl
+
+pub peek_keeps_turn : (m : Machine) (b : Block) (e : Event) (i last : ℕ) → lined m b e ≡ Peeks i → turn_kept last e ≡ last
+unfolding lined operate restored
+peek_keeps_turn m b (events.Restore (states.Turn s)) i last is = cc
+peek_keeps_turn m b _ i last is = refl
 
 turns_none : (n q last : ℕ) (v : Walk) (next : Walk → ℕ → List Line → Type 0) (lines : List Line) → n ≡ 0 → TurnsOn n q v last next lines ≡ next v last lines
 turns_none zero q last v next lines e = refl
@@ -84,17 +97,19 @@ turned_on {q = q} {last = last} {v = v} (a_turn {n = n} {s = s} {w = w} {ps = ps
     (ps, lines, refl, long, paced_on paces (λ w. TurnsOn n q w s next lines) (turned_on more next h))
 
 lined_run : (v : Walk) (last : ℕ) (e : Event) (es : List Item) (lines : List Line) (fate : Fate) (l : Lined) → lined v.machine v.block e ≡ l
-    → LinedOn v l (λ w rest. TurnsOn (turns_asked e) (ticks_asked e) w last (λ x l more. Run x l es more fate) rest) lines fate
+    → LinedOn v l (λ w rest. TurnsOn (turns_asked e) (ticks_asked e) w (turn_kept last e) (λ x l more. Run x l es more fate) rest) lines fate
     → Run v last (Read e ∷ es) lines fate
 lined_run v last e es lines fate l is h =
-    subst (λ (l : Lined). LinedOn v l (λ w rest. TurnsOn (turns_asked e) (ticks_asked e) w last (λ x l more. Run x l es more fate) rest)
+    subst (λ (l : Lined). LinedOn v l (λ w rest. TurnsOn (turns_asked e) (ticks_asked e) w (turn_kept last e) (λ x l more. Run x l es more fate) rest)
     lines fate) (sym is) h
 
 -- what follows a line that asks for no turns
-no_turns : (v : Walk) (last : ℕ) (e : Event) (es : List Item) (lines : List Line) (fate : Fate) → turns_asked e ≡ 0 → Run v last es lines fate
-    → TurnsOn (turns_asked e) (ticks_asked e) v last (λ x l more. Run x l es more fate) lines
-no_turns v last e es lines fate asks h =
-    subst (λ (t : Type 0). t) (sym (turns_none (turns_asked e) (ticks_asked e) last v (λ x l more. Run x l es more fate) lines asks)) h
+no_turns : (v : Walk) (last : ℕ) (e : Event) (es : List Item) (lines : List Line) (fate : Fate) → turns_asked e ≡ 0 → turn_kept last e ≡ last
+    → Run v last es lines fate
+    → TurnsOn (turns_asked e) (ticks_asked e) v (turn_kept last e) (λ x l more. Run x l es more fate) lines
+no_turns v last e es lines fate asks keeps h =
+    subst (λ (t : Type 0). t) (sym (turns_none (turns_asked e) (ticks_asked e) (turn_kept last e) v (λ x l more. Run x l es more fate) lines asks))
+    (subst (λ (i : ℕ). Run v i es lines fate) (sym keeps) h)
 
 pub shows_run : (v : Walk) (last : ℕ) (es : List Item) (lines : List Line) (fate : Fate) → Shows v last es lines fate → Run v last es lines fate
 shows_run v last (Read e ∷ es) lines fate (end_line is) = lined_run v last e es [] Ended (Done Quits) is (refl, refl)
@@ -113,12 +128,18 @@ shows_run v last (Read e ∷ es) lines fate (tick_line {w = w} {i = i} {k = k} {
       rest,
       refl,
       long,
-      paced_on paces (λ w. TurnsOn (turns_asked e) (ticks_asked e) (next_line w) last (λ x l more. Run x l es more fate) rest)
-          (no_turns (next_line w) last e es rest fate (ticks_no_turns v.machine v.block e i k is) (shows_run (next_line w) last es rest fate goes)),
+      paced_on paces (λ w. TurnsOn (turns_asked e) (ticks_asked e) (next_line w) (turn_kept last e) (λ x l more. Run x l es more fate) rest)
+          (no_turns (next_line w) last e es rest fate (ticks_no_turns v.machine v.block e i k is) (ticks_keep_turn v.machine v.block e i k last is)
+          (shows_run (next_line w) last es rest fate goes)),
     )
 shows_run v last (Read e ∷ es) lines fate (peek_line {i = i} {peek = peek} {rest = rest} is goes) =
-    lined_run v last e es (printed.Peeked i peek ∷ rest) fate (Peeks i) is
-    (peek, rest, refl, no_turns (next_line v) last e es rest fate (peek_no_turns v.machine v.block e i is) (shows_run (next_line v) last es rest fate goes))
+    lined_run v last e es (printed.Peeked i peek ∷ rest) fate (Peeks i) is (
+      peek,
+      rest,
+      refl,
+      no_turns (next_line v) last e es rest fate (peek_no_turns v.machine v.block e i is) (peek_keeps_turn v.machine v.block e i last is)
+          (shows_run (next_line v) last es rest fate goes),
+    )
 
 -- and the walk to the rules
 record PacedTo (v : Walk) (i : ℕ) (ps : List Pace) (Next : Walk → Type 0) : Type 0 where
@@ -154,25 +175,27 @@ on_turned q zero last v lines next h = record { to = v; slot = last; rest = line
 on_turned q (suc n) last v lines next h =
     turn_by q n last v lines next (turn_after v.machine last) refl (λ w s rest t. on_turned q n s w rest next t) h
 
-after_no_turns : (v : Walk) (last : ℕ) (e : Event) (es : List Item) (lines : List Line) (fate : Fate) → turns_asked e ≡ 0
-    → TurnsOn (turns_asked e) (ticks_asked e) v last (λ x l more. Run x l es more fate) lines → Run v last es lines fate
-after_no_turns v last e es lines fate asks h =
-    subst (λ (t : Type 0). t) (turns_none (turns_asked e) (ticks_asked e) last v (λ x l more. Run x l es more fate) lines asks) h
+after_no_turns : (v : Walk) (last : ℕ) (e : Event) (es : List Item) (lines : List Line) (fate : Fate) → turns_asked e ≡ 0 → turn_kept last e ≡ last
+    → TurnsOn (turns_asked e) (ticks_asked e) v (turn_kept last e) (λ x l more. Run x l es more fate) lines → Run v last es lines fate
+after_no_turns v last e es lines fate asks keeps h =
+    subst (λ (i : ℕ). Run v i es lines fate) keeps
+    (subst (λ (t : Type 0). t) (turns_none (turns_asked e) (ticks_asked e) (turn_kept last e) v (λ x l more. Run x l es more fate) lines asks) h)
 
 lined_shows : (v : Walk) (last : ℕ) (e : Event) (es : List Item) (l : Lined) (lines : List Line) (fate : Fate) → lined v.machine v.block e ≡ l
-    → LinedOn v l (λ w rest. TurnsOn (turns_asked e) (ticks_asked e) w last (λ x l more. Run x l es more fate) rest) lines fate
+    → LinedOn v l (λ w rest. TurnsOn (turns_asked e) (ticks_asked e) w (turn_kept last e) (λ x l more. Run x l es more fate) rest) lines fate
     → ((w : Walk) (i : ℕ) (rest : List Line) → Run w i es rest fate → Shows w i es rest fate) → Shows v last (Read e ∷ es) lines fate
 lined_shows v last e es (Done (Refuses r)) lines fate is h goes = rw (h.0, h.1) (refused_line is)
 lined_shows v last e es (Done (Does n out touched b)) lines fate is h goes =
-    let t = on_turned (ticks_asked e) (turns_asked e) last (next_line (walk_after v n touched b)) h.0 (λ x l more. Run x l es more fate) h.2 in
+    let t = on_turned (ticks_asked e) (turns_asked e) (turn_kept last e) (next_line (walk_after v n touched b)) h.0 (λ x l more. Run x l es more fate) h.2 in
     obeyed_line is h.1 t.turns (goes t.to t.slot t.rest t.next)
 lined_shows v last e es (Done (Ticks i k)) lines fate is h goes =
-    let p = on_paced v i h.0 (λ w. TurnsOn (turns_asked e) (ticks_asked e) (next_line w) last (λ x l more. Run x l es more fate) h.1) h.4 in
-    let run = after_no_turns (next_line p.to) last e es h.1 fate (ticks_no_turns v.machine v.block e i k is) p.next in
+    let p = on_paced v i h.0 (λ w. TurnsOn (turns_asked e) (ticks_asked e) (next_line w) (turn_kept last e) (λ x l more. Run x l es more fate) h.1) h.4 in
+    let run = after_no_turns (next_line p.to) last e es h.1 fate (ticks_no_turns v.machine v.block e i k is)
+    (ticks_keep_turn v.machine v.block e i k last is) p.next in
     rw h.2 (tick_line is h.3 p.paces (goes (next_line p.to) last h.1 run))
 lined_shows v last e es (Done Quits) lines fate is h goes = rw (h.0, h.1) (end_line is)
 lined_shows v last e es (Peeks i) lines fate is h goes =
-    let run = after_no_turns (next_line v) last e es h.1 fate (peek_no_turns v.machine v.block e i is) h.3 in
+    let run = after_no_turns (next_line v) last e es h.1 fate (peek_no_turns v.machine v.block e i is) (peek_keeps_turn v.machine v.block e i last is) h.3 in
     rw h.2 (peek_line is (goes (next_line v) last h.1 run))
 
 pub run_shows : (v : Walk) (last : ℕ) (es : List Item) (lines : List Line) (fate : Fate) → Run v last es lines fate → Shows v last es lines fate

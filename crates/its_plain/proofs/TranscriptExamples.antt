@@ -7,12 +7,15 @@ use Rattle.its_records.specs.declared.calls.Pace.{Pace}
 use Rattle.its_records.specs.declared.calls.Pace.TheVariants.{Work, Off}
 use Rattle.its_records.specs.declared.session.Event.TheVariants as events
 use Rattle.its_records.specs.declared.session.Reason.TheVariants as reasons
+use Rattle.its_records.specs.declared.state_line.StateLine.TheVariants as states
 use Rattle.its_print.specs.Printing.{Line}
 use Rattle.its_print.specs.Printing as printed
 use Rattle.its_plain.specs.Machine.{no_machine}
 use Rattle.its_plain.specs.Operator.Clock.{after_clock}
 use Rattle.its_plain.specs.Operator.Lines.{operate, lined}
+use Rattle.its_plain.specs.Operator.State.{restored}
 use Rattle.its_plain.specs.Transcript.{Fate, Ended, Open, Refused, at_start, next_line, none, letter, end_line, input_end, refused_line, obeyed_line, all_made, tick_line, Transcript}
+use Rattle.its_plain.specs.Transcript.Course.{run_of, last_turn}
 use Rattle.its_plain.specs.Transcript.Turns.{highest}
 use Rattle.its_plain.proofs.RunLaws.{PacedOn, Run, shows_run}
 
@@ -29,6 +32,15 @@ absent = obeyed_line refl refl all_made (refused_line refl)
 off : Transcript (Read (events.Tick 0 2) ∷ []) (printed.Ticks 0 (Off ∷ Off ∷ []) ∷ []) Open
 unfolding lined operate no_machine
 off = tick_line refl refl (letter _ (tt, refl) (λ e. absurd cc) (letter _ (tt, refl) (λ e. absurd cc) none)) input_end
+
+-- TURN shows nothing, and the slot that it names had the last turn
+turn : Transcript (Read (events.Restore (states.Turn 7)) ∷ []) [] Open
+unfolding lined operate restored no_machine
+turn = obeyed_line refl refl all_made input_end
+
+turn_of : last_turn (run_of (Read (events.Restore (states.Turn 7)) ∷ []) []) ≡ 7
+unfolding last_turn lined operate restored no_machine
+turn_of = refl
 
 -- and no `.`
 abbrev first_letters : List Line → List Pace

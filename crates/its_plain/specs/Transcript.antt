@@ -17,7 +17,7 @@ use Rattle.its_plain.specs.Operator.Lines.{Lined, Done, Peeks, lined}
 use Rattle.its_plain.specs.Transcript.Licence.{Licensed, Dots, most_dots, dots_after, dots_after_line}
 use Rattle.its_plain.specs.Machine.{Machine, no_machine}
 use Rattle.its_plain.specs.Operator.{Block, no_block, Refuses, Does, Ticks, Quits}
-use Rattle.its_plain.specs.Transcript.Turns.{turn_after, highest, turns_asked, ticks_asked}
+use Rattle.its_plain.specs.Transcript.Turns.{turn_after, highest, turn_kept, turns_asked, ticks_asked}
 
 -- how a session ends: at END, at the end of the events, with a refused line, or when a line past
 -- the most that a session may have begins
@@ -98,12 +98,12 @@ pub data Shows : Walk → ℕ → List Item → List Line → Fate → Type 0 wh
       → Comes v e (Done (Refuses r))
       → Shows v last (Read e ∷ es) (printed.Refused v.line r ∷ []) Refused
   -- any other line: what it shows comes first, then the turns that it asks for, which RUN alone
-  -- does
+  -- does. TURN says whose turn was the last
   obeyed_line : {v w : Walk} {last l : ℕ} {e : Event} {n : Machine} {out : List Line} {touched : ℕ → Bool} {b : Block}
       {es : List Item} {lines more rest : List Line} {fate : Fate}
       → Comes v e (Done (Does n out touched b))
       → lines ≡ out ++ more
-      → Turned (ticks_asked e) (turns_asked e) (next_line (walk_after v n touched b)) last more w l rest
+      → Turned (ticks_asked e) (turns_asked e) (next_line (walk_after v n touched b)) (turn_kept last e) more w l rest
       → Shows w l es rest fate
       → Shows v last (Read e ∷ es) lines fate
   -- TICK: a `T` line with as many letters as there are ticks

@@ -27,9 +27,10 @@
 //!   12 dots are in a row, and `Fair.FairTurns` that the turns of a RUN are fair.
 //!
 //! Laws, among others: the transcript as a function that walks over the events (`RunLaws`, proved
-//! both ways), fair turns (`FairLaws`), and what the decoding of a call reads and what a store
-//! leaves of that. Who may touch what is in its_security. Each constant is the number of its
-//! definition (`NumberLaws`).
+//! both ways), fair turns (`FairLaws`), what a line leaves of the machine, or has found if it is a
+//! line of the state part (`CallLineLaws.line_does`), and what the decoding of a call reads and
+//! what a store leaves of that. Who may touch what is in its_security. Each constant is the number
+//! of its definition (`NumberLaws`).
 //!
 //! A word of a file that is gone is refused (NOFILE). Between FILE and EOF this cannot occur,
 //! because no line there takes a file away; so the definition needs no premise on the block. In the

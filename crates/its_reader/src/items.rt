@@ -9,7 +9,7 @@ ghost use Rattle.its_reader.specs.Items.{Finds, end_found, found_fits, found_of,
 
 use super::lines::{Lines, Next};
 use its_io::{Failed, Source};
-use its_records::{Bad, Event, Place, Reason};
+use its_records::{Bad, Event, Place, Reason, StateLine};
 use its_session::read_line;
 
 /// What is found next in a session.
@@ -118,10 +118,22 @@ fn place_after(place: Place, event: &Event) -> Place
     ensures { result ≡ place_after place event.now }
 {
     match event {
+        Event::Restore { line } => place_after_state_line(place, line),
         Event::Load { .. } => Place::Load,
         Event::File { .. } => Place::File,
         Event::Go { .. } => Place::Plain,
         Event::EndFile => Place::Plain,
+        _ => next_place(place),
+    }
+}
+
+/// The place of the line after one of the state part: SYSTEM begins it, and READY ends it.
+fn place_after_state_line(place: Place, line: &StateLine) -> Place
+    ensures { result ≡ place_after place (Event.Restore line.now) }
+{
+    match line {
+        StateLine::System { .. } => Place::System,
+        StateLine::Ready => Place::Plain,
         _ => next_place(place),
     }
 }
@@ -142,6 +154,9 @@ fn version_after(version: u8, event: &Event) -> u8
 {
     match event {
         Event::Version { v } => *v,
+        Event::Restore {
+            line: StateLine::System { v },
+        } => *v,
         _ => version,
     }
 }

@@ -3,6 +3,7 @@
 ghost use Rattle.std.specs.Prelude.{◌≡◌};
 ghost use Rattle.its_records.specs.Refusals.{reason_of};
 
+use super::state_line::StateLine;
 use arrayvec::ArrayVec;
 use its_word::{ConsoleNumber, Slot, Word};
 
@@ -105,6 +106,10 @@ pub enum Event {
         d: Word,
         x: Word,
         y: Word,
+    },
+    /// A line of the state part, which restores one thing of a system that was saved.
+    Restore {
+        line: StateLine,
     },
     End,
 }

@@ -220,7 +220,7 @@ page_is_none c i b not_begun = part_page c i (i / 1024) (omega arith) ∙ by (pa
     by (Some x) = let t : nat_lt (first_of (i / 1024)) i ≡ false =
         grind (arith, nat_tests) in ap (λ u. page_if u (record { words = table 1024 (word_part x (i / 1024) i); writable = true })) t
 
-absent_word : (d : Core) (a : ℕ) → 16 ≤ a → page_of d (a / 1024) ≡ None → word_at d a ≡ None
+pub absent_word : (d : Core) (a : ℕ) → 16 ≤ a → page_of d (a / 1024) ≡ None → word_at d a ≡ None
 absent_word d a l e = let f : nat_lt a 16 ≡ false = grind (arith, nat_tests) in in_page d a f ∙ ap (λ o. word_in o (a % 1024)) e
 
 absent_can : (d : Core) (a : ℕ) → 16 ≤ a → page_of d (a / 1024) ≡ None → can_store d a ≡ false

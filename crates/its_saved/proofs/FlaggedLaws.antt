@@ -43,7 +43,7 @@ use Rattle.its_stepped.proofs.Committing.TestLaws.{by_test, first_holds}
 use Rattle.its_plain.proofs.StepLaws.{AllOf, step_has}
 use Rattle.its_stepped.proofs.Duties.CallWays.{Any, Ways, Apart, call_ways}
 
-named_twice : (f : ℕ) → named_flags (named_flags f) ≡ named_flags f
+pub named_twice : (f : ℕ) → named_flags (named_flags f) ≡ named_flags f
 named_twice f = and_assoc 0o760040 f 0o760040
 
 -- at the start of a session

@@ -1,7 +1,7 @@
 -- What may follow a session may follow its checkpoint: a transcript of lines is one from any walk
 -- with the same machine, no more dots and, inside a block, the same block.
-use Rattle.std.specs.Prelude.{if◌then◌else◌, ◌≡◌, ◌≢◌, ◌≤◌, ◌<◌, ◌==◌, ◌||◌, ◌⊎◌, ℕ, ◌+◌, Bool, true, false, Option, Some, None, Result, Ok, Err, List, [], ◌∷◌, ◌++◌, refl}
-use Rattle.std.proofs.Common.{sym, ◌∙◌, ap, subst, arith}
+use Rattle.std.specs.Prelude.{if◌then◌else◌, ◌≡◌, ◌≢◌, ◌≤◌, ◌==◌, ◌||◌, ℕ, ◌+◌, Bool, true, false, Option, Some, None, Result, Ok, Err, List, refl}
+use Rattle.std.proofs.Common.{sym, ap, subst, arith}
 use Rattle.its_records.specs.Item.{Item}
 use Rattle.its_records.specs.declared.calls.Pace.{Pace}
 use Rattle.its_records.specs.declared.calls.Pace.TheVariants.{Step, Work, Wait, Off}
@@ -10,6 +10,8 @@ use Rattle.its_records.specs.declared.session.Event.TheVariants as events
 use Rattle.its_records.specs.declared.session.Place.{Place}
 use Rattle.its_records.specs.declared.session.Place.TheVariants as places
 use Rattle.its_records.specs.declared.session.Reason.{Reason}
+use Rattle.its_records.specs.declared.state_line.StateLine.{StateLine}
+use Rattle.its_records.specs.declared.state_line.StateLine.TheVariants as states
 use Rattle.its_print.specs.Printing.{Line}
 use Rattle.its_records.specs.declared.show.JobShow.{JobShow}
 use Rattle.its_print.specs.Printing as printed
@@ -19,10 +21,11 @@ use Rattle.its_session.specs.Events.{place_after}
 use Rattle.its_plain.specs.Call.Step.{disturbed, makes}
 use Rattle.its_plain.specs.Transcript.Licence.{Licensed, Dots, dots_after, dots_after_line}
 use Rattle.its_plain.specs.Machine.{Whole, Machine}
-use Rattle.its_plain.specs.Operator.{Block, Refuses, Does, Ticks, Quits, quietly, disturbs}
+use Rattle.its_plain.specs.Operator.{Block, Operated, Refuses, Does, Ticks, Quits, quietly, disturbs}
 use Rattle.its_plain.specs.Machine.Own.{names_of}
 use Rattle.its_plain.specs.Operator.Clock.{after_clock}
 use Rattle.its_plain.specs.Operator.Files.{with_file_made, with_words_added, file_shown}
+use Rattle.its_plain.specs.Operator.State.{with_job_made, after_registers, with_alarm_set, with_superior_set, with_tty, with_disk, with_draft, with_words_written, with_usr, with_link, with_words_sent, with_end_shut, with_bytes_waiting, with_holder_set, restored}
 use Rattle.its_plain.specs.Operator.Symbols.{with_symbol_kept}
 use Rattle.its_plain.specs.Operator.Jobs.{after_load, with_words_loaded, with_page_protected, after_go, after_int, after_stop, after_cont, on_registers, examined, state_shown, after_deposit}
 use Rattle.its_plain.specs.Operator.Lines.{Lined, Done, Peeks, lined, operate, in_a_line, by_load, by_exam, by_state, shows, by_clock, peeked_at}
@@ -49,9 +52,68 @@ module _ (p : Place) (b c : Block) (h : BlockAlike p b c) where
   disturbs_same s (Ok n) = does h
   disturbs_same s (Err r) = refuses
 
+-- the same effect from the same block
+alike_self : (p : Place) (b : Block) → BlockAlike p b b
+alike_self places.First b = tt
+alike_self places.Plain b = tt
+alike_self places.System b = refl
+alike_self places.Load b = refl
+alike_self places.File b = refl
+
+abbrev Acts : Operated → Type 0
+Acts (Does n out touched b) = Unit {0}
+Acts (Refuses r) = Unit {0}
+Acts (Ticks s n) = ⊥
+Acts Quits = ⊥
+
+acts_same : (p : Place) (o : Operated) → Acts o → SameLined p (Done o) (Done o)
+acts_same p (Does n out touched b) h = does (alike_self p b)
+acts_same p (Refuses r) h = refuses
+acts_same p (Ticks s n) h = absurd h
+acts_same p Quits h = absurd h
+
+quietly_acts : (b : Block) (r : Result Machine Reason) → Acts (quietly b r)
+quietly_acts b (Ok n) = tt
+quietly_acts b (Err r) = tt
+
+disturbs_acts : (s : ℕ) (b : Block) (r : Result Machine Reason) → Acts (disturbs s b r)
+disturbs_acts s b (Ok n) = tt
+disturbs_acts s b (Err r) = tt
+
+clock_acts : (m : Machine) (b : Block) (n : ℕ) (r : Result Machine Reason) → Acts (by_clock m b n r)
+clock_acts m b n (Ok k) = tt
+clock_acts m b n (Err r) = tt
+
+restored_acts : (m : Machine) (b : Block) (l : StateLine) → Acts (restored m b l)
+unfolding restored
+restored_acts m b (states.System v) = tt
+restored_acts m b (states.Clock n) = clock_acts m b n (after_clock m n)
+restored_acts m b (states.File d x y) = quietly_acts (record b { file = names_of d x y }) (with_file_made m (names_of d x y))
+restored_acts m b (states.FileWords ws) = quietly_acts b (with_words_added m b.file ws.items)
+restored_acts m b (states.Job s u j c) = disturbs_acts s (record b { slot = s }) (with_job_made m s u j c)
+restored_acts m b (states.CoreWords a ws) = disturbs_acts b.slot b (with_words_loaded m b.slot a ws.items)
+restored_acts m b (states.ReadOnly p) = disturbs_acts b.slot b (with_page_protected m b.slot p)
+restored_acts m b (states.Symbol x a) = quietly_acts b (with_symbol_kept m b.slot x a)
+restored_acts m b (states.Regs r) = disturbs_acts b.slot b (on_registers m b.slot (after_registers r))
+restored_acts m b (states.Alarm s p n) = disturbs_acts s b (with_alarm_set m s p n)
+restored_acts m b (states.Under s t) = disturbs_acts s b (with_superior_set m s t)
+restored_acts m b (states.Tty s n w) = disturbs_acts s b (with_tty m s n w)
+restored_acts m b (states.Disk s n d x y at) = disturbs_acts s b (with_disk m s n (names_of d x y) at)
+restored_acts m b (states.Draft s n d x y) = disturbs_acts s b (with_draft m s n (names_of d x y))
+restored_acts m b (states.Wrote s n ws) = disturbs_acts s b (with_words_written m s n ws.items)
+restored_acts m b (states.Usr s n t w at) = disturbs_acts s b (with_usr m s n t w at)
+restored_acts m b (states.Join s n l w x y) = disturbs_acts s b (with_link m s n l w x y)
+restored_acts m b (states.Sent l ws) = quietly_acts b (with_words_sent m l ws.items)
+restored_acts m b (states.EndShut l w) = quietly_acts b (with_end_shut m l w)
+restored_acts m b (states.Input c bs) = quietly_acts b (with_bytes_waiting m c false bs.items)
+restored_acts m b (states.Output c bs) = quietly_acts b (with_bytes_waiting m c true bs.items)
+restored_acts m b (states.Hold c s) = quietly_acts b (with_holder_set m c s)
+restored_acts m b (states.Turn s) = tt
+restored_acts m b states.Ready = tt
+
 -- a line outside blocks
 outside : (m : Machine) (b c : Block) (e : Event) → Stands places.First e → SameLined (place_after places.Plain e) (lined m b e) (lined m c e)
-unfolding lined operate
+unfolding lined operate restored
 outside m b c events.Nothing h = does tt
 outside m b c (events.Version v) h = does tt
 outside m b c (events.Load u j console) h = by (after_load m u j console)
@@ -106,6 +168,8 @@ outside m b c (events.Show d x y) h = by (file_shown m d x y)
     by : (r : Result (List Line) Reason) → SameLined places.Plain (Done (shows m b r)) (Done (shows m c r))
     by (Ok out) = does tt
     by (Err r) = refuses
+outside m b c (events.Restore (states.System v)) h = does refl
+outside m b c (events.Restore _) h = cc
 outside m b c events.End h = quits
 
 -- a line of a LOAD block, and of a FILE block
@@ -121,6 +185,8 @@ in_load m b c (events.Symbol name a) h s = subst (λ k. SameLined places.Load (D
     (Done (quietly c (with_symbol_kept m k name a)))) (sym s) (quietly_same places.Load b c s (with_symbol_kept m b.slot name a))
 in_load m b c (events.Go a) h s = subst (λ k. SameLined places.Plain (Done (disturbs b.slot b (on_registers m b.slot (after_go a))))
     (Done (disturbs k c (on_registers m k (after_go a))))) (sym s) (disturbs_same places.Plain b c tt b.slot (on_registers m b.slot (after_go a)))
+in_load m b c (events.Restore (states.System v)) h s = cc
+in_load m b c (events.Restore _) h s = cc
 in_load m b c _ h s = cc
 
 in_file : (m : Machine) (b c : Block) (e : Event) → Stands places.File e → c.file ≡ b.file → SameLined (place_after places.File e) (lined m b e) (lined m c e)
@@ -129,19 +195,26 @@ in_file m b c events.Nothing h s = does s
 in_file m b c (events.Append words) h s = subst (λ k. SameLined places.File (Done (quietly b (with_words_added m b.file words.items)))
     (Done (quietly c (with_words_added m k words.items)))) (sym s) (quietly_same places.File b c s (with_words_added m b.file words.items))
 in_file m b c events.EndFile h s = does tt
+in_file m b c (events.Restore (states.System v)) h s = cc
+in_file m b c (events.Restore _) h s = cc
 in_file m b c _ h s = cc
 
--- a line of the state part, which is an empty one
-in_system : (m : Machine) (b c : Block) (e : Event) → Stands places.System e → SameLined (place_after places.System e) (lined m b e) (lined m c e)
+-- a line of the state part
+in_system : (m : Machine) (b c : Block) (e : Event) → Stands places.System e → c ≡ b → SameLined (place_after places.System e) (lined m b e) (lined m c e)
 unfolding lined operate
-in_system m b c events.Nothing h = does tt
-in_system m b c _ h = cc
+in_system m b c events.Nothing h s = does s
+in_system m b c (events.Restore l) h s = subst (λ x. SameLined (place_after places.System (events.Restore l)) (Done (restored m b l)) (Done (restored m x l)))
+    (sym s) (acts_same (place_after places.System (events.Restore l)) (restored m b l) (restored_acts m b l))
+in_system m b c _ h s = cc
 
 first_after : (e : Event) → place_after places.First e ≡ place_after places.Plain e
 first_after (events.Load u j console) = refl
 first_after (events.Go a) = refl
 first_after (events.File d x y) = refl
 first_after events.EndFile = refl
+first_after (events.Restore (states.System v)) = refl
+first_after (events.Restore states.Ready) = refl
+first_after (events.Restore _) = refl
 first_after e = refl
 
 at_first : (q : Place) → is_at places.Plain q ≡ true → is_at places.First q ≡ true
@@ -158,7 +231,7 @@ stands_first e h = at_first (place_of e) h
 same_lined : (p : Place) (m : Machine) (b c : Block) (e : Event) → Stands p e → BlockAlike p b c → SameLined (place_after p e) (lined m b e) (lined m c e)
 same_lined places.First m b c e stands alike = subst (λ p. SameLined p (lined m b e) (lined m c e)) (sym (first_after e)) (outside m b c e stands)
 same_lined places.Plain m b c e stands alike = outside m b c e (stands_first e stands)
-same_lined places.System m b c e stands alike = in_system m b c e stands
+same_lined places.System m b c e stands alike = in_system m b c e stands alike
 same_lined places.Load m b c e stands alike = in_load m b c e stands alike
 same_lined places.File m b c e stands alike = in_file m b c e stands alike
 

@@ -17,6 +17,7 @@ pub mod UnderLaws
 pub mod TightLaws
 pub mod FlaggedLaws
 pub mod LinesKeepLaws
+pub mod AliveLaws
 pub mod NamedLaws
 pub mod RunLaws
 pub mod GoesOnLaws
@@ -25,3 +26,13 @@ pub mod AboutLaws
 pub mod RestoredLaws
 pub mod SilentLaws
 pub mod RestLaws
+pub mod ReadableLaws
+pub mod CountLaws
+pub mod ReadLaws
+pub mod VersionLaws
+pub mod TurnLaws
+pub mod NarrowCallLaws
+pub mod NarrowStepLaws
+pub mod NarrowLineLaws
+pub mod NarrowAlarmLaws
+pub mod NarrowLaws

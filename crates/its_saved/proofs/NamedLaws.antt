@@ -1,7 +1,7 @@
 -- The names of files, of drafts and of files that are read are three words each: at the start of a
 -- session, after each step and after each line.
 use Rattle.std.specs.Prelude.{if◌then◌else◌, ◌≡◌, ◌==◌, ℕ, ◌+◌, Bool, true, false, Option, Some, None, IfSome, List, [], ◌∷◌, ◌++◌, Result, Ok, Err, length, option_map, nat_lt, is_some, refl}
-use Rattle.std.proofs.Common.{subst}
+use Rattle.std.proofs.Common.{sym, subst}
 use Rattle.its_word.specs.Core.{Core, Page, can_store, word_at, page_of}
 use Rattle.its_word.specs.Directory.{same_names, kept_file, without_names, changed_if, with_changed, longer, named}
 use Rattle.its_word.specs.Limits.{most_symbols}
@@ -12,6 +12,8 @@ use Rattle.its_records.specs.declared.session.Event.{Event}
 use Rattle.its_records.specs.declared.session.Event.TheVariants as events
 use Rattle.its_records.specs.declared.session.Reason.{Reason}
 use Rattle.its_records.specs.declared.show.JobShow.{JobShow}
+use Rattle.its_records.specs.declared.state_line.StateLine.{StateLine}
+use Rattle.its_records.specs.declared.state_line.StateLine.TheVariants as states
 use Rattle.its_frame.specs.declared.change.Change.{Change}
 use Rattle.its_frame.specs.declared.change.Change.TheVariants as changes
 use Rattle.its_frame.specs.declared.change.Opened.{Opened}
@@ -33,9 +35,11 @@ use Rattle.its_plain.specs.Operator.Clock.{after_clock, after_clock_if, clock_en
 use Rattle.its_plain.specs.Operator.Files.{channels_of, with_file_made, with_file_made_if, with_word_added, with_word_added_if, with_word_added_to, with_words_added, file_shown}
 use Rattle.its_plain.specs.Operator.Jobs.{on_job, with_holder, after_load, after_load_in, with_core, with_words_loaded, with_words_loaded_if, with_words_stored, with_word_loaded, with_word_loaded_of, with_stored, words_barred, with_page_protected, with_page_protected_in, with_registers, on_registers, after_go, after_int, after_stop, after_cont, examined, state_shown, after_deposit, after_deposit_in}
 use Rattle.its_plain.specs.Operator.Lines.{Lined, Done, Peeks, lined, operate, in_a_line, by_load, by_exam, by_state, shows, by_clock, peeked_at}
+use Rattle.its_plain.specs.Operator.State.{with_job_made, after_registers, with_alarm_set, with_superior_set, on_tty, with_tty, with_disk, with_draft, with_words_written, with_usr, with_link, with_words_sent, with_end_shut, with_bytes_waiting, with_holder_set, restored}
 use Rattle.its_plain.specs.Operator.Symbols.{with_symbol_kept, with_symbol_kept_of, with_symbol_kept_if}
 use Rattle.its_plain.specs.Operator.Version.{with_version}
 use Rattle.its_plain.specs.Unit.Interrupt.{delivered}
+use Rattle.its_plain.proofs.RestoredLaws.{OkBy, MakesJob, job_made, SetsAlarm, alarm_set, SetsSuperior, superior_set, Opens, tty_opened, disk_opened, empty_draft, draft_opened, usr_opened, words_appended, WritesWords, words_written, Joins, link_joined, Sends, words_sent, ShutsEnd, end_shut, PutsBytes, bytes_put, SetsHolder, holder_set}
 use Rattle.its_plain.proofs.StepLaws.{AllOf, step_has}
 use Rattle.its_saved.specs.WellFormed.{IsNamed, AllNamed, NamedOn, Named}
 use Rattle.its_saved.proofs.LinesKeepLaws.{KeepsJobs, line_keeps_jobs}
@@ -229,6 +233,10 @@ named_jobs = record {
   stopped = λ q h. h;
   continued = λ q h. h;
   alarmed = λ q c h. h;
+  registered = λ q r h. h;
+  armed = λ q a h. h;
+  placed = λ q t h. h;
+  channelled = λ q n f k h. channel_named n f k q h;
 }
 
 to_job : (o : Option Whole) → NamedIn o → IfSome o NamedBy
@@ -390,6 +398,68 @@ adds_filed (w ∷ ws) m n h = by (with_word_added m n w) (add_filed m h n w) (λ
     by (Ok k) f more = more k f
     by (Err r) f more = tt
 
+-- a line of the state part
+filed_by : (P : Machine → Type 0) (r : Result Machine Reason) → OkBy P r → ((n : Machine) → P n → AllNamed n.files) → FiledR r
+filed_by P (Ok n) h f = f n h
+filed_by P (Err r) h f = tt
+
+files_at : (k n : Machine) → n ≡ k → AllNamed k.files → AllNamed n.files
+files_at k n e h = subst (λ (x : Machine). AllNamed x.files) (sym e) h
+
+appended_files : (m : Machine) (s i : ℕ) (ws : List ℕ) → (effects (words_appended i ws) s m).files ≡ m.files
+unfolding effect
+appended_files m s i [] = refl
+appended_files m s i (w ∷ ws) = appended_files (effect (changes.Append i w) s m) s i ws
+
+restored_filed : (m : Machine) (b : Block) (l : StateLine) → AllNamed m.files → FiledOp (restored m b l)
+unfolding restored effect
+restored_filed m b (states.System v) h = version_filed m h v
+restored_filed m b (states.Clock n) h = clock_filed m h b n
+restored_filed m b (states.File d x y) h = quietly_filed m h _ _ (file_filed m h (names_of d x y) refl)
+restored_filed m b (states.FileWords ws) h = quietly_filed m h b _ (adds_filed ws.items m b.file h)
+restored_filed m b (states.Job s u j c) h =
+    disturbs_filed m h s _ _ (filed_by (MakesJob m s u j c) (with_job_made m s u j c) (job_made m s u j c) (λ n f. files_at _ n f.is h))
+restored_filed m b (states.CoreWords a ws) h = disturbs_filed m h b.slot b _ (loaded_filed m b.slot a ws.items h)
+restored_filed m b (states.ReadOnly p) h = disturbs_filed m h b.slot b _ (protected_filed m h b.slot p)
+restored_filed m b (states.Symbol x a) h = quietly_filed m h b _ (symbol_filed m h b.slot x a)
+restored_filed m b (states.Regs r) h = disturbs_filed m h b.slot b _ (registers_filed m h b.slot (after_registers r))
+restored_filed m b (states.Alarm s p n) h =
+    disturbs_filed m h s b _ (filed_by (SetsAlarm m s p n) (with_alarm_set m s p n) (alarm_set m s p n) (λ k f. files_at _ k f.is h))
+restored_filed m b (states.Under s t) h =
+    disturbs_filed m h s b _ (filed_by (SetsSuperior m s t) (with_superior_set m s t) (superior_set m s t) (λ n f. files_at _ n f.is h))
+restored_filed m b (states.Tty s i w) h =
+    disturbs_filed m h s b _ (filed_by (Opens m s i (on_tty w)) (with_tty m s i w) (tty_opened m s i w) (λ n f. files_at _ n f.is h))
+restored_filed m b (states.Disk s i d x y at) h =
+    disturbs_filed m h s b _
+    (filed_by (Opens m s i (Reads (names_of d x y) at)) (with_disk m s i (names_of d x y) at) (disk_opened m s i (names_of d x y) at)
+    (λ n f. files_at _ n f.is h))
+restored_filed m b (states.Draft s i d x y) h =
+    disturbs_filed m h s b _
+    (filed_by (Opens m s i (empty_draft (names_of d x y))) (with_draft m s i (names_of d x y)) (draft_opened m s i (names_of d x y))
+    (λ n f. files_at _ n f.is h))
+restored_filed m b (states.Wrote s i ws) h =
+    disturbs_filed m h s b _
+    (filed_by (WritesWords m s i ws.items) (with_words_written m s i ws.items) (words_written m s i ws.items)
+    (λ n f. files_at (effects (words_appended i ws.items) s m) n f.is (subst AllNamed (sym (appended_files m s i ws.items)) h)))
+restored_filed m b (states.Usr s i t w at) h =
+    disturbs_filed m h s b _ (filed_by (Opens m s i (On t w at)) (with_usr m s i t w at) (usr_opened m s i t w at) (λ n f. files_at _ n f.is h))
+restored_filed m b (states.Join s i l w x y) h =
+    disturbs_filed m h s b _ (filed_by (Joins m s i l w x y) (with_link m s i l w x y) (link_joined m s i l w x y) (λ n f. files_at _ n f.is h))
+restored_filed m b (states.Sent l ws) h =
+    quietly_filed m h b _ (filed_by (Sends m l ws.items) (with_words_sent m l ws.items) (words_sent m l ws.items) (λ n f. files_at _ n f.is h))
+restored_filed m b (states.EndShut l w) h =
+    quietly_filed m h b _ (filed_by (ShutsEnd m l w) (with_end_shut m l w) (end_shut m l w) (λ n f. files_at _ n f.is h))
+restored_filed m b (states.Input c bs) h =
+    quietly_filed m h b _ (filed_by (PutsBytes m c false bs.items) (with_bytes_waiting m c false bs.items) (bytes_put m c false bs.items)
+    (λ n f. files_at _ n f.is h))
+restored_filed m b (states.Output c bs) h =
+    quietly_filed m h b _ (filed_by (PutsBytes m c true bs.items) (with_bytes_waiting m c true bs.items) (bytes_put m c true bs.items)
+    (λ n f. files_at _ n f.is h))
+restored_filed m b (states.Hold c s) h =
+    quietly_filed m h b _ (filed_by (SetsHolder m c s) (with_holder_set m c s) (holder_set m c s) (λ n f. files_at _ n f.is h))
+restored_filed m b (states.Turn s) h = h
+restored_filed m b states.Ready h = h
+
 operate_filed : (m : Machine) (b : Block) (e : Event) → AllNamed m.files → FiledOp (operate m b e)
 unfolding operate after_load
 operate_filed m b (events.Version v) h = version_filed m h v
@@ -412,6 +482,7 @@ operate_filed m b (events.Deposit s a w) h = disturbs_filed m h s b _ (deposit_f
 operate_filed m b (events.Stop s) h = disturbs_filed m h s b _ (registers_filed m h s after_stop)
 operate_filed m b (events.Cont s) h = disturbs_filed m h s b _ (registers_filed m h s after_cont)
 operate_filed m b (events.Show d x y) h = shown_filed m h b (file_shown m d x y)
+operate_filed m b (events.Restore line) h = restored_filed m b line h
 operate_filed m b events.End h = tt
 operate_filed m b _ h = h
 

@@ -1,5 +1,5 @@
 -- What is shown of lines that follow a session is shown from the state that the session has led to.
-use Rattle.std.specs.Prelude.{◌≡◌, ℕ, zero, suc, Option, Some, None, Result, Ok, Err, List, [], ◌∷◌, ◌++◌, length, drop, unwrap_or, refl}
+use Rattle.std.specs.Prelude.{◌≡◌, ℕ, zero, suc, true, false, Option, Some, None, Result, Ok, Err, List, [], ◌∷◌, ◌++◌, length, drop, unwrap_or, refl}
 use Rattle.std.proofs.Common.{sym, ◌∙◌, ap, subst, append_assoc}
 use Rattle.its_records.specs.Item.{Item, Read, Unread, Beyond}
 use Rattle.its_records.specs.declared.calls.Pace.{Pace}
@@ -7,9 +7,12 @@ use Rattle.its_records.specs.declared.calls.Pace.TheVariants.{Step, Work, Wait, 
 use Rattle.its_records.specs.declared.session.Event.{Event}
 use Rattle.its_records.specs.declared.session.Event.TheVariants as events
 use Rattle.its_records.specs.declared.session.Reason.{Reason}
+use Rattle.its_records.specs.declared.state_line.StateLine.{StateLine}
+use Rattle.its_records.specs.declared.state_line.StateLine.TheVariants as states
 use Rattle.its_records.specs.declared.show.JobShow.{JobShow}
 use Rattle.its_print.specs.Printing.{Line}
 use Rattle.its_print.specs.Printing as printed
+use Rattle.its_session.specs.Events.{before_end}
 use Rattle.its_plain.specs.Machine.{Whole, Machine}
 use Rattle.its_plain.specs.Machine.Own.{names_of}
 use Rattle.its_plain.specs.Operator.{Block, Refuses, Does, Ticks, Quits, quietly, disturbs}
@@ -17,28 +20,13 @@ use Rattle.its_plain.specs.Operator.Clock.{after_clock}
 use Rattle.its_plain.specs.Operator.Files.{with_file_made, with_words_added, file_shown}
 use Rattle.its_plain.specs.Operator.Jobs.{after_load, with_words_loaded, with_page_protected, after_go, after_int, after_stop, after_cont, on_registers, examined, state_shown, after_deposit}
 use Rattle.its_plain.specs.Operator.Lines.{Lined, Done, Peeks, lined, operate, in_a_line, by_load, by_exam, by_state, shows, by_clock, peeked_at}
+use Rattle.its_plain.specs.Operator.State.{with_job_made, after_registers, with_alarm_set, with_superior_set, with_tty, with_disk, with_draft, with_words_written, with_usr, with_link, with_words_sent, with_end_shut, with_bytes_waiting, with_holder_set, restored}
 use Rattle.its_plain.specs.Operator.Symbols.{with_symbol_kept}
 use Rattle.its_plain.specs.Transcript.{Fate, Ended, Open, Refused, TooLong, Walk, after_letter, walk_after, next_line, Shows}
-use Rattle.its_plain.specs.Transcript.Course.{Deed, Lines, Turns, Letter, Moment, Course, machine_after, letters, paced, turned_by, turned, past, course}
+use Rattle.its_plain.specs.Transcript.Course.{Course, machine_after, letters, paced, turned_by, turned, past, course, turn_past}
 use Rattle.its_plain.specs.Transcript.Licence.{Licensed}
-use Rattle.its_plain.specs.Transcript.Turns.{turn_after, turns_asked, ticks_asked}
-use Rattle.its_plain.proofs.RunLaws.{PacedOn, TurnBy, TurnsOn, LinedOn, Run, shows_run, run_shows}
-
--- the items before END
-abbrev pub before_end : List Item → List Item
-before_end [] = []
-before_end (Read events.End ∷ es) = []
-before_end (x ∷ es) = x ∷ before_end es
-
--- the slot of the last turn after a moment, and after some moments
-abbrev pub turn_at : ℕ → Deed → ℕ
-turn_at last (Lines e) = last
-turn_at last (Turns s) = s
-turn_at last (Letter i p) = last
-
-abbrev pub turn_past : ℕ → List Moment → ℕ
-turn_past last [] = last
-turn_past last (t ∷ ts) = turn_past (turn_at last t.deed) ts
+use Rattle.its_plain.specs.Transcript.Turns.{turn_after, turn_kept, turns_asked, ticks_asked}
+use Rattle.its_plain.proofs.RunLaws.{PacedOn, TurnBy, TurnsOn, LinedOn, Run, ticks_keep_turn, peek_keeps_turn, shows_run, run_shows}
 
 -- a session that ends at END or at the end of its lines
 abbrev pub IsOver : Fate → Type 0
@@ -84,6 +72,33 @@ peek_goes : (s : ℕ) (o : Option Whole) → Goes (peeked_at s o)
 peek_goes s (Some q) = tt
 peek_goes s None = tt
 
+restored_goes : (m : Machine) (b : Block) (l : StateLine) → Goes (Done (restored m b l))
+unfolding restored
+restored_goes m b (states.System v) = tt
+restored_goes m b (states.Clock n) = clock_goes m b n (after_clock m n)
+restored_goes m b (states.File d x y) = quietly_goes (record b { file = names_of d x y }) (with_file_made m (names_of d x y))
+restored_goes m b (states.FileWords ws) = quietly_goes b (with_words_added m b.file ws.items)
+restored_goes m b (states.Job s u j c) = disturbs_goes s (record b { slot = s }) (with_job_made m s u j c)
+restored_goes m b (states.CoreWords a ws) = disturbs_goes b.slot b (with_words_loaded m b.slot a ws.items)
+restored_goes m b (states.ReadOnly p) = disturbs_goes b.slot b (with_page_protected m b.slot p)
+restored_goes m b (states.Symbol x a) = quietly_goes b (with_symbol_kept m b.slot x a)
+restored_goes m b (states.Regs r) = disturbs_goes b.slot b (on_registers m b.slot (after_registers r))
+restored_goes m b (states.Alarm s p n) = disturbs_goes s b (with_alarm_set m s p n)
+restored_goes m b (states.Under s t) = disturbs_goes s b (with_superior_set m s t)
+restored_goes m b (states.Tty s n w) = disturbs_goes s b (with_tty m s n w)
+restored_goes m b (states.Disk s n d x y at) = disturbs_goes s b (with_disk m s n (names_of d x y) at)
+restored_goes m b (states.Draft s n d x y) = disturbs_goes s b (with_draft m s n (names_of d x y))
+restored_goes m b (states.Wrote s n ws) = disturbs_goes s b (with_words_written m s n ws.items)
+restored_goes m b (states.Usr s n t w at) = disturbs_goes s b (with_usr m s n t w at)
+restored_goes m b (states.Join s n l w x y) = disturbs_goes s b (with_link m s n l w x y)
+restored_goes m b (states.Sent l ws) = quietly_goes b (with_words_sent m l ws.items)
+restored_goes m b (states.EndShut l w) = quietly_goes b (with_end_shut m l w)
+restored_goes m b (states.Input c bs) = quietly_goes b (with_bytes_waiting m c false bs.items)
+restored_goes m b (states.Output c bs) = quietly_goes b (with_bytes_waiting m c true bs.items)
+restored_goes m b (states.Hold c s) = quietly_goes b (with_holder_set m c s)
+restored_goes m b (states.Turn s) = tt
+restored_goes m b states.Ready = tt
+
 -- an event is END, or its line does not end the session
 pub data IsEnd (m : Machine) (b : Block) (e : Event) : Type 0 where
   it_is : e ≡ events.End → IsEnd m b e
@@ -109,6 +124,7 @@ is_end m b (events.Stop s) = it_goes (disturbs_goes s b (on_registers m s after_
 is_end m b (events.Cont s) = it_goes (disturbs_goes s b (on_registers m s after_cont)) refl
 is_end m b (events.Peek s) = it_goes (peek_goes s (m.jobs s)) refl
 is_end m b (events.Show d x y) = it_goes (shows_goes m b (file_shown m d x y)) refl
+is_end m b (events.Restore line) = it_goes (restored_goes m b line) refl
 is_end m b _ = it_goes tt refl
 
 -- an event that stays is before END
@@ -190,22 +206,23 @@ module _ (rest : List Item) (more : List Line) (end : Fate) where
   drop_shown (x ∷ out) ls = drop_shown out ls
 
   line_from : (v : Walk) (last : ℕ) (e : Event) (lines : List Line) (fate : Fate) (one two : Walk → ℕ → List Line → Type 0) (k : Walk → ℕ → List Line → Course)
-      (o : Lined) → Goes o → IsOver fate
+      (o : Lined) → lined v.machine v.block e ≡ o → Goes o → IsOver fate
       → ((x : Walk) (l : ℕ) (ls : List Line) → one (next_line x) l ls → two (next_line x) l (ls ++ more) → FromEnd l (k x l ls))
-      → LinedOn v o (λ w ls. TurnsOn (turns_asked e) (ticks_asked e) w last one ls) lines fate
-      → LinedOn v o (λ w ls. TurnsOn (turns_asked e) (ticks_asked e) w last two ls) (lines ++ more) end
-      → FromEnd last (past v e o lines (λ w ls. turned (turns_asked e) w last ls k))
-  line_from v last e lines fate one two k (Done (Refuses r)) goes over each a b = absurd (subst IsOver a.1 over)
-  line_from v last e lines fate one two k (Done (Does n out touched c)) goes over each a b =
+      → LinedOn v o (λ w ls. TurnsOn (turns_asked e) (ticks_asked e) w (turn_kept last e) one ls) lines fate
+      → LinedOn v o (λ w ls. TurnsOn (turns_asked e) (ticks_asked e) w (turn_kept last e) two ls) (lines ++ more) end
+      → FromEnd last (past v e o lines (λ w ls. turned (turns_asked e) w (turn_kept last e) ls k))
+  line_from v last e lines fate one two k (Done (Refuses r)) is goes over each a b = absurd (subst IsOver a.1 over)
+  line_from v last e lines fate one two k (Done (Does n out touched c)) is goes over each a b =
       let w = walk_after v n touched c in
       let ls = a.0 in
       let here : drop (length out) lines ≡ ls = ap (drop (length out)) a.1 ∙ drop_shown out ls in
       let there : b.0 ≡ ls ++ more =
       sym (drop_shown out b.0) ∙ ap (drop (length out)) (sym b.1 ∙ ap (λ xs. xs ++ more) a.1 ∙ append_assoc out ls more) ∙ drop_shown out (ls ++ more) in
-      subst (λ xs. FromEnd last (turned (turns_asked e) w last xs k)) (sym here)
-      (turns_from (turns_asked e) (ticks_asked e) last w ls one two k each a.2
-      (subst (λ xs. TurnsOn (turns_asked e) (ticks_asked e) (next_line w) last two xs) there b.2))
-  line_from v last e lines fate one two k (Done (Ticks i q)) goes over each a b =
+      let t = turn_kept last e in
+      subst (λ xs. FromEnd t (turned (turns_asked e) w t xs k)) (sym here)
+      (turns_from (turns_asked e) (ticks_asked e) t w ls one two k each a.2
+      (subst (λ xs. TurnsOn (turns_asked e) (ticks_asked e) (next_line w) t two xs) there b.2))
+  line_from v last e lines fate one two k (Done (Ticks i q)) is goes over each a b =
       let ps = a.0 in
       let ls = a.1 in
       let both : printed.Ticks i ps ∷ (ls ++ more) ≡ printed.Ticks i b.0 ∷ b.1 = ap (λ xs. xs ++ more) (sym a.2) ∙ b.2 in
@@ -213,21 +230,27 @@ module _ (rest : List Item) (more : List Line) (end : Fate) where
       let tail : ls ++ more ≡ b.1 = ap (drop 1) both in
       let n = turns_asked e in
       let t = ticks_asked e in
+      let l = turn_kept last e in
+      let kept : l ≡ last = ticks_keep_turn v.machine v.block e i q last is in
       let w = paced_end v i ps in
-      let c : TurnsOn n t (next_line w) last one ls = paced_to ps v i (λ x. TurnsOn n t (next_line x) last one ls) a.4 in
-      let d0 : TurnsOn n t (next_line (paced_end v i b.0)) last two b.1 = paced_to b.0 v i (λ x. TurnsOn n t (next_line x) last two b.1) b.4 in
-      let d : TurnsOn n t (next_line w) last two (ls ++ more) =
-      subst (λ xs. TurnsOn n t (next_line w) last two xs) (sym tail)
-      (subst (λ xs. TurnsOn n t (next_line (paced_end v i xs)) last two b.1) (sym same) d0) in
-      subst (λ xs. FromEnd last (paced v i (letters xs) (λ x. turned n x last (drop 1 xs) k))) (sym a.2)
-      (paced_from ps v i last (λ x. turned n x last ls k) (turns_from n t last w ls one two k each c d))
-  line_from v last e lines fate one two k (Done Quits) goes over each a b = absurd goes
-  line_from v last e lines fate one two k (Peeks i) goes over each a b =
+      let c : TurnsOn n t (next_line w) l one ls = paced_to ps v i (λ x. TurnsOn n t (next_line x) l one ls) a.4 in
+      let d0 : TurnsOn n t (next_line (paced_end v i b.0)) l two b.1 = paced_to b.0 v i (λ x. TurnsOn n t (next_line x) l two b.1) b.4 in
+      let d : TurnsOn n t (next_line w) l two (ls ++ more) =
+      subst (λ xs. TurnsOn n t (next_line w) l two xs) (sym tail)
+      (subst (λ xs. TurnsOn n t (next_line (paced_end v i xs)) l two b.1) (sym same) d0) in
+      subst (λ xs. FromEnd last (paced v i (letters xs) (λ x. turned n x l (drop 1 xs) k))) (sym a.2)
+      (paced_from ps v i last (λ x. turned n x l ls k)
+      (subst (λ y. FromEnd y (turned n w l ls k)) kept (turns_from n t l w ls one two k each c d)))
+  line_from v last e lines fate one two k (Done Quits) is goes over each a b = absurd goes
+  line_from v last e lines fate one two k (Peeks i) is goes over each a b =
       let ls = a.1 in
       let tail : ls ++ more ≡ b.1 = ap (drop 1) (ap (λ xs. xs ++ more) (sym a.2) ∙ b.2) in
-      subst (λ xs. FromEnd last (turned (turns_asked e) v last (drop 1 xs) k)) (sym a.2)
-      (turns_from (turns_asked e) (ticks_asked e) last v ls one two k each a.3
-      (subst (λ xs. TurnsOn (turns_asked e) (ticks_asked e) (next_line v) last two xs) (sym tail) b.3))
+      let l = turn_kept last e in
+      let kept : l ≡ last = peek_keeps_turn v.machine v.block e i last is in
+      subst (λ xs. FromEnd last (turned (turns_asked e) v l (drop 1 xs) k)) (sym a.2)
+      (subst (λ y. FromEnd y (turned (turns_asked e) v l ls k)) kept
+      (turns_from (turns_asked e) (ticks_asked e) l v ls one two k each a.3
+      (subst (λ xs. TurnsOn (turns_asked e) (ticks_asked e) (next_line v) l two xs) (sym tail) b.3)))
 
   run_from : (es : List Item) (v : Walk) (last : ℕ) (lines : List Line) (fate : Fate) → IsOver fate → Run v last es lines fate
       → Run v last (before_end es ++ rest) (lines ++ more) end → FromEnd last (course v last es lines)
@@ -241,9 +264,9 @@ module _ (rest : List Item) (more : List Line) (end : Fate) where
       by (it_is is) go = ended e is a b
         where
           at_end : (o : Lined) → o ≡ Done Quits
-              → LinedOn v o (λ w ls. TurnsOn (turns_asked events.End) (ticks_asked events.End) w last (λ x l m. Run x l es m fate) ls) lines fate
+              → LinedOn v o (λ w ls. TurnsOn (turns_asked events.End) (ticks_asked events.End) w (turn_kept last events.End) (λ x l m. Run x l es m fate) ls) lines fate
               → Run v last rest (lines ++ more) end
-              → FromEnd last (past v events.End o lines (λ w ls. turned (turns_asked events.End) w last ls (λ x l m. course (next_line x) l es m)))
+              → FromEnd last (past v events.End o lines (λ w ls. turned (turns_asked events.End) w (turn_kept last events.End) ls (λ x l m. course (next_line x) l es m)))
           at_end (Done Quits) q a b = record { walk = v; machine = refl; run = subst (λ xs. Run v last rest (xs ++ more) end) a.0 b }
           at_end (Done (Refuses r)) q a b = cc
           at_end (Done (Does n out touched c)) q a b = cc
@@ -256,7 +279,7 @@ module _ (rest : List Item) (more : List Line) (end : Fate) where
           ended _ q a b = cc
       by (it_goes goes kept) go =
           line_from v last e lines fate (λ x l m. Run x l es m fate) (λ x l m. Run x l (before_end es ++ rest) m end)
-          (λ x l m. course (next_line x) l es m) (lined v.machine v.block e) goes over (λ x l ls c d. go (next_line x) l ls c d) a
+          (λ x l m. course (next_line x) l es m) (lined v.machine v.block e) refl goes over (λ x l ls c d. go (next_line x) l ls c d) a
           (subst (λ xs. Run v last (xs ++ rest) (lines ++ more) end) (stays e es kept) b)
   run_from (Unread r ∷ es) v last lines fate over a b = absurd (subst IsOver a.1 over)
   run_from (Beyond ∷ es) v last lines fate over a b = absurd (subst IsOver a.1 over)

@@ -4,6 +4,7 @@ use Rattle.std.specs.Prelude.{◌≡◌, ◌<◌, ℕ, Bool, false, Option, Some
 use Rattle.std.proofs.Common.{sym, subst, arith}
 use Rattle.its_word.specs.Core.{zero_page}
 use Rattle.its_word.specs.Flags.{named_flags}
+use Rattle.its_word.specs.Word.{left_of}
 use Rattle.its_records.specs.Item.{Item}
 use Rattle.its_records.specs.Tree.{fresh_job}
 use Rattle.its_records.specs.declared.calls.Pace.{Pace}
@@ -12,14 +13,14 @@ use Rattle.its_records.specs.declared.session.Event.{Event}
 use Rattle.its_print.specs.Printing.{Line}
 use Rattle.its_plain.specs.Call.Step.{step}
 use Rattle.its_plain.specs.Transcript.Course.{Moment, machine_after, run_of}
-use Rattle.its_plain.specs.Machine.{Whole, Pipe, Machine, no_machine}
+use Rattle.its_plain.specs.Machine.{Whole, Machine, no_machine}
 use Rattle.its_plain.specs.Operator.{Block, Does}
 use Rattle.its_plain.specs.Operator.Clock.{clock_end}
 use Rattle.its_plain.specs.Operator.Lines.{Done, lined}
 use Rattle.its_plain.specs.Promise.Stretch.{machine_at}
 use Rattle.its_plain.specs.Transcript.{at_start}
 use Rattle.its_plain.specs.Transcript.Turns.{highest}
-use Rattle.its_plain.proofs.CallLineLaws.{LineKeepsBy, line_keeps}
+use Rattle.its_plain.proofs.CallLineLaws.{line_does}
 use Rattle.its_stepped.specs.Address.{Addressed}
 use Rattle.its_stepped.specs.Alarmed.{Alarmed}
 use Rattle.its_stepped.specs.Forest.{Forest}
@@ -29,9 +30,10 @@ use Rattle.its_stepped.proofs.Running.CourseLaws.{EachMoment, Linked, run_course
 use Rattle.its_stepped.proofs.Duties.FitLaws.{forest_steps}
 use Rattle.its_stepped.proofs.Keeping.ForestLaws.{forest_starts}
 use Rattle.its_stepped.proofs.Running.WrittenLaws.{line_forest}
-use Rattle.its_saved.specs.WellFormed.{IsHollow, AliveIn, Tight, Flagged, KeptByTypes, WellFormed, Named}
-use Rattle.its_saved.proofs.FlaggedLaws.{flagged_starts, step_flagged}
+use Rattle.its_saved.specs.WellFormed.{IsHollow, Tight, Flagged, KeptByTypes, WellFormed, Named}
+use Rattle.its_saved.proofs.FlaggedLaws.{named_twice, flagged_starts, step_flagged}
 use Rattle.its_saved.proofs.LinesKeepLaws.{KeepsJobs, line_keeps_jobs}
+use Rattle.its_saved.proofs.AliveLaws.{line_alive}
 use Rattle.its_saved.proofs.NamedLaws.{named_starts, step_named, line_named}
 use Rattle.its_saved.proofs.TightLaws.{tight_starts, step_tight, store_hollow, with_page_hollow, zeros_hollow, marked_hollow, no_core_hollow}
 
@@ -112,13 +114,17 @@ hollow_jobs = record {
   stopped = λ q h. h;
   continued = λ q h. h;
   alarmed = λ q c h. h;
+  registered = λ q r h. h;
+  armed = λ q a h. h;
+  placed = λ q t h. h;
+  channelled = λ q n f k h. h;
 }
 
 line_tight : (m n : Machine) (b c : Block) (e : Event) (out : List Line) (touched : ℕ → Bool) → Forest m → Tight m
     → lined m b e ≡ Done (Does n out touched c) → Tight n
 line_tight m n b c e out touched forest h is = record {
   cores = (line_keeps_jobs hollow_jobs m n b c e out touched (record { each = h.cores }) is).each;
-  links = λ l. subst (λ (ls : ℕ → Option Pipe). AliveIn (ls l)) (sym (subst (LineKeepsBy m) is (line_keeps m b e)).links) (h.links l);
+  links = line_alive m n e h.links (line_does m n b c e out touched is);
 }
 
 each_tight : EachRun Tight
@@ -143,6 +149,10 @@ flagged_jobs = record {
   stopped = λ q h. h;
   continued = λ q h. h;
   alarmed = λ q c h. h;
+  registered = λ q r h. named_twice (left_of r.pc);
+  armed = λ q a h. h;
+  placed = λ q t h. h;
+  channelled = λ q n f k h. h;
 }
 
 each_flagged : EachRun Flagged

@@ -157,7 +157,7 @@ if_alive_alive p = by (is_alive p.link) refl
     by true e = e
     by false e = tt
 
-opened_alive : (write : Bool) (j n : ℕ) (p : Pipe) → is_alive (with_end_opened write j n p).link ≡ true
+pub opened_alive : (write : Bool) (j n : ℕ) (p : Pipe) → is_alive (with_end_opened write j n p).link ≡ true
 opened_alive true j n p = by (is_open p.link.reader)
   where
     by : (b : Bool) → (b || true) ≡ true
@@ -194,7 +194,7 @@ removed_tight sup r m a = record {
 }
 
 -- words of a link
-words_alive : (f : Pipe → Pipe) (o : Option Pipe) → ((p : Pipe) → (f p).link ≡ p.link) → AliveIn o → AliveIn (option_map f o)
+pub words_alive : (f : Pipe → Pipe) (o : Option Pipe) → ((p : Pipe) → (f p).link ≡ p.link) → AliveIn o → AliveIn (option_map f o)
 words_alive f None h a = tt
 words_alive f (Some p) h a = ap is_alive (h p) ∙ a
 

@@ -1,18 +1,17 @@
 -- When what follows a session may follow its checkpoint, which leads to the same machine.
 -- No promise rests on this.
-use Rattle.std.specs.Prelude.{◌≡◌, ◌≤◌, ℕ, List, [], ◌∷◌}
-use Rattle.its_records.specs.Item.{Item, Read, Unread, Beyond}
+use Rattle.std.specs.Prelude.{◌≡◌, ◌≤◌, ℕ}
 use Rattle.its_records.specs.declared.session.Place.{Place}
 use Rattle.its_records.specs.declared.session.Place.TheVariants as places
-use Rattle.its_session.specs.Fits.{Stands}
-use Rattle.its_session.specs.Events.{place_after}
+pub use Rattle.its_session.specs.Fits.{ReadAt}
 use Rattle.its_plain.specs.Operator.{Block}
 use Rattle.its_plain.specs.Transcript.{Walk}
 
--- inside a block, the same block
+-- inside a block, the same block; and in the state part, whose lines are about both
 abbrev pub BlockAlike : Place → Block → Block → Type 0
 BlockAlike places.Load b c = c.slot ≡ b.slot
 BlockAlike places.File b c = c.file ≡ b.file
+BlockAlike places.System b c = c ≡ b
 BlockAlike _ b c = Unit {0}
 
 -- at this place of a session, walk w has the machine and the block of walk v, and no slot has more
@@ -21,10 +20,3 @@ pub record NoMoreDots (p : Place) (v w : Walk) : Type 0 where
   pub machine : w.machine ≡ v.machine
   pub dots : (k : ℕ) → w.dots k ≤ v.dots k
   pub block : BlockAlike p v.block w.block
-
--- each line may occur at its place, from this place on; nothing is said after a refused line
-abbrev pub ReadAt : Place → List Item → Type 0
-ReadAt p [] = Unit {0}
-ReadAt p (Read e ∷ es) = Stands p e × ReadAt (place_after p e) es
-ReadAt p (Unread r ∷ es) = Unit {0}
-ReadAt p (Beyond ∷ es) = Unit {0}

@@ -4,3 +4,5 @@ pub mod Saving
 pub mod WellFormed
 pub mod GoingOn
 pub mod Text
+pub mod Readable
+pub mod Narrow

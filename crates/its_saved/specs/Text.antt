@@ -3,8 +3,11 @@
 -- what such lines lead to, when a session obeys them.
 -- No promise rests on this.
 use Rattle.std.specs.Prelude.{if◌then◌else◌, ◌≡◌, ◌==◌, ℕ, ◌+◌, Bool, false, true, List, [], ◌∷◌, ◌++◌, length, map}
+use Rattle.its_records.specs.declared.session.Event.{Event}
+use Rattle.its_records.specs.declared.session.Event.TheVariants as events
 use Rattle.its_records.specs.declared.state_line.StateLine.{StateLine}
 use Rattle.its_records.specs.declared.state_line.StateLine.TheVariants as states
+use Rattle.its_session.specs.Writing.{lines_text}
 use Rattle.its_plain.specs.Machine.{Machine}
 use Rattle.its_plain.specs.Operator.{Block, Does, no_block}
 use Rattle.its_plain.specs.Operator.Files.{name_in}
@@ -51,6 +54,13 @@ turn_lines last = if last == highest then [] else states.Turn last ∷ []
 -- all lines of a machine after a turn of slot `last`
 abbrev pub saved_lines : Machine → ℕ → List StateLine
 saved_lines m last = lines_of (saved m) ++ (turn_lines last ++ states.Ready ∷ [])
+
+-- their events, and their text
+abbrev pub saved_events : List StateLine → List Event
+saved_events ls = map events.Restore ls
+
+abbrev pub state_text : List StateLine → List ℕ
+state_text ls = lines_text (saved_events ls)
 
 -- these lines lead from one state of a session to another: none of them is refused, and none shows
 -- anything

@@ -2,7 +2,7 @@
 use Rattle.std.specs.Prelude.{◌≡◌, ℕ, Option, Some, None, refl}
 use Rattle.std.proofs.Common.{sym, ◌∙◌, ap, subst}
 use Rattle.its_plain.specs.Machine.Change.{channel_in, console_in}
-use Rattle.its_plain.specs.Machine.{Chan, Shut, TtyIn, TtyOut, Reads, Writes, On, Linked, Pipe, Whole, Machine}
+use Rattle.its_plain.specs.Machine.{Chan, Shut, TtyIn, TtyOut, Reads, Writes, On, Linked, Whole, Machine}
 use Rattle.its_plain.specs.Call.File.{file_named}
 use Rattle.its_security.specs.Alike.{SameThrough, SameAt, Alike}
 use Rattle.its_security.specs.OperatorParts.{Parts, OnlyParts}
@@ -79,7 +79,7 @@ parts_alike j m n p h u = record {
     through : (i : ℕ) (c : Chan) → channel_in (m.jobs j) i ≡ c → SameThrough m n c
     through i (On s write at) on = h.jobs s (u.inferiors i s at write on)
     through i (Reads x at) on = ap (file_named x) (h.files u.files)
-    through i (Linked k write) on = ap (λ (ls : ℕ → Option Pipe). ls k) h.links
+    through i (Linked k write) on = h.links k (u.links i k write on)
     through i Shut on = tt
     through i TtyIn on = tt
     through i TtyOut on = tt

@@ -10,6 +10,7 @@ use Rattle.its_records.specs.declared.calls.Pace.TheVariants.{Step, Work, Wait, 
 use Rattle.its_records.specs.declared.session.Event.{Event}
 use Rattle.its_records.specs.declared.session.Event.TheVariants as events
 use Rattle.its_records.specs.declared.session.Reason.{Reason}
+use Rattle.its_records.specs.declared.state_line.StateLine.TheVariants as states
 use Rattle.its_print.specs.Printing.{Line}
 use Rattle.its_plain.specs.Call.File.{file_named}
 use Rattle.its_plain.specs.Call.Step.{step}
@@ -21,6 +22,7 @@ use Rattle.its_plain.specs.Machine.{Names, File, Reads, Whole, Machine}
 use Rattle.its_plain.specs.Operator.{Block, Does, Refuses, Ticks, Quits, quietly}
 use Rattle.its_plain.specs.Operator.Lines.{Lined, Done, Peeks, lined, operate}
 use Rattle.its_plain.specs.Machine.Own.{names_of}
+use Rattle.its_plain.specs.Operator.State.{restored}
 use Rattle.its_security.specs.RunIntegrity.{OwnStep, MayDo, EachMay, IsReader, ReadsOn, IsSpared, AllSpared, Integrity}
 use Rattle.its_plain.specs.Promise.Stretch.{machine_at, end_of}
 use Rattle.its_plain.specs.Transcript.{Walk, at_start}
@@ -145,9 +147,12 @@ by_parts m b e names f (Peeks s) none h there = tt
 
 line_leaves : (m : Machine) (b : Block) (e : Event) (names : Names) (f : File) → IsSpared names b (Lines e)
     → file_named names m.files ≡ Some f → LeavesOf names f (lined m b e)
-unfolding lined operate
+unfolding lined operate restored
 line_leaves m b (events.File d x y) names f spared there = quiet_leaves names f _ _ (file_made_stays m (names_of d x y) names f there)
 line_leaves m b (events.Append words) names f spared there = quiet_leaves names f b _ (words_stay words.items m b.file names f spared there)
+line_leaves m b (events.Restore (states.File d x y)) names f spared there = quiet_leaves names f _ _ (file_made_stays m (names_of d x y) names f there)
+line_leaves m b (events.Restore (states.FileWords words)) names f spared there =
+    quiet_leaves names f b _ (words_stay words.items m b.file names f spared there)
 line_leaves m b e names f spared there = by_parts m b e names f (lined m b e) refl (line_parts m b e) there
 
 each_stays : EachMoment Stays

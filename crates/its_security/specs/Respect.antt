@@ -59,11 +59,12 @@ pub record Unmet (m n : Machine) (j k : ℕ) : Type 0 where
   pub files : (i at : ℕ) (x : Names) → channel_in (m.jobs j) i ≡ Reads x at → (i < 16) × (has_file x m.files ≡ true)
 
 -- a line of the operator that may change these parts changes nothing that job j sees: neither the
--- job nor an inferior that a channel of it is on, nor its console, the files or the clock
+-- job nor an inferior or a link that a channel of it is on, nor its console, the files or the clock
 pub record Unseen (p : Parts) (m : Machine) (j : ℕ) : Type 0 where
   pub own : p.jobs j ≡ false
   pub inferiors : (i s at : ℕ) (write : Bool) → channel_in (m.jobs j) i ≡ On s write at → p.jobs s ≡ false
   pub console : (c : ℕ) → console_in (m.jobs j) ≡ Some c → p.consoles c ≡ false
   pub holder : (c : ℕ) → console_in (m.jobs j) ≡ Some c → p.holders c ≡ false
+  pub links : (i l : ℕ) (write : Bool) → channel_in (m.jobs j) i ≡ Linked l write → p.links l ≡ false
   pub files : p.files ≡ false
   pub clock : p.clock ≡ false

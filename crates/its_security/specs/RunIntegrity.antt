@@ -5,6 +5,7 @@ use Rattle.std.specs.Prelude.{◌≡◌, ◌≢◌, ◌<◌, ℕ, false, Some, L
 use Rattle.its_records.specs.Item.{Item}
 use Rattle.its_records.specs.declared.calls.Pace.TheVariants.{Step}
 use Rattle.its_records.specs.declared.session.Event.TheVariants as events
+use Rattle.its_records.specs.declared.state_line.StateLine.TheVariants as states
 use Rattle.its_print.specs.Printing.{Line}
 use Rattle.its_plain.specs.Call.File.{file_named}
 use Rattle.its_plain.specs.Machine.Change.{channel_in, same_names}
@@ -42,9 +43,11 @@ ReadsOn k n names [] = Unit {0}
 ReadsOn k n names (t ∷ ts) = IsReader t.machine k n names × ReadsOn k n names ts
 
 -- and the operator adds no words to it by a `/` line. (In a session such lines come only after the
--- FILE line that made the file, before any job has a turn)
+-- FILE line that made the file, before any job has a turn; in the state part a channel may be
+-- opened on the file between them)
 abbrev pub IsSpared : Names → Block → Deed → Type 0
 IsSpared names b (Lines (events.Append words)) = same_names names b.file ≡ false
+IsSpared names b (Lines (events.Restore (states.FileWords words))) = same_names names b.file ≡ false
 IsSpared names b _ = Unit {0}
 
 abbrev pub AllSpared : Names → List Moment → Type 0

@@ -23,7 +23,7 @@
 //! it at the next step. What a job does to its words and registers is left to its instructions and
 //! calls. The operator's `/` lines are an exception of `readers`: in a session they come directly
 //! after the FILE line that made the file, before any job has a turn, which the clause does not
-//! use.
+//! use; in the state part a channel may be opened on the file between two such lines.
 //!
 //! Wrong definitions that the prover refuses: USRMEM without the test of leave to write
 //! (`CallWays.usrmem_ways`), UCLOSE of the caller's superior (`OthersLaws.uclose_may`), TTYLND that

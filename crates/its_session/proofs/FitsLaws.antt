@@ -1,76 +1,23 @@
 -- An event that was read fits the table of lines.
-use Rattle.std.proofs.Common.{if◌then◌else◌, ◌≡◌, ◌<◌, ◌≤◌, ◌+◌, ◌-◌, ◌*◌, ◌^◌, ◌==◌, ◌∙◌, ap, ℕ, Bool, true, false, ◌&&◌, Option, Some, None, Result, Ok, Err, List, [], ◌∷◌, length, map, leb, refl, subst, arith, lit≤, All, IfOk, IfSome}
-use Rattle.std.specs.List.{list_all, fold}
-use Rattle.std.proofs.Math.Nat.{mul-le-mul_right, pow-le-pow_right, pow-suc}
-use Rattle.std.proofs.lemmas.Bool.Decides.{nat_tests}
+use Rattle.std.proofs.Common.{if◌then◌else◌, ◌≡◌, ◌≤◌, ◌-◌, ◌^◌, ◌∙◌, ap, ℕ, Bool, true, false, Option, Some, None, Result, Ok, Err, List, [], ◌∷◌, length, map, leb, refl, subst, arith, IfOk}
 use Rattle.std.proofs.lemmas.List.{length-map}
-use Rattle.std.proofs.lemmas.List.Elements.{All-cons}
-use Rattle.its_word.specs.Text.{is_code, is_octal, octal_value, sixbit_of}
+use Rattle.its_word.specs.Text.{octal_value, sixbit_of}
 use Rattle.its_records.specs.declared.session.Event.{Event}
 use Rattle.its_records.specs.declared.session.Event.TheVariants as events
 use Rattle.its_records.specs.declared.session.Place.{Place}
 use Rattle.its_records.specs.declared.session.Place.TheVariants as places
 use Rattle.its_records.specs.declared.session.Bad.{Bad}
 use Rattle.its_records.specs.declared.session.Bad.TheVariants as bads
+use Rattle.its_records.specs.declared.state_line.StateLine.{StateLine}
+use Rattle.its_records.specs.declared.state_line.StateLine.TheVariants as states
+use Rattle.its_session.specs.StateGrammar.{state_kind_of, state_line_of_first, system_row, restores}
 use Rattle.its_session.specs.declared.kind.Kind.{Kind}
 use Rattle.its_session.specs.declared.kind.Kind.TheVariants as kinds
 use Rattle.its_session.specs.Fits.{EventFits, SpanFits, IsNameWord, place_of, Stands}
-use Rattle.its_session.specs.Grammar.{Field, with_fields, with_count, number, number_to, count_to, last_slot, slot, page, address, name, console, is_dash, console_or_dash, console_given, of_slot, of_span, load_line, words_line, go_line, file_line, append_line, bare_line, tick_line, run_line, type_line, drain_line, clock_line, int_line, span_line, deposit_line, slot_line, dir_line, show_line, version_line, read_only_line, symbol_line, before_slash, kind_of, may_stand, is_at, place_of_kind, version_of_kind, line_of_kind, line_of_first, is_comment, event_of_words}
+use Rattle.its_session.specs.Grammar.{Field, with_fields, number, number_to, count_to, last_slot, slot, page, address, name, console, console_or_dash, console_given, of_slot, of_span, load_line, words_line, go_line, file_line, append_line, bare_line, tick_line, run_line, type_line, drain_line, clock_line, int_line, span_line, deposit_line, slot_line, dir_line, show_line, version_line, read_only_line, symbol_line, before_slash, kind_of, may_stand, is_at, place_of_kind, version_of_kind, line_of_kind, line_of_first, is_comment, event_of_words, line_at}
+use Rattle.its_session.proofs.MetLaws.{AllMet, Met, are_bytes, at_most, counted, from_one, is_address, is_console, may_be_console, met, number_below, slot_small}
 use Rattle.its_session.proofs.NameLaws.{both}
-
-le_of : (a b : ℕ) → leb a b ≡ true → a ≤ b
-le_of a b h = grind (arith, nat_tests)
-
--- a number has at most 12 digits
-digit_next : (n c p m : ℕ) → is_code 48 55 c ≡ true → m < (n * 8 + (c - 48) + 1) * p → m < (n + 1) * (p * 8)
-digit_next n c p m h below =
-    let digits = both (leb 48 c) (leb c 55) h in
-    let high : c ≤ 55 = le_of c 55 digits.1 in
-    let next : n * 8 + (c - 48) + 1 ≤ n * 8 + 8 = omega arith in
-    omega (arith, mul-le-mul_right p next)
-
-digits_below : (w : List ℕ) (n : ℕ) → list_all (is_code 48 55) w ≡ true → fold (λ n c. n * 8 + (c - 48)) n w < (n + 1) * 8 ^ length w
-digits_below [] n h = omega arith
-digits_below (c ∷ cs) n h =
-    let parts = both (is_code 48 55 c) (list_all (is_code 48 55) cs) h in
-    rw (pow-suc 8 (length cs)) (digit_next n c (8 ^ length cs) (fold (λ n c. n * 8 + (c - 48)) (n * 8 + (c - 48)) cs) parts.0
-    (digits_below cs (n * 8 + (c - 48)) parts.1))
-
-number_below : (w : List ℕ) → is_octal w ≡ true → octal_value w < 2 ^ 36
-unfolding is_octal octal_value
-number_below w h =
-    let parts = both (leb 1 (length w) && leb (length w) 12) (list_all (is_code 48 55) w) h in
-    let few : length w ≤ 12 = le_of (length w) 12 (both (leb 1 (length w)) (leb (length w) 12) parts.0).1 in
-    let most : 8 ^ length w ≤ 8 ^ 12 = pow-le-pow_right (lit≤ tt) few in
-    omega (arith, digits_below w 0 parts.1, most)
-
--- a line with its fields: each is met, and the event is the line's
-record Met (f : Field) : Type 0 where
-  pub formed : f.formed ≡ true
-  pub ranged : f.ranged ≡ true
-  pub console : f.console ≡ true
-
-abbrev AllMet : List Field → Type 0
-AllMet [] = Unit {0}
-AllMet (f ∷ fs) = Met f × AllMet fs
-
-all_met : (fs : List Field) → list_all (λ f. f.formed) fs ≡ true → list_all (λ f. f.ranged) fs ≡ true → list_all (λ f. f.console) fs ≡ true → AllMet fs
-all_met [] a b c = tt
-all_met (f ∷ fs) a b c =
-    let x = both f.formed (list_all (λ f. f.formed) fs) a in
-    let y = both f.ranged (list_all (λ f. f.ranged) fs) b in
-    let z = both f.console (list_all (λ f. f.console) fs) c in
-    (record { formed = x.0; ranged = y.0; console = z.0 }, all_met fs x.1 y.1 z.1)
-
-met : {A : Type 0} (fields : List Field) (d e : A) → with_fields fields d ≡ Ok e → AllMet fields × (d ≡ e)
-met fields d e h = go (list_all (λ f. f.formed) fields) (list_all (λ f. f.ranged) fields) (list_all (λ f. f.console) fields) refl refl refl h
-  where
-    go : (a b c : Bool) → list_all (λ f. f.formed) fields ≡ a → list_all (λ f. f.ranged) fields ≡ b → list_all (λ f. f.console) fields ≡ c
-        → (if a then (if b then (if c then Ok d else Err bads.NoConsole) else Err bads.Range) else Err bads.Syntax) ≡ Ok e → AllMet fields × (d ≡ e)
-    go true true true x y z h = (all_met fields x y z, cc)
-    go true true false x y z h = cc
-    go true false c x y z h = cc
-    go false b c x y z h = cc
+use Rattle.its_session.proofs.StateFitsLaws.{IsInState, state_line_fits, state_later_fits}
 
 -- an event that was read fits the table, and its line is allowed at its place
 record ReadAt (v : ℕ) (place : Place) (e : Event) : Type 0 where
@@ -81,43 +28,9 @@ record ReadAt (v : ℕ) (place : Place) (e : Event) : Type 0 where
 fits_by : (v : ℕ) (fields : List Field) (d e : Event) → (AllMet fields → EventFits v d) → with_fields fields d ≡ Ok e → ReadAt v (place_of d) e
 fits_by v fields d e fits h = let m = met fields d e h in subst (ReadAt v (place_of d)) m.1 (record { fits = fits m.0; at = refl })
 
-counted : (most : ℕ) (ws : List (List ℕ)) (r : Result Event Bad) (e : Event) → with_count most ws r ≡ Ok e → (r ≡ Ok e) × (1 ≤ length ws) × (length ws ≤ most)
-counted most ws r e h = go (leb 1 (length ws) && leb (length ws) most) refl h
-  where
-    go : (b : Bool) → (leb 1 (length ws) && leb (length ws) most) ≡ b → (if b then r else Err bads.Syntax) ≡ Ok e → (r ≡ Ok e)
-        × (1 ≤ length ws) × (length ws ≤ most)
-    go true t h = let s = both (leb 1 (length ws)) (leb (length ws) most) t in (h, le_of 1 (length ws) s.0, le_of (length ws) most s.1)
-    go false t h = cc
-
 -- what fields that are met say
 is_name_word : (w : List ℕ) → Met (name w) → IsNameWord (sixbit_of w)
 is_name_word w f = record { text = w; formed = f.formed; coded = refl }
-
-at_most : (most : ℕ) (w : List ℕ) → Met (number_to most w) → octal_value w ≤ most
-at_most most w f = le_of (octal_value w) most f.ranged
-
-from_one : (most : ℕ) (w : List ℕ) → Met (count_to most w) → (1 ≤ octal_value w) × (octal_value w ≤ most)
-from_one most w f =
-    let s = both (leb 1 (octal_value w)) (leb (octal_value w) most) f.ranged in
-    (le_of 1 (octal_value w) s.0, le_of (octal_value w) most s.1)
-
-is_address : (w : List ℕ) → Met (address w) → octal_value w < 2 ^ 18
-is_address w f = let most : octal_value w ≤ 2 ^ 18 - 1 = at_most (2 ^ 18 - 1) w f in omega arith
-
-is_console : (w : List ℕ) → Met (console w) → octal_value w ≤ 7
-is_console w f = le_of (octal_value w) 7 f.console
-
-may_be_console : (w : List ℕ) → Met (console_or_dash w) → IfSome (console_given w) (λ k. k ≤ 7)
-may_be_console w f = go (is_dash w) f
-  where
-    go : (b : Bool) → Met (if b then record { formed = true; ranged = true; console = true } else console w)
-        → IfSome (if b then None else Some (octal_value w)) (λ k. k ≤ 7)
-    go true f = tt
-    go false f = is_console w f
-
-are_bytes : (ws : List (List ℕ)) → AllMet (map (number_to 127) ws) → All (λ b. b ≤ 127) (map octal_value ws)
-are_bytes [] f = λ k d below. absurd (omega arith)
-are_bytes (w ∷ ws) f = All-cons (λ b. b ≤ 127) (octal_value w) (map octal_value ws) (at_most 127 w f.0) (are_bytes ws f.1)
 
 -- the rows of the table
 load_fits : (v : ℕ) (ws : List (List ℕ)) (e : Event) → load_line ws ≡ Ok e → ReadAt v places.Plain e
@@ -283,6 +196,19 @@ symbol_fits v (x ∷ a ∷ []) e h = fits_by v (name x ∷ address a ∷ []) (ev
     (λ f. (is_name_word x f.0, is_address a f.1.0)) h
 symbol_fits v _ e h = cc
 
+system_fits : (v : ℕ) (ws : List (List ℕ)) (e : Event) → restores (system_row ws) ≡ Ok e → ReadAt v places.First e
+unfolding system_row
+system_fits v (n ∷ []) e h = go (system_row (n ∷ [])) refl h
+  where
+    go : (r : Result StateLine Bad) → with_fields (count_to 2 n ∷ []) (states.System (octal_value n)) ≡ r → restores r ≡ Ok e → ReadAt v places.First e
+    go (Ok line) t h =
+        let m = met (count_to 2 n ∷ []) (states.System (octal_value n)) line t in
+        let k : events.Restore line ≡ e = cc in
+        subst (ReadAt v places.First) (ap events.Restore m.1 ∙ k) (record { fits = from_one 2 n m.0.0; at = refl })
+    go (Err bad) t h = cc
+system_fits v [] e h = cc
+system_fits v (n ∷ x ∷ ws) e h = cc
+
 -- an event whose place is this one is allowed there
 stands_by : (place : Place) (e : Event) → is_at place (place_of e) ≡ true → Stands place e
 stands_by place events.Nothing h = tt
@@ -291,6 +217,7 @@ stands_by place _ h = h
 -- from the row to the line
 kind_fits : (v : ℕ) (k : Kind) (first : List ℕ) (ws : List (List ℕ)) (e : Event) → line_of_kind v k first ws ≡ Ok e → ReadAt v (place_of_kind k) e
 kind_fits v kinds.Version first ws e h = version_fits v ws e h
+kind_fits v kinds.System first ws e h = system_fits v ws e h
 kind_fits v kinds.Load first ws e h = load_fits v ws e h
 kind_fits v kinds.Words first ws e h = words_fits v (before_slash first) ws e h
 kind_fits v kinds.ReadOnly first ws e h = read_only_fits v ws e h
@@ -327,14 +254,30 @@ first_fits v place (Some k) first ws e h = go (may_stand place v k) refl h
         (r.fits, stands_by place e (ap (is_at place) r.at ∙ (both (is_at place (place_of_kind k)) (leb (version_of_kind k) v) t).0))
     go false t h = cc
 
+state_fits : (v : ℕ) (r : Result StateLine Bad) (e : Event) → ((line : StateLine) → r ≡ Ok line → IsInState v line) → restores r ≡ Ok e
+    → EventFits v e × Stands places.System e
+state_fits v (Ok line) e is h =
+    let s = is line refl in
+    let k : events.Restore line ≡ e = cc in
+    subst (λ x. EventFits v x × Stands places.System x) k (s.fits, ap (is_at places.System) s.at)
+state_fits v (Err bad) e is h = cc
+
+at_fits : (v : ℕ) (place : Place) (first : List ℕ) (ws : List (List ℕ)) (e : Event) → line_at place v first ws ≡ Ok e → EventFits v e × Stands place e
+at_fits v places.System first ws e h =
+    state_fits v (state_line_of_first v (state_kind_of first) first ws) e (λ line is. state_line_fits v (state_kind_of first) first ws line is) h
+at_fits v places.First first ws e h = first_fits v places.First (kind_of first) first ws e h
+at_fits v places.Plain first ws e h = first_fits v places.Plain (kind_of first) first ws e h
+at_fits v places.Load first ws e h = first_fits v places.Load (kind_of first) first ws e h
+at_fits v places.File first ws e h = first_fits v places.File (kind_of first) first ws e h
+
 words_of_fits : (v : ℕ) (place : Place) (ws : List (List ℕ)) (e : Event) → event_of_words place v ws ≡ Ok e → EventFits v e × Stands place e
 unfolding event_of_words
 words_of_fits v place [] e h = let k : events.Nothing ≡ e = cc in subst (λ x. EventFits v x × Stands place x) k (tt, tt)
 words_of_fits v place (first ∷ ws) e h = go (is_comment first) h
   where
-    go : (b : Bool) → (if b then Ok events.Nothing else line_of_first place v (kind_of first) first ws) ≡ Ok e → EventFits v e × Stands place e
+    go : (b : Bool) → (if b then Ok events.Nothing else line_at place v first ws) ≡ Ok e → EventFits v e × Stands place e
     go true h = let k : events.Nothing ≡ e = cc in subst (λ x. EventFits v x × Stands place x) k (tt, tt)
-    go false h = first_fits v place (kind_of first) first ws e h
+    go false h = at_fits v place first ws e h
 
 pub words_fit : (place : Place) (v : ℕ) (ws : List (List ℕ)) (r : Result Event Bad) → r ≡ event_of_words place v ws → IfOk r (EventFits v)
 words_fit place v ws (Ok e) h = let k : event_of_words place v ws ≡ Ok e = cc in (words_of_fits v place ws e k).0
@@ -347,13 +290,10 @@ words_stand place v ws (Err bad) h = tt
 -- what fits a version fits version 2
 slot_later : (v s : ℕ) → s ≤ last_slot v → s ≤ last_slot 2
 unfolding last_slot
-slot_later v s h = go (v == 2) h
-  where
-    go : (b : Bool) → s ≤ (if b then 95 else 63) → s ≤ 95
-    go true h = h
-    go false h = omega arith
+slot_later v s h = slot_small v s h
 
 pub later_fits : (v : ℕ) (e : Event) → EventFits v e → EventFits 2 e
+later_fits v (events.Restore line) h = state_later_fits v line h
 later_fits v (events.Tick s n) h = (slot_later v s h.0, h.1, h.2)
 later_fits v (events.Int s p q) h = slot_later v s h
 later_fits v (events.Exam s a n) h = (slot_later v s h.0, h.1, h.2, h.3)

@@ -2,7 +2,13 @@ pub mod RowLaws
 pub mod PutLaws
 pub mod LineLaws
 pub mod NameLaws
+pub mod MetLaws
+pub mod FieldLaws
+pub mod TagLaws
 pub mod RoundTrip
+pub mod StateTrip
+pub mod TextLaws
+pub mod StateFitsLaws
 pub mod FitsLaws
 pub mod GeneratedLaws
 pub mod KindLaws

@@ -82,7 +82,7 @@ pub record IsName (w : ℕ) (text : List ℕ) : Type 0 where
 in_word : (c : ℕ) → is_code 33 95 c ≡ true → is_code 33 126 c ≡ true
 in_word c h = grind (arith, nat_tests)
 
-codes_in_word : (cs : List ℕ) → are_codes cs ≡ true → list_all (is_code 33 126) cs ≡ true
+pub codes_in_word : (cs : List ℕ) → are_codes cs ≡ true → list_all (is_code 33 126) cs ≡ true
 codes_in_word [] h = refl
 codes_in_word (c ∷ cs) h =
     let parts = both (is_code 33 95 c) (are_codes cs) h in

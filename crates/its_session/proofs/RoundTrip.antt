@@ -1,117 +1,30 @@
 -- The line that is written for an event is read as that event.
-use Rattle.std.proofs.Common.{◌≡◌, ◌<◌, ◌≤◌, ◌+◌, ◌-◌, ◌*◌, ◌/◌, ◌^◌, ◌==◌, ◌&&◌, ap, sym, ℕ, suc, true, false, leb, Option, Some, None, Ok, List, [], ◌∷◌, ◌++◌, length, map, get_or, refl, ◌∙◌, arith, codes, lit≤, IfSome, All, bytes_eq}
+use Rattle.std.proofs.Common.{◌≡◌, ◌<◌, ◌≤◌, ◌+◌, ◌-◌, ◌^◌, ap, ℕ, true, Option, Some, None, Ok, List, [], ◌∷◌, ◌++◌, length, map, refl, ◌∙◌, arith, codes, leb, lit≤, IfSome, All}
 use Rattle.std.specs.List.{list_all}
 use Rattle.std.proofs.lemmas.Bool.{le-leb}
 use Rattle.std.proofs.lemmas.Bool.Decides.{nat_tests}
-use Rattle.std.proofs.lemmas.List.{get_or_push, length-append, length-map}
-use Rattle.std.proofs.lemmas.List.Folds.{list_all-append}
-use Rattle.std.proofs.Math.Nat.{div-eq_of_lt}
-use Rattle.std.proofs.Math.Seq.{take-append_seam}
-use Rattle.its_word.specs.Text.{digits_of, octal6_of, octal12_of, is_code, is_octal, octal_value, spaced, words_of}
+use Rattle.std.proofs.lemmas.List.{length-append, length-map}
+use Rattle.its_word.specs.Text.{digits_of, octal6_of, octal12_of, is_code, is_octal, spaced, words_of}
 use Rattle.its_records.specs.declared.session.Event.{Event}
 use Rattle.its_records.specs.declared.session.Event.TheVariants as events
-use Rattle.its_records.specs.declared.session.Place.{Place}
 use Rattle.its_records.specs.declared.session.Place.TheVariants as places
-use Rattle.its_word.proofs.DigitLaws.{digits_are_codes, digits_are_octal, digits_value, few_digits, some_digits}
-use Rattle.its_word.proofs.SpacedLaws.{room_of}
-use Rattle.its_word.proofs.TextLaws.{octal12_reads}
+use Rattle.its_word.proofs.DigitLaws.{digits_value}
+use Rattle.its_records.specs.declared.session.Place.{Place}
+use Rattle.its_records.specs.declared.state_line.StateLine.{StateLine}
+use Rattle.its_records.specs.declared.state_line.StateLine.TheVariants as states
+use Rattle.its_session.specs.StateFits.{StateFits, place_of_state_line}
+use Rattle.its_session.specs.StateGrammar.{restores}
+use Rattle.its_session.specs.StateWriting.{StateHasWords, text_of_state_line}
+use Rattle.its_session.proofs.StateTrip.{ReadsBack, state_reads_back, system_says}
 use Rattle.its_session.specs.declared.kind.Kind.TheVariants as kinds
-use Rattle.its_session.specs.Grammar.{append_line, bare_line, before_slash, clock_line, deposit_line, dir_line, drain_line, event_of_words, file_line, go_line, int_line, is_comment, is_place, kind_of, line_event, load_line, show_line, last_slot, read_only_line, run_line, slot_line, span_line, of_span, symbol_line, tick_line, type_line, version_line, words_line}
+use Rattle.its_session.specs.Grammar.{append_line, bare_line, clock_line, deposit_line, dir_line, drain_line, event_of_words, file_line, go_line, int_line, is_place, kind_of, line_event, load_line, show_line, last_slot, read_only_line, run_line, slot_line, span_line, of_span, symbol_line, tick_line, type_line, version_line, words_line}
 use Rattle.its_session.specs.Fits.{EventFits, IsNameWord, place_of}
 use Rattle.its_session.specs.Writing.{AreWords, HasWords, console_text, name_of, text_of_event}
 use Rattle.its_word.proofs.WordsLaws.{IsRun}
-use Rattle.its_session.proofs.LineLaws.{AllRuns, line_of_words}
-use Rattle.its_session.proofs.NameLaws.{both, name_reads, some_from_test}
+use Rattle.its_session.proofs.LineLaws.{line_of_words}
+use Rattle.its_session.proofs.FieldLaws.{address_reads, before_again, Below, below_each, below_more, bytes_ranged_again, console_run, console_short, digit_above, digit_below, digits_no_comment, number_no_dash, number_reads, number_runs, numbers_again, numbers_are_octal, place_again, place_run, room_of_numbers, room_of_words, values_again, word, word_reads, word_runs, words_are_octal}
+use Rattle.its_session.proofs.NameLaws.{both, name_reads}
 use Rattle.its_session.proofs.RowLaws.{bytes_consoles, bytes_formed, bytes_ranged, numbers_consoles, numbers_formed, numbers_ranged}
-
--- digits that are read as a number
-record Reads (digits : List ℕ) (n : ℕ) : Type 0 where
-  pub formed : is_octal digits ≡ true
-  pub value : octal_value digits ≡ n
-  pub codes : list_all (is_code 48 55) digits ≡ true
-  pub run : IsRun digits
-  pub short : length digits ≤ 12
-
-digit_visible : (c : ℕ) → is_code 48 55 c ≡ true → is_code 33 126 c ≡ true
-digit_visible c h = grind (arith, nat_tests)
-
-digits_visible : (ds : List ℕ) → list_all (is_code 48 55) ds ≡ true → list_all (is_code 33 126) ds ≡ true
-digits_visible [] h = refl
-digits_visible (d ∷ ds) h =
-    let parts = both (is_code 48 55 d) (list_all (is_code 48 55) ds) h in
-    rw (digit_visible d parts.0, digits_visible ds parts.1) refl
-
-number_reads : (n : ℕ) → n < 2 ^ 36 → Reads (digits_of n) n
-number_reads n below = record {
-  formed = digits_are_octal n below;
-  value = digits_value n;
-  codes = digits_are_codes n;
-  run = record { some = some_digits n; visible = digits_visible (digits_of n) (digits_are_codes n) };
-  short = few_digits 12 n (omega arith) (omega arith);
-}
-
-length-octal12 : (w : ℕ) → length (octal12_of w) ≡ 12
-unfolding octal12_of
-length-octal12 w = refl
-
-octal_codes : (digits : List ℕ) → is_octal digits ≡ true → list_all (is_code 48 55) digits ≡ true
-unfolding is_octal
-octal_codes digits h = (both (leb 1 (length digits) && leb (length digits) 12) (list_all (is_code 48 55) digits) h).1
-
-word_reads : (w : ℕ) → w < 2 ^ 36 → Reads (octal12_of w) w
-word_reads w below =
-    let reads = octal12_reads w below in
-    let formed : is_octal (octal12_of w) ≡ true = reads.0 in
-    let codes = octal_codes (octal12_of w) formed in
-    record {
-      formed = formed;
-      value = reads.1;
-      codes = codes;
-      run = record { some = omega (arith, length-octal12 w); visible = digits_visible (octal12_of w) codes };
-      short = omega (arith, length-octal12 w);
-    }
-
--- the digits of an address are the last six of its word, before which are zeros
-length-octal6 : (a : ℕ) → length (octal6_of a) ≡ 6
-unfolding octal6_of
-length-octal6 a = refl
-
-zeros_before : (a : ℕ) → a < 2 ^ 18 → octal12_of a ≡ 48 ∷ 48 ∷ 48 ∷ 48 ∷ 48 ∷ 48 ∷ octal6_of a
-unfolding octal12_of octal6_of
-zeros_before a below =
-    let none : (k : ℕ) → 2 ^ 18 ≤ k → a / k ≡ 0 = λ k h. div-eq_of_lt (omega arith) in
-    rw (
-      none (2 ^ 33) (lit≤ tt),
-      none (2 ^ 30) (lit≤ tt),
-      none (2 ^ 27) (lit≤ tt),
-      none (2 ^ 24) (lit≤ tt),
-      none (2 ^ 21) (lit≤ tt),
-      none (2 ^ 18) (lit≤ tt),
-    ) refl
-
-value_behind_zeros : (ds : List ℕ) → octal_value (48 ∷ 48 ∷ 48 ∷ 48 ∷ 48 ∷ 48 ∷ ds) ≡ octal_value ds
-unfolding octal_value
-value_behind_zeros ds = refl
-
-address_codes : (a : ℕ) → a < 2 ^ 18 → list_all (is_code 48 55) (octal6_of a) ≡ true
-address_codes a below = ap (list_all (is_code 48 55)) (sym (zeros_before a below)) ∙ (word_reads a (omega arith)).codes
-
-address_formed : (a : ℕ) → a < 2 ^ 18 → is_octal (octal6_of a) ≡ true
-unfolding is_octal
-address_formed a below = rw (length-octal6 a, address_codes a below) refl
-
-address_reads : (a : ℕ) → a < 2 ^ 18 → Reads (octal6_of a) a
-address_reads a below = record {
-  formed = address_formed a below;
-  value = sym (value_behind_zeros (octal6_of a)) ∙ ap octal_value (sym (zeros_before a below)) ∙ (word_reads a (omega arith)).value;
-  codes = address_codes a below;
-  run = record { some = omega (arith, length-octal6 a); visible = digits_visible (octal6_of a) (address_codes a below) };
-  short = omega (arith, length-octal6 a);
-}
-
--- a word that is written out
-word : (w : List ℕ) → leb 1 (length w) ≡ true → list_all (is_code 33 126) w ≡ true → IsRun w
-word w some visible = record { some = some_from_test (length w) some; visible = visible }
 
 nothing_again : (place : Place) → line_event place 2 [] ≡ Ok events.Nothing
 unfolding line_event words_of event_of_words
@@ -293,14 +206,6 @@ show_again d x y named_d named_x named_y =
     (read_d.run, (read_x.run, (read_y.run, tt))) (omega (arith, read_d.short, read_x.short, read_y.short))
     ∙ rw (read_d.formed, read_x.formed, read_y.formed, read_d.coded, read_x.coded, read_y.coded) refl
 
-console_run : (o : Option ℕ) → IfSome o (λ c. c ≤ 7) → IsRun (console_text o)
-console_run None h = word (codes "-") refl refl
-console_run (Some c) h = (number_reads c (omega (arith, h))).run
-
-console_short : (o : Option ℕ) → IfSome o (λ c. c ≤ 7) → length (console_text o) ≤ 12
-console_short None h = omega arith
-console_short (Some c) h = (number_reads c (omega (arith, h))).short
-
 -- the two forms of a console
 none_row : (u j : ℕ) → IsNameWord u → IsNameWord j → load_line (name_of u ∷ name_of j ∷ codes "-" ∷ []) ≡ Ok (events.Load u j None)
 unfolding load_line
@@ -308,21 +213,6 @@ none_row u j named_u named_j =
     let read_u = name_reads u named_u in
     let read_j = name_reads j named_j in
     rw (read_u.formed, read_j.formed, read_u.coded, read_j.coded) refl
-
-digit_above : (k d : ℕ) → is_code 48 55 d ≡ true → 56 ≤ k → (d == k) ≡ false
-digit_above k d digit above = grind (arith, nat_tests)
-
-digit_below : (k d : ℕ) → is_code 48 55 d ≡ true → k ≤ 47 → (d == k) ≡ false
-digit_below k d digit below = grind (arith, nat_tests)
-
-digits_no_dash : (ds : List ℕ) → 1 ≤ length ds → list_all (is_code 48 55) ds ≡ true → bytes_eq ds (codes "-") ≡ false
-digits_no_dash [] some h = absurd (omega arith)
-digits_no_dash (d ∷ ds) some h =
-    let parts = both (is_code 48 55 d) (list_all (is_code 48 55) ds) h in
-    rw (digit_below 45 d parts.0 (lit≤ tt)) refl
-
-number_no_dash : (n : ℕ) → bytes_eq (digits_of n) (codes "-") ≡ false
-number_no_dash n = digits_no_dash (digits_of n) (some_digits n) (digits_are_codes n)
 
 some_row : (u j c : ℕ) → IsNameWord u → IsNameWord j → c ≤ 7 → load_line (name_of u ∷ name_of j ∷ digits_of c ∷ []) ≡ Ok (events.Load u j (Some c))
 unfolding load_line
@@ -347,82 +237,6 @@ load_again u j o named_u named_j h =
     (read_u.run, (read_j.run, (console_run o h, tt))) (omega (arith, read_u.short, read_j.short, console_short o h))
     ∙ load_row u j o named_u named_j h
 
--- the numbers of a list
-Below : ℕ → List ℕ → Type 0
-Below m [] = Unit {0}
-Below m (w ∷ ws) = (w < m) × Below m ws
-
-below_each : (m : ℕ) (ws : List ℕ) → ((k : ℕ) → k < length ws → get_or ws k 0 < m) → Below m ws
-unfolding Below
-below_each m [] h = tt
-below_each m (w ∷ ws) h = (h 0 (omega arith), below_each m ws (λ k below. h (suc k) (omega arith)))
-
-numbers_are_octal : (ws : List ℕ) → Below (2 ^ 36) ws → list_all is_octal (map digits_of ws) ≡ true
-unfolding Below
-numbers_are_octal [] h = refl
-numbers_are_octal (w ∷ ws) h = rw ((number_reads w h.0).formed, numbers_are_octal ws h.1) refl
-
-numbers_again : (ws : List ℕ) → map octal_value (map digits_of ws) ≡ ws
-numbers_again [] = refl
-numbers_again (w ∷ ws) = rw (digits_value w, numbers_again ws) refl
-
-number_runs : (ws : List ℕ) → Below (2 ^ 36) ws → AllRuns (map digits_of ws)
-unfolding Below
-number_runs [] h = tt
-number_runs (w ∷ ws) h = ((number_reads w h.0).run, number_runs ws h.1)
-
-room_of_numbers : (k : ℕ) (ws : List ℕ) → 1 ≤ k → Below (8 ^ k) ws → room_of (map digits_of ws) ≤ (1 + k) * length ws
-unfolding Below
-room_of_numbers k [] some h = omega arith
-room_of_numbers k (w ∷ ws) some h = omega (arith, few_digits k w some h.0, room_of_numbers k ws some h.1)
-
--- machine words of a list
-words_are_octal : (ws : List ℕ) → Below (2 ^ 36) ws → list_all is_octal (map octal12_of ws) ≡ true
-unfolding Below
-words_are_octal [] h = refl
-words_are_octal (w ∷ ws) h = rw ((word_reads w h.0).formed, words_are_octal ws h.1) refl
-
-values_again : (ws : List ℕ) → Below (2 ^ 36) ws → map octal_value (map octal12_of ws) ≡ ws
-unfolding Below
-values_again [] h = refl
-values_again (w ∷ ws) h = rw ((word_reads w h.0).value, values_again ws h.1) refl
-
-word_runs : (ws : List ℕ) → Below (2 ^ 36) ws → AllRuns (map octal12_of ws)
-unfolding Below
-word_runs [] h = tt
-word_runs (w ∷ ws) h = ((word_reads w h.0).run, word_runs ws h.1)
-
-room_of_words : (ws : List ℕ) → room_of (map octal12_of ws) ≡ 13 * length ws
-room_of_words [] = refl
-room_of_words (w ∷ ws) = omega (arith, length-octal12 w, room_of_words ws)
-
-below_more : (m n : ℕ) (ws : List ℕ) → m ≤ n → Below m ws → Below n ws
-unfolding Below
-below_more m n [] less h = tt
-below_more m n (w ∷ ws) less h = (omega (arith, h.0), below_more m n ws less h.1)
-
-bytes_ranged_again : (bs : List ℕ) → Below 128 bs → list_all (λ w. leb (octal_value w) 127) (map digits_of bs) ≡ true
-unfolding Below
-bytes_ranged_again [] h = refl
-bytes_ranged_again (b ∷ bs) h =
-    let small : leb b 127 ≡ true = le-leb b 127 (omega (arith, h.0)) in
-    rw (digits_value b, small, bytes_ranged_again bs h.1) refl
-
--- a first word of digits and `/`
-before_again : (ds : List ℕ) → before_slash (ds ++ 47 ∷ []) ≡ ds
-before_again ds =
-    let size : length (ds ++ 47 ∷ []) - 1 ≡ length ds = omega (arith, length-append ds (47 ∷ [])) in
-    rw size (take-append_seam ds (47 ∷ []))
-
-place_again : (ds : List ℕ) → is_octal ds ≡ true → is_place (ds ++ 47 ∷ []) ≡ true
-place_again ds h =
-    let size : length (ds ++ 47 ∷ []) - 1 ≡ length ds = omega (arith, length-append ds (47 ∷ [])) in
-    rw (before_again ds, h, size, get_or_push ds 47 0 (length ds) refl) refl
-
-digits_no_comment : (ds : List ℕ) → 1 ≤ length ds → list_all (is_code 48 55) ds ≡ true → is_comment (ds ++ 47 ∷ []) ≡ false
-digits_no_comment [] some h = absurd (omega arith)
-digits_no_comment (d ∷ ds) some h = digit_above 59 d (both (is_code 48 55 d) (list_all (is_code 48 55) ds) h).0 (lit≤ tt)
-
 digits_kind : (ds : List ℕ) → 1 ≤ length ds → list_all (is_code 48 55) ds ≡ true → is_octal ds ≡ true → kind_of (ds ++ 47 ∷ []) ≡ Some kinds.Words
 unfolding kind_of
 digits_kind [] some h octal = absurd (omega arith)
@@ -445,12 +259,6 @@ digits_kind (d ∷ ds) some h octal =
       digit_above 80 d digit (lit≤ tt),
       place,
     ) refl
-
-place_run : (ds : List ℕ) → IsRun ds → IsRun (ds ++ 47 ∷ [])
-place_run ds run = record {
-  some = omega (arith, length-append ds (47 ∷ []), run.some);
-  visible = rw (list_all-append (is_code 33 126) ds (47 ∷ []), run.visible) refl;
-}
 
 words_row : (a : ℕ) (ws : List ℕ) → 1 ≤ length ws → length ws ≤ 16 → a + length ws ≤ 2 ^ 18 → Below (2 ^ 36) ws
     → words_line (octal6_of a) (map octal12_of ws) ≡ Ok (events.Words a (record { items = ws }))
@@ -546,6 +354,27 @@ end_again : line_event places.Plain 2 (codes "END") ≡ Ok events.End
 unfolding event_of_words kind_of bare_line spaced
 end_again = line_of_words places.Plain 2 (codes "END") [] (word (codes "END") refl refl) tt (lit≤ tt)
 
+-- SYSTEM is in the first line of a session, which is of version 1 so far
+pub system_again : (u v : ℕ) → leb 1 u ≡ true → 1 ≤ v → v ≤ 2
+    → line_event places.First u (spaced (codes "SYSTEM") (digits_of v ∷ [])) ≡ Ok (events.Restore (states.System v))
+unfolding event_of_words kind_of
+system_again u v first some few =
+    let read_v = number_reads v (omega arith) in
+    line_of_words places.First u (codes "SYSTEM") (digits_of v ∷ []) (word (codes "SYSTEM") refl refl) (read_v.run, tt) (omega (arith, read_v.short))
+    ∙ rw first (ap restores (system_says v some few))
+
+pub restored_at : (place : Place) (v : ℕ) (line : StateLine) → place ≡ places.System → ReadsBack v line
+    → line_event place v (text_of_state_line line) ≡ Ok (events.Restore line)
+unfolding event_of_words
+restored_at place v line at b =
+    ap (λ p. line_event p v (text_of_state_line line)) at ∙ ap (line_event places.System v) b.text
+    ∙ line_of_words places.System v b.first b.words b.run b.runs b.short ∙ rw b.no_comment (ap restores b.read)
+
+restored_again : (line : StateLine) → StateFits 2 line → StateHasWords line
+    → line_event (place_of_state_line line) 2 (text_of_state_line line) ≡ Ok (events.Restore line)
+restored_again (states.System v) f h = system_again 2 v refl f.0 f.1
+restored_again line f h = restored_at (place_of_state_line line) 2 line refl (state_reads_back 2 line refl f h)
+
 pub reads_back : (e : Event) → EventFits 2 e → HasWords e → line_event (place_of e) 2 (text_of_event e) ≡ Ok e
 unfolding last_slot
 reads_back events.Nothing f h = nothing_again places.Plain
@@ -573,6 +402,7 @@ reads_back (events.Cont s) f h = cont_again s f
 reads_back (events.Peek s) f h = peek_again s f
 reads_back (events.Dir d) f h = dir_again d f
 reads_back (events.Show d x y) f h = show_again d x y f.0 f.1 f.2
+reads_back (events.Restore line) f h = restored_again line f h
 reads_back events.End f h = end_again
 
 -- the empty line of the event of nothing is read so anywhere

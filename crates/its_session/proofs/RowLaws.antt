@@ -23,6 +23,34 @@ pub two_words : (ws : List (Bor (List ℕ))) → 2 ≤ length ws → length ws <
 two_words (a ∷ b ∷ []) some few = refl
 two_words _ some few = absurd (omega arith)
 
+pub four_words : (ws : List (Bor (List ℕ))) → 4 ≤ length ws → length ws < 5
+    → map (λ w. w.now) ws ≡ (get_or ws 0 past).now ∷ (get_or ws 1 past).now ∷ (get_or ws 2 past).now ∷ (get_or ws 3 past).now ∷ []
+four_words (a ∷ b ∷ c ∷ d ∷ []) some few = refl
+four_words _ some few = absurd (omega arith)
+
+pub five_words : (ws : List (Bor (List ℕ))) → 5 ≤ length ws → length ws < 6
+    → map (λ w. w.now) ws ≡ (get_or ws 0 past).now ∷ (get_or ws 1 past).now ∷ (get_or ws 2 past).now ∷ (get_or ws 3 past).now ∷ (get_or ws 4 past).now ∷ []
+five_words (a ∷ b ∷ c ∷ d ∷ e ∷ []) some few = refl
+five_words _ some few = absurd (omega arith)
+
+pub six_words : (ws : List (Bor (List ℕ))) → 6 ≤ length ws → length ws < 7
+    → map (λ w. w.now) ws ≡ (get_or ws 0 past).now ∷ (get_or ws 1 past).now ∷ (get_or ws 2 past).now ∷ (get_or ws 3 past).now
+    ∷ (get_or ws 4 past).now ∷ (get_or ws 5 past).now ∷ []
+six_words (a ∷ b ∷ c ∷ d ∷ e ∷ f ∷ []) some few = refl
+six_words _ some few = absurd (omega arith)
+
+pub eight_words : (ws : List (Bor (List ℕ))) → 8 ≤ length ws → length ws < 9
+    → map (λ w. w.now) ws ≡ (get_or ws 0 past).now ∷ (get_or ws 1 past).now ∷ (get_or ws 2 past).now ∷ (get_or ws 3 past).now
+    ∷ (get_or ws 4 past).now ∷ (get_or ws 5 past).now ∷ (get_or ws 6 past).now ∷ (get_or ws 7 past).now ∷ []
+eight_words (a ∷ b ∷ c ∷ d ∷ e ∷ f ∷ g ∷ h ∷ []) some few = refl
+eight_words _ some few = absurd (omega arith)
+
+pub first_two : (ws : List (Bor (List ℕ))) → 2 ≤ length ws
+    → map (λ w. w.now) ws ≡ (get_or ws 0 past).now ∷ (get_or ws 1 past).now ∷ map (λ w. w.now) (take (length ws - 2) (drop 2 ws))
+first_two [] some = absurd (omega arith)
+first_two (w ∷ []) some = absurd (omega arith)
+first_two (v ∷ w ∷ ws) some = rw (take_rest (v ∷ w ∷ ws) 2) refl
+
 pub first_word : (ws : List (Bor (List ℕ))) → 1 ≤ length ws
     → map (λ w. w.now) ws ≡ (get_or ws 0 past).now ∷ map (λ w. w.now) (take (length ws - 1) (drop 1 ws))
 first_word [] some = absurd (omega arith)

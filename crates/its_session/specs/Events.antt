@@ -4,6 +4,7 @@ use Rattle.std.specs.Prelude.{if◌then◌else◌, ◌==◌, ℕ, ◌+◌, ◌^�
 use Rattle.its_records.specs.Item.{Item, Read, Unread, Beyond}
 use Rattle.its_records.specs.declared.session.Event.{Event}
 use Rattle.its_records.specs.declared.session.Event.TheVariants as events
+use Rattle.its_records.specs.declared.state_line.StateLine.TheVariants as states
 use Rattle.its_records.specs.declared.session.Place.{Place}
 use Rattle.its_records.specs.declared.session.Place.TheVariants as places
 use Rattle.its_records.specs.declared.session.Bad.{Bad}
@@ -29,18 +30,22 @@ abbrev pub lines_from : Bool → List ℕ → List ℕ → List (List ℕ)
 lines_from whole kept [] = last_line whole kept
 lines_from whole kept (b ∷ bs) = if b == 10 then kept ∷ lines_from whole [] bs else lines_from whole (kept ++ b ∷ []) bs
 
--- the place after a line: LOAD and FILE begin a block, GO and EOF end it, and line 1 is over
+-- the place after a line: SYSTEM begins the state part, and READY ends it; LOAD and FILE begin a
+-- block, GO and EOF end it, and line 1 is over
 abbrev pub place_after : Place → Event → Place
 place_after place (events.Load u j c) = places.Load
 place_after place (events.Go a) = places.Plain
 place_after place (events.File d x y) = places.File
 place_after place events.EndFile = places.Plain
+place_after place (events.Restore (states.System v)) = places.System
+place_after place (events.Restore states.Ready) = places.Plain
 place_after places.First _ = places.Plain
 place_after place _ = place
 
--- the version of the session text after a line
+-- the version of the session text after a line: VERSION and SYSTEM name it
 abbrev pub version_after : ℕ → Event → ℕ
 version_after v (events.Version w) = w
+version_after v (events.Restore (states.System w)) = w
 version_after v _ = v
 
 -- the end of input in the state part or inside a block is CUT
@@ -80,3 +85,14 @@ events_of bytes = items_from true 1 places.First 1 (lines_from true [] bytes)
 -- the events of the whole lines of bytes, after which the reading broke off
 unfoldable pub whole_events_of : List ℕ → List Item
 whole_events_of bytes = items_from false 1 places.First 1 (lines_from false [] bytes)
+
+-- the items before END
+abbrev pub before_end : List Item → List Item
+before_end [] = []
+before_end (Read events.End ∷ es) = []
+before_end (x ∷ es) = x ∷ before_end es
+
+-- the place after some lines
+abbrev pub place_past : Place → List Event → Place
+place_past place [] = place
+place_past place (e ∷ es) = place_past (place_after place e) es

@@ -1,13 +1,16 @@
 -- The events of lines that can be read: their fields agree with the table of lines
 -- (docs/SESSION.md).
--- No promise rests on this.
-use Rattle.std.specs.Prelude.{◌≡◌, ℕ, ◌+◌, ◌<◌, ◌≤◌, ◌^◌, true, List, length, IsTrue, IfSome, All}
+-- A promise rests on this.
+use Rattle.std.specs.Prelude.{◌≡◌, ℕ, ◌+◌, ◌<◌, ◌≤◌, ◌^◌, true, List, [], ◌∷◌, length, IsTrue, IfSome, All}
 use Rattle.its_word.specs.Text.{is_name, sixbit_of}
+use Rattle.its_records.specs.Item.{Item, Read, Unread, Beyond}
 use Rattle.its_records.specs.declared.session.Event.{Event}
 use Rattle.its_records.specs.declared.session.Event.TheVariants as events
 use Rattle.its_records.specs.declared.session.Place.{Place}
 use Rattle.its_records.specs.declared.session.Place.TheVariants as places
 use Rattle.its_session.specs.Grammar.{last_slot, is_at}
+use Rattle.its_session.specs.Events.{place_after}
+use Rattle.its_session.specs.StateFits.{StateFits, place_of_state_line}
 
 -- the word of a name
 pub record IsNameWord (w : ℕ) : Type 0 where
@@ -47,6 +50,7 @@ EventFits v (events.Cont s) = s ≤ last_slot v
 EventFits v (events.Peek s) = s ≤ last_slot v
 EventFits v (events.Dir d) = IsNameWord d
 EventFits v (events.Show d x y) = IsNameWord d × IsNameWord x × IsNameWord y
+EventFits v (events.Restore line) = StateFits v line
 EventFits v events.End = Unit {0}
 
 -- the place in which an event's line may occur; an empty line may occur anywhere
@@ -58,9 +62,18 @@ place_of (events.Words a ws) = places.Load
 place_of (events.Go a) = places.Load
 place_of (events.Append ws) = places.File
 place_of events.EndFile = places.File
+place_of (events.Restore line) = place_of_state_line line
 place_of _ = places.Plain
 
 -- an event's line may occur at a place
 abbrev pub Stands : Place → Event → Type 0
 Stands place events.Nothing = Unit {0}
 Stands place e = is_at place (place_of e) ≡ true
+
+-- each line may occur at its place, from this place on; nothing is said after a line that is not
+-- read
+abbrev pub ReadAt : Place → List Item → Type 0
+ReadAt p [] = Unit {0}
+ReadAt p (Read e ∷ es) = Stands p e × ReadAt (place_after p e) es
+ReadAt p (Unread r ∷ es) = Unit {0}
+ReadAt p (Beyond ∷ es) = Unit {0}

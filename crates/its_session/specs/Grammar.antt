@@ -1,84 +1,20 @@
 -- The lines of a session: which event each is at its place, or the first reason why it is none
 -- (docs/SESSION.md). Characters are their ASCII codes, numbers of the text are octal.
 -- A promise rests on this.
-use Rattle.std.specs.Prelude.{if◌then◌else◌, ℕ, ◌-◌, ◌^◌, Bool, true, false, ◌&&◌, Option, Some, None, Result, Ok, Err, List, [], ◌∷◌, length, map, take, slice_index, nat_le, ◌==◌, bytes_eq, codes}
+use Rattle.std.specs.Prelude.{if◌then◌else◌, ℕ, ◌-◌, ◌^◌, Bool, true, false, ◌&&◌, Option, Some, None, Result, Ok, Err, List, [], ◌∷◌, length, map, slice_index, nat_le, ◌==◌, bytes_eq, codes}
 use Rattle.std.specs.List.{list_all}
-use Rattle.its_word.specs.Text.{is_code, is_octal, octal_value, is_name, sixbit_of, words_of}
+use Rattle.its_word.specs.Text.{is_code, octal_value, sixbit_of, words_of}
 use Rattle.its_records.specs.declared.session.Event.{Event}
 use Rattle.its_records.specs.declared.session.Event.TheVariants as events
 use Rattle.its_records.specs.declared.session.Place.{Place}
 use Rattle.its_records.specs.declared.session.Place.TheVariants as places
 use Rattle.its_records.specs.declared.session.Bad.{Bad}
-use Rattle.its_records.specs.declared.session.Bad.TheVariants.{Long, Syntax, Range, NoConsole}
+use Rattle.its_records.specs.declared.session.Bad.TheVariants.{Long, Syntax}
+pub use Rattle.its_session.specs.Fields.{Field, with_fields, number, number_to, count_to, name, slot, page, address, console, is_dash, console_or_dash, console_given, with_count, before_slash, is_place}
+unfoldable pub use Rattle.its_session.specs.Fields.{last_slot}
+use Rattle.its_session.specs.StateGrammar.{state_kind_of, state_line_of_first, system_row, restores}
 use Rattle.its_session.specs.declared.kind.Kind.{Kind}
 use Rattle.its_session.specs.declared.kind.Kind.TheVariants as kinds
-
--- a word in a field of a line: whether it is a number or a name as the field wants one, whether a
--- number other than a console lies in the field's range, and whether there is such a console
-pub record Field : Type 0 where
-  pub formed : Bool
-  pub ranged : Bool
-  pub console : Bool
-
--- what a line with these fields says, or the first reason against it
-abbrev pub with_fields : {A : Type 0} → List Field → A → Result A Bad
-with_fields fields x =
-    if list_all (λ f. f.formed) fields then
-    (if list_all (λ f. f.ranged) fields then
-    (if list_all (λ f. f.console) fields then Ok x else Err NoConsole)
-    else Err Range)
-    else Err Syntax
-
--- any number
-abbrev pub number : List ℕ → Field
-number w = record { formed = is_octal w; ranged = true; console = true }
-
--- a number of at most this much
-abbrev pub number_to : ℕ → List ℕ → Field
-number_to most w = record (number w) { ranged = nat_le (octal_value w) most }
-
--- a number from 1 to this much
-abbrev pub count_to : ℕ → List ℕ → Field
-count_to most w = record (number w) { ranged = nat_le 1 (octal_value w) && nat_le (octal_value w) most }
-
--- a name
-abbrev pub name : List ℕ → Field
-name w = record { formed = is_name w; ranged = true; console = true }
-
--- the last slot: 77 in version 1, 137 in version 2
-unfoldable pub last_slot : ℕ → ℕ
-last_slot v = if v == 2 then 95 else 63
-
--- a slot
-abbrev pub slot : ℕ → List ℕ → Field
-slot v w = number_to (last_slot v) w
-
--- a page, 0 to 377
-abbrev pub page : List ℕ → Field
-page w = number_to 255 w
-
--- an address, 0 to 777777
-abbrev pub address : List ℕ → Field
-address w = number_to (2 ^ 18 - 1) w
-
--- a console, 0 to 7
-abbrev pub console : List ℕ → Field
-console w = record (number w) { console = nat_le (octal_value w) 7 }
-
--- `-` for no console
-abbrev pub is_dash : List ℕ → Bool
-is_dash w = bytes_eq w (codes "-")
-
--- a console, or none
-abbrev pub console_or_dash : List ℕ → Field
-console_or_dash w = if is_dash w then record { formed = true; ranged = true; console = true } else console w
-
-abbrev pub console_given : List ℕ → Option ℕ
-console_given w = if is_dash w then None else Some (octal_value w)
-
--- a line of 1 to so many words
-abbrev pub with_count : ℕ → List (List ℕ) → Result Event Bad → Result Event Bad
-with_count most ws line = if nat_le 1 (length ws) && nat_le (length ws) most then line else Err Syntax
 
 -- The table of lines: what may follow each first word, a definition a row. The version v counts if
 -- a slot is named.
@@ -191,18 +127,11 @@ unfoldable pub show_line : List (List ℕ) → Result Event Bad
 show_line (d ∷ x ∷ y ∷ []) = with_fields (name d ∷ name x ∷ name y ∷ []) (events.Show (sixbit_of d) (sixbit_of x) (sixbit_of y))
 show_line _ = Err Syntax
 
--- the digits before the `/` of a first word
-abbrev pub before_slash : List ℕ → List ℕ
-before_slash w = take (length w - 1) w
-
--- a number directly followed by `/`
-abbrev pub is_place : List ℕ → Bool
-is_place w = is_octal (before_slash w) && slice_index w (length w - 1) == 47
-
 -- which kind of line a first word begins, if any
 unfoldable pub kind_of : List ℕ → Option Kind
 kind_of w =
     if bytes_eq w (codes "VERSION") then Some kinds.Version
+    else (if bytes_eq w (codes "SYSTEM") then Some kinds.System
     else (if bytes_eq w (codes "LOAD") then Some kinds.Load
     else (if bytes_eq w (codes "RO") then Some kinds.ReadOnly
     else (if bytes_eq w (codes "SYM") then Some kinds.Symbol
@@ -227,12 +156,13 @@ kind_of w =
     else (if bytes_eq w (codes "SHOW") then Some kinds.Show
     else (if bytes_eq w (codes "END") then Some kinds.End
     else (if is_place w then Some kinds.Words
-    else None))))))))))))))))))))))))
+    else None)))))))))))))))))))))))))
 
 -- the place in which each kind of line may occur: line 1, after LOAD until GO, after FILE until
--- EOF, or elsewhere
+-- EOF, or elsewhere outside the state part, whose lines have a table of their own
 abbrev pub place_of_kind : Kind → Place
 place_of_kind kinds.Version = places.First
+place_of_kind kinds.System = places.First
 place_of_kind kinds.Words = places.Load
 place_of_kind kinds.ReadOnly = places.Load
 place_of_kind kinds.Symbol = places.Load
@@ -245,6 +175,7 @@ place_of_kind _ = places.Plain
 abbrev pub is_at : Place → Place → Bool
 is_at places.First places.First = true
 is_at places.First places.Plain = true
+is_at places.System places.System = true
 is_at places.Plain places.Plain = true
 is_at places.Load places.Load = true
 is_at places.File places.File = true
@@ -265,6 +196,7 @@ may_stand place v kind = is_at place (place_of_kind kind) && nat_le (version_of_
 -- the line of a kind with its first word and the words that follow
 abbrev pub line_of_kind : ℕ → Kind → List ℕ → List (List ℕ) → Result Event Bad
 line_of_kind v kinds.Version first ws = version_line ws
+line_of_kind v kinds.System first ws = restores (system_row ws)
 line_of_kind v kinds.Load first ws = load_line ws
 line_of_kind v kinds.Words first ws = words_line (before_slash first) ws
 line_of_kind v kinds.ReadOnly first ws = read_only_line ws
@@ -295,6 +227,11 @@ abbrev pub line_of_first : Place → ℕ → Option Kind → List ℕ → List (
 line_of_first place v None first ws = Err Syntax
 line_of_first place v (Some kind) first ws = if may_stand place v kind then line_of_kind v kind first ws else Err Syntax
 
+-- the line of a first word at a place: in the state part it is one of the table of that part
+abbrev pub line_at : Place → ℕ → List ℕ → List (List ℕ) → Result Event Bad
+line_at places.System v first ws = restores (state_line_of_first v (state_kind_of first) first ws)
+line_at place v first ws = line_of_first place v (kind_of first) first ws
+
 -- a first word that begins with `;` makes the line a comment
 abbrev pub is_comment : List ℕ → Bool
 is_comment w = slice_index w 0 == 59
@@ -302,7 +239,7 @@ is_comment w = slice_index w 0 == 59
 -- a line without words is empty, and so is a comment; either may occur anywhere
 unfoldable pub event_of_words : Place → ℕ → List (List ℕ) → Result Event Bad
 event_of_words place v [] = Ok events.Nothing
-event_of_words place v (first ∷ ws) = if is_comment first then Ok events.Nothing else line_of_first place v (kind_of first) first ws
+event_of_words place v (first ∷ ws) = if is_comment first then Ok events.Nothing else line_at place v first ws
 
 -- a line of a session of version v: at most 255 bytes, all from 40 to 176
 unfoldable pub line_event : Place → ℕ → List ℕ → Result Event Bad

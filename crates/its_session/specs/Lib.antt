@@ -1,6 +1,11 @@
+pub mod Fields
+pub mod StateGrammar
 pub mod Grammar
+pub mod StateFits
 pub mod Fits
 pub mod Events
 pub mod Reading
+pub mod Names
+pub mod StateWriting
 pub mod Writing
 pub mod Generated

@@ -1,22 +1,13 @@
 -- The line that is written for an event.
 -- A promise rests on this.
-use Rattle.std.specs.Prelude.{if◌then◌else◌, ◌==◌, ℕ, zero, suc, ◌+◌, ◌*◌, ◌/◌, ◌%◌, ◌^◌, ◌<◌, Option, Some, None, List, [], ◌∷◌, ◌++◌, length, map, codes, slice_index}
+use Rattle.std.specs.Prelude.{ℕ, ◌^◌, ◌<◌, List, [], ◌∷◌, ◌++◌, map, flat_map, codes}
 use Rattle.its_word.specs.Text.{digits_of, octal6_of, octal12_of, spaced}
 use Rattle.its_records.specs.declared.session.Event.{Event}
 use Rattle.its_records.specs.declared.session.Event.TheVariants as events
-
--- up to n characters of a name, which are in the top of a word
-unfoldable pub characters : ℕ → ℕ → List ℕ
-characters zero w = []
-characters (suc n) w = if w / 2 ^ 30 == 0 then [] else (32 + w / 2 ^ 30) ∷ characters n (w * 2 ^ 6 % 2 ^ 36)
-
--- the characters of a name's word
-abbrev pub name_of : ℕ → List ℕ
-name_of w = characters 6 w
-
-abbrev pub console_text : Option ℕ → List ℕ
-console_text None = codes "-"
-console_text (Some c) = digits_of c
+use Rattle.its_session.specs.StateWriting.{text_of_state_line, StateHasWords}
+unfoldable pub use Rattle.its_session.specs.Names.{characters}
+pub use Rattle.its_session.specs.Names.{name_of, console_text}
+pub use Rattle.its_session.specs.StateWriting.{AreWords}
 
 -- an event's line: an address has six digits, a machine word twelve, and any other number no
 -- leading zeros
@@ -46,15 +37,21 @@ text_of_event (events.Cont s) = spaced (codes "CONT") (digits_of s ∷ [])
 text_of_event (events.Peek s) = spaced (codes "PEEK") (digits_of s ∷ [])
 text_of_event (events.Dir d) = spaced (codes "DIR") (name_of d ∷ [])
 text_of_event (events.Show d x y) = spaced (codes "SHOW") (name_of d ∷ name_of x ∷ name_of y ∷ [])
+text_of_event (events.Restore line) = text_of_state_line line
 text_of_event events.End = codes "END"
 
 -- the words of an event have 36 bits, as all words do
-abbrev pub AreWords : List ℕ → Type 0
-AreWords ws = (k : ℕ) → k < length ws → slice_index ws k < 2 ^ 36
-
 abbrev pub HasWords : Event → Type 0
 HasWords (events.Words a ws) = AreWords ws.items
 HasWords (events.Append ws) = AreWords ws.items
 HasWords (events.Int s v w) = (v < 2 ^ 36) × (w < 2 ^ 36)
 HasWords (events.Deposit s a w) = w < 2 ^ 36
+HasWords (events.Restore line) = StateHasWords line
 HasWords _ = Unit {0}
+
+-- the lines of events, each with its LF
+abbrev pub event_line : Event → List ℕ
+event_line e = text_of_event e ++ 10 ∷ []
+
+unfoldable pub lines_text : List Event → List ℕ
+lines_text es = flat_map event_line es

@@ -1,7 +1,7 @@
 //! The fields of a line: each of these reads one, or gives the reason against it.
-ghost use Rattle.std.specs.Prelude.{◌≡◌, ◌≤◌, ◌&&◌, if◌then◌else◌, map, nat_le};
+ghost use Rattle.std.specs.Prelude.{◌≡◌, ◌≤◌, ◌&&◌, ◌-◌, ◌^◌, if◌then◌else◌, map, nat_le};
 ghost use Rattle.its_session.specs.Grammar.{last_slot};
-ghost use Rattle.its_session.specs.Reading.{bytes_in, console_at, name_in, number_in, numbers_in, ranged_to};
+ghost use Rattle.its_session.specs.Reading.{bytes_in, channel_in, console_at, console_in, flag_in, link_end_in, name_in, number_in, numbers_in, period_in, ranged_to, run_in, tag_in, three_tags_in, two_numbers_in, two_tags_in};
 
 use arrayvec::ArrayVec;
 use its_records::Bad;
@@ -85,6 +85,117 @@ pub fn console(n: Word) -> Result<ConsoleNumber, Bad>
         n @ ..=7 => Ok(ConsoleNumber::new(n as u8)),
         _ => Err(Bad::NoConsole),
     }
+}
+
+/// A console, or `-` for none.
+pub fn console_or_dash(word: &[u8]) -> Result<Option<ConsoleNumber>, Bad>
+    ensures { result ≡ console_in word.now }
+{
+    match word {
+        b"-" => Ok(None),
+        _ => Ok(Some(console(number(word)?)?)),
+    }
+}
+
+/// A tag: a name, or the 12 octal digits of a word.
+#[tactic(auto, using(crate::proofs::TagLaws::too_long), unfolding(crate::specs::Fields::is_tag, crate::specs::Fields::word_of_tag))]
+pub fn tag(word: &[u8]) -> Result<Word, Bad>
+    ensures { result ≡ tag_in word.now }
+{
+    if word.len() == 12 {
+        number(word)
+    } else {
+        name(word)
+    }
+}
+
+/// Two numbers.
+pub fn two_numbers(a: &[u8], b: &[u8]) -> Result<(Word, Word), Bad>
+    ensures { result ≡ two_numbers_in a.now b.now }
+{
+    let (a, b) = (number(a)?, number(b)?);
+    Ok((a, b))
+}
+
+/// Two tags.
+pub fn two_tags(x: &[u8], y: &[u8]) -> Result<(Word, Word), Bad>
+    ensures { result ≡ two_tags_in x.now y.now }
+{
+    let (x, y) = (tag(x)?, tag(y)?);
+    Ok((x, y))
+}
+
+/// Three tags.
+pub fn three_tags(d: &[u8], x: &[u8], y: &[u8]) -> Result<(Word, Word, Word), Bad>
+    ensures { result ≡ three_tags_in d.now x.now y.now }
+{
+    let (d, x, y) = (tag(d)?, tag(x)?, tag(y)?);
+    Ok((d, x, y))
+}
+
+/// RUN or STOP.
+pub fn run_or_stop(word: &[u8]) -> Result<bool, Bad>
+    ensures { result ≡ run_in word.now }
+{
+    match word {
+        b"RUN" => Ok(true),
+        b"STOP" => Ok(false),
+        _ => Err(Bad::Syntax),
+    }
+}
+
+/// 0 for no, or 1 for yes.
+pub fn flag(n: Word) -> Result<bool, Bad>
+    ensures { result ≡ flag_in n }
+{
+    match n.value() {
+        0 => Ok(false),
+        1 => Ok(true),
+        _ => Err(Bad::Range),
+    }
+}
+
+/// The number of a channel or of a link.
+pub fn below_sixteen(n: Word) -> Result<u8, Bad>
+    ensures { result ≡ ranged_to 15 n }
+{
+    match n.value() {
+        n @ ..=0o17 => Ok(n as u8),
+        _ => Err(Bad::Range),
+    }
+}
+
+/// A slot and a channel of its job.
+pub fn channel(version: u8, s: Word, n: Word) -> Result<(Slot, u8), Bad>
+    ensures { result ≡ channel_in version s n }
+{
+    let (s, n) = (slot(version, s)?, below_sixteen(n)?);
+    Ok((s, n))
+}
+
+/// A link, and whether its writing end is meant.
+pub fn link_end(l: Word, w: Word) -> Result<(u8, bool), Bad>
+    ensures { result ≡ link_end_in l w }
+{
+    let (l, write) = (below_sixteen(l)?, flag(w)?);
+    Ok((l, write))
+}
+
+/// The period of an alarm, in thirtieths of a second.
+pub fn period(n: Word) -> Result<u64, Bad>
+    ensures { result ≡ period_in n }
+{
+    match n.value() {
+        n @ 1..=0o200000000000 => Ok(n),
+        _ => Err(Bad::Range),
+    }
+}
+
+/// A position in words.
+pub fn position(n: Word) -> Result<u32, Bad>
+    ensures { result ≡ ranged_to (2 ^ 32 - 1) n }
+{
+    at_most(u32::MAX, n)
 }
 
 /// The numbers of 1 to 16 words.

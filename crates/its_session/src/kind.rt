@@ -10,6 +10,7 @@ use its_word::read_octal;
 #[derive(Clone, Copy, Debug, PartialEq, Eq)]
 pub enum Kind {
     Version,
+    System,
     Load,
     Words,
     ReadOnly,
@@ -43,6 +44,8 @@ pub fn kind_of(first: &[u8]) -> Option<Kind>
 {
     if is(first, b"VERSION") {
         Some(Kind::Version)
+    } else if is(first, b"SYSTEM") {
+        Some(Kind::System)
     } else if is(first, b"LOAD") {
         Some(Kind::Load)
     } else if is(first, b"RO") {
@@ -99,7 +102,7 @@ pub fn kind_of(first: &[u8]) -> Option<Kind>
 /// Whether a word is this one. Most words have another length, which is seen at once.
 #[tactic(auto, using(crate::proofs::KindLaws::other_length))]
 #[inline]
-fn is(word: &[u8], name: &[u8]) -> bool
+pub fn is(word: &[u8], name: &[u8]) -> bool
     ensures { result ≡ bytes_eq word.now name.now }
 {
     if word.len() != name.len() {
@@ -109,7 +112,7 @@ fn is(word: &[u8], name: &[u8]) -> bool
 }
 
 /// Whether a first word is a number directly followed by `/`.
-fn is_place(first: &[u8]) -> bool
+pub fn is_place(first: &[u8]) -> bool
     ensures { result ≡ is_place first.now }
 {
     match first {
@@ -133,7 +136,7 @@ fn place_of_kind(kind: Kind) -> Place
     ensures { result ≡ place_of_kind kind }
 {
     match kind {
-        Kind::Version => Place::First,
+        Kind::Version | Kind::System => Place::First,
         Kind::Words | Kind::ReadOnly | Kind::Symbol | Kind::Go => Place::Load,
         Kind::Append | Kind::EndFile => Place::File,
         _ => Place::Plain,
@@ -147,6 +150,7 @@ fn is_at(place: Place, at: Place) -> bool
     match (place, at) {
         (Place::First, Place::First) => true,
         (Place::First, Place::Plain) => true,
+        (Place::System, Place::System) => true,
         (Place::Plain, Place::Plain) => true,
         (Place::Load, Place::Load) => true,
         (Place::File, Place::File) => true,

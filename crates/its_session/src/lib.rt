@@ -6,6 +6,12 @@
 //! table of lines (`fits`). Version 2 reads what `print_event` writes as the same event.
 //! `generated` gives line k of the generated session, and None exactly past its end.
 //!
+//! The lines of the state part have a table of their own: `read_state_line` reads one from its
+//! words, exactly by that table, and `write_state_line` writes one (`StateTrip`, `StateFitsLaws`).
+//!
+//! A text of lines that are read so, each at its place, has these events and no others
+//! (`TextLaws`).
+//!
 //! `its_session` keeps the words of a line as slices in an `ArrayVec`. An if-chain and no `match`
 //! distinguishes the kinds of line: the default arm of a match on twenty byte strings has no
 //! generated proof.
@@ -28,8 +34,14 @@ mod print;
 mod put;
 mod read;
 mod rows;
+mod state_kind;
+mod state_print;
+mod state_read;
+mod state_rows;
 
 pub use generator::generated;
 pub use limits::MOST_LINES;
 pub use print::print_event;
 pub use read::read_line;
+pub use state_print::write_state_line;
+pub use state_read::read_state_line;

@@ -7,7 +7,10 @@ ghost use Rattle.its_session.specs.Fits.{EventFits, place_of};
 ghost use Rattle.its_session.specs.Grammar.{line_event};
 ghost use Rattle.its_session.specs.Writing.{AreWords, HasWords, console_text, name_of, text_of_event};
 
-use super::put::{put_address, put_bytes, put_console, put_name, put_number, put_word, put_words};
+use super::put::{
+    put_address, put_bytes, put_console, put_long, put_name, put_number, put_word, put_words,
+};
+use super::state_print::write_state_line;
 use arrayvec::ArrayVec;
 use its_records::Event;
 use its_word::{ConsoleNumber, Slot, Word, octal6};
@@ -58,12 +61,13 @@ fn write(e: &Event, out: &mut ArrayVec<u8, 256>)
         Event::Peek { s } => number(out, b"PEEK", u64::from(s.number())),
         Event::Dir { d } => name(out, b"DIR", *d),
         Event::Show { d, x, y } => names(out, b"SHOW", *d, *x, *y),
+        Event::Restore { line } => write_state_line(line, out),
         Event::End => first(out, b"END"),
     }
 }
 
 /// A first word.
-fn first(out: &mut ArrayVec<u8, 256>, word: &[u8])
+pub fn first(out: &mut ArrayVec<u8, 256>, word: &[u8])
     requires empty { out.old.items ≡ [] }
     requires short { length word.now ≤ 16 }
     ensures text { out.new.items ≡ word.now }
@@ -73,19 +77,18 @@ fn first(out: &mut ArrayVec<u8, 256>, word: &[u8])
 }
 
 /// A first word and a number.
-fn number(out: &mut ArrayVec<u8, 256>, word: &[u8], n: u64)
+pub fn number(out: &mut ArrayVec<u8, 256>, word: &[u8], n: u64)
     requires empty { out.old.items ≡ [] }
     requires short { length word.now ≤ 16 }
-    requires number { n < 2 ^ 36 }
     ensures { out.new.items ≡ spaced word.now (digits_of n ∷ []) }
 {
     first(out, word);
-    put_number(out, n);
+    put_long(out, n);
 }
 
 /// A first word and two numbers.
 #[tactic(auto, unfolding(its_word::specs::Text::spaced))]
-fn two_numbers(out: &mut ArrayVec<u8, 256>, word: &[u8], m: u64, n: u64)
+pub fn two_numbers(out: &mut ArrayVec<u8, 256>, word: &[u8], m: u64, n: u64)
     requires empty { out.old.items ≡ [] }
     requires short { length word.now ≤ 16 }
     requires first_number { m < 2 ^ 36 }
@@ -192,7 +195,7 @@ fn symbol(out: &mut ArrayVec<u8, 256>, name: Word, a: u32)
 }
 
 /// `a/` and words
-fn words_from(out: &mut ArrayVec<u8, 256>, a: u32, words: &[Word])
+pub fn words_from(out: &mut ArrayVec<u8, 256>, a: u32, words: &[Word])
     requires empty { out.old.items ≡ [] }
     requires few { length words.now ≤ 16 }
     ensures text { out.new.items ≡ spaced (octal6_of a ++ codes "/") (map octal12_of words.now) }
@@ -204,7 +207,7 @@ fn words_from(out: &mut ArrayVec<u8, 256>, a: u32, words: &[Word])
 }
 
 /// `/` and words
-fn append(out: &mut ArrayVec<u8, 256>, words: &[Word])
+pub fn append(out: &mut ArrayVec<u8, 256>, words: &[Word])
     requires empty { out.old.items ≡ [] }
     requires few { length words.now ≤ 16 }
     ensures text { out.new.items ≡ spaced (codes "/") (map octal12_of words.now) }

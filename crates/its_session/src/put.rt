@@ -1,12 +1,13 @@
 //! The words of a line that is written: each call writes a space and a word at the end, or one for
 //! each of a list.
-ghost use Rattle.std.specs.Prelude.{◌≡◌, ◌+◌, ◌*◌, ◌<◌, ◌≤◌, ◌^◌, ℕ, [], ◌∷◌, length, map, slice_index};
+ghost use Rattle.std.specs.Prelude.{◌≡◌, ◌+◌, ◌*◌, ◌<◌, ◌≤◌, ◌^◌, ◌==◌, ◌&&◌, ℕ, [], ◌∷◌, length, map, slice_index};
 ghost use Rattle.arrayvec.specs.ArrayVec.{array_vec_len};
-ghost use Rattle.its_word.specs.Text.{digits_of, octal6_of, octal12_of, spaced};
-ghost use Rattle.its_session.specs.Writing.{characters, console_text, name_of};
+ghost use Rattle.its_word.specs.Text.{digits_of, is_name, octal6_of, octal12_of, sixbit_of, spaced};
+ghost use Rattle.its_session.specs.Names.{characters, console_text, name_of};
+ghost use Rattle.its_session.specs.StateWriting.{flag_text, is_name_word, tag_of};
 
 use arrayvec::ArrayVec;
-use its_word::{ConsoleNumber, Word, octal, octal6};
+use its_word::{ConsoleNumber, Word, octal, octal6, read_sixbit};
 
 /// A word as it is.
 #[tactic(auto, unfolding(its_word::specs::Text::spaced))]
@@ -26,6 +27,15 @@ pub fn put_number(out: &mut ArrayVec<u8, 256>, n: u64)
     requires room { array_vec_len out.old + 12 < 256 }
     ensures text { out.new.items ≡ spaced out.old.items (digits_of n ∷ []) }
     ensures len { array_vec_len out.new ≤ array_vec_len out.old + 13 }
+{
+    put(out, octal(n).as_slice());
+}
+
+/// A number, however great.
+pub fn put_long(out: &mut ArrayVec<u8, 256>, n: u64)
+    requires room { array_vec_len out.old + 22 < 256 }
+    ensures text { out.new.items ≡ spaced out.old.items (digits_of n ∷ []) }
+    ensures len { array_vec_len out.new ≤ array_vec_len out.old + 23 }
 {
     put(out, octal(n).as_slice());
 }
@@ -86,6 +96,48 @@ fn name(w: Word) -> ArrayVec<u8, 6>
         rest = Word::new(rest.value() * 0o100);
     }
     characters
+}
+
+/// Whether a word is that of a name: its characters are a name, which has this word.
+#[tactic(auto, using(crate::proofs::TagLaws::is_named_word))]
+fn is_name_word(w: Word) -> bool
+    ensures value { result ≡ is_name_word w }
+    ensures word { w < 2 ^ 36 }
+{
+    w.value() != 0 && is_name_of(name(w).as_slice(), w)
+}
+
+/// Whether this text is a name, and has this word.
+fn is_name_of(text: &[u8], w: Word) -> bool
+    ensures { result ≡ is_name text.now && (sixbit_of text.now == w) }
+{
+    match read_sixbit(text) {
+        Ok(named) => named == w,
+        Err(_) => false,
+    }
+}
+
+/// A tag: the name, if the word is that of one, else its twelve digits.
+pub fn put_tag(out: &mut ArrayVec<u8, 256>, w: Word)
+    requires { array_vec_len out.old + 12 < 256 }
+    ensures text { out.new.items ≡ spaced out.old.items (tag_of w ∷ []) }
+    ensures len { array_vec_len out.new ≤ array_vec_len out.old + 13 }
+    ensures word { w < 2 ^ 36 }
+{
+    if is_name_word(w) {
+        put_name(out, w);
+    } else {
+        put_word(out, w);
+    }
+}
+
+/// 1 for yes, 0 for no.
+pub fn put_flag(out: &mut ArrayVec<u8, 256>, yes: bool)
+    requires { array_vec_len out.old + 12 < 256 }
+    ensures text { out.new.items ≡ spaced out.old.items (flag_text yes ∷ []) }
+    ensures len { array_vec_len out.new ≤ array_vec_len out.old + 13 }
+{
+    put(out, if yes { b"1" } else { b"0" });
 }
 
 /// Machine words of twelve digits, at most 16.

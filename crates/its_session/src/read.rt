@@ -3,13 +3,15 @@ ghost use Rattle.std.specs.Prelude.{◌≡◌, ◌≤◌, length, map, IfOk};
 ghost use Rattle.std.specs.List.{list_all};
 ghost use Rattle.its_word.specs.Text.{is_code, words_of};
 ghost use Rattle.its_session.specs.Fits.{EventFits, Stands};
-ghost use Rattle.its_session.specs.Grammar.{event_of_words, is_comment, line_event, line_of_kind};
+ghost use Rattle.its_session.specs.Grammar.{event_of_words, is_comment, kind_of, line_at, line_event, line_of_first, line_of_kind};
+ghost use Rattle.its_session.specs.StateGrammar.{restores};
 
 use super::few::few_words;
 use super::kind::{Kind, before_slash, kind_of, may_stand};
-use super::rows;
+use super::state_read::read_state_line;
+use super::{rows, state_rows};
 use arrayvec::ArrayVec;
-use its_records::{Bad, Event, Place};
+use its_records::{Bad, Event, Place, StateLine};
 use its_word::words;
 
 /// The event of a line (without its LF) at a place of a session of this version, or the first
@@ -64,9 +66,36 @@ fn event_of_words(place: Place, version: u8, words: &[&[u8]]) -> Result<Event, B
     if is_comment(first) {
         return Ok(Event::Nothing);
     }
+    line_at(place, version, first, rest)
+}
+
+/// The line of a first word at a place: in the state part it is one of the table of that part.
+fn line_at(place: Place, version: u8, first: &[u8], words: &[&[u8]]) -> Result<Event, Bad>
+    ensures { result ≡ line_at place version first.now (map (λ w. w.now) words.now) }
+{
+    match place {
+        Place::System => restored(read_state_line(version, first, words)),
+        _ => session_line(place, version, first, words),
+    }
+}
+
+/// The line of a first word outside the state part.
+fn session_line(place: Place, version: u8, first: &[u8], words: &[&[u8]]) -> Result<Event, Bad>
+    ensures { result ≡ line_of_first place version (kind_of first.now) first.now (map (λ w. w.now) words.now) }
+{
     match kind_of(first) {
-        Some(kind) if may_stand(kind, place, version) => line_of_kind(version, kind, first, rest),
+        Some(kind) if may_stand(kind, place, version) => line_of_kind(version, kind, first, words),
         _ => Err(Bad::Syntax),
+    }
+}
+
+/// The event of a line of the state part.
+fn restored(line: Result<StateLine, Bad>) -> Result<Event, Bad>
+    ensures { result ≡ restores line }
+{
+    match line {
+        Ok(line) => Ok(Event::Restore { line }),
+        Err(bad) => Err(bad),
     }
 }
 
@@ -86,6 +115,7 @@ fn line_of_kind(version: u8, kind: Kind, first: &[u8], words: &[&[u8]]) -> Resul
 {
     match kind {
         Kind::Version => rows::version(words),
+        Kind::System => restored(state_rows::system(words)),
         Kind::Load => rows::load(words),
         Kind::Words => rows::words(before_slash(first), words),
         Kind::ReadOnly => rows::read_only(words),

@@ -1,11 +1,12 @@
 //! The rows of the table of lines: each of these reads the words that follow a first word.
-ghost use Rattle.std.specs.Prelude.{◌≡◌, if◌then◌else◌, map};
-ghost use Rattle.its_session.specs.Grammar.{append_line, bare_line, clock_line, console_given, is_dash, deposit_line, dir_line, drain_line, file_line, go_line, int_line, load_line, read_only_line, run_line, show_line, slot_line, span_line, symbol_line, tick_line, type_line, version_line, words_line};
-ghost use Rattle.its_session.specs.Reading.{console_in};
+ghost use Rattle.std.specs.Prelude.{◌≡◌, map};
+ghost use Rattle.its_session.specs.Grammar.{append_line, bare_line, clock_line, deposit_line, dir_line, drain_line, file_line, go_line, int_line, load_line, read_only_line, run_line, show_line, slot_line, span_line, symbol_line, tick_line, type_line, version_line, words_line};
 
-use super::fields::{at_most, bytes, console, count, name, number, numbers, page, slot};
+use super::fields::{
+    at_most, bytes, console, console_or_dash, count, name, number, numbers, page, slot,
+};
 use its_records::{Bad, Event};
-use its_word::{ConsoleNumber, Slot};
+use its_word::Slot;
 
 /// `LOAD u j c`
 #[tactic(auto, using(crate::proofs::RowLaws::three_words), unfolding(crate::specs::Grammar::load_line))]
@@ -18,16 +19,6 @@ pub fn load(words: &[&[u8]]) -> Result<Event, Bad>
     let (u, j) = (name(u)?, name(j)?);
     let console = console_or_dash(c)?;
     Ok(Event::Load { u, j, console })
-}
-
-/// A console, or `-` for none.
-fn console_or_dash(word: &[u8]) -> Result<Option<ConsoleNumber>, Bad>
-    ensures { result ≡ console_in word.now }
-{
-    match word {
-        b"-" => Ok(None),
-        _ => Ok(Some(console(number(word)?)?)),
-    }
 }
 
 /// `VERSION v`

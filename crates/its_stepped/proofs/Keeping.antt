@@ -2,6 +2,7 @@
 pub mod JoinedLaws
 pub mod ClockLaws
 pub mod ForestLaws
+pub mod RestoredLaws
 pub mod AddressLaws
 pub mod ConsoledLaws
 pub mod AlarmLaws

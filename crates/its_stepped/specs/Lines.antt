@@ -9,6 +9,8 @@ use Rattle.its_records.specs.declared.calls.Pace.{Pace}
 use Rattle.its_records.specs.declared.session.Event.{Event}
 use Rattle.its_records.specs.declared.session.Event.TheVariants as events
 use Rattle.its_records.specs.declared.session.Reason.{Reason}
+use Rattle.its_records.specs.declared.state_line.StateLine.{StateLine}
+use Rattle.its_records.specs.declared.state_line.StateLine.TheVariants as state_lines
 use Rattle.its_records.specs.declared.show.Peek.{Peek}
 use Rattle.its_records.specs.declared.show.PeekState.{PeekState}
 use Rattle.its_records.specs.declared.show.PeekState.TheVariants as states
@@ -26,7 +28,7 @@ use Rattle.its_plain.specs.Operator.Clock.{due_slots}
 use Rattle.its_plain.specs.Operator.{Block, no_block, Operated, Refuses, Does, Ticks, nobody, Quits}
 use Rattle.its_plain.specs.Transcript.{Fate, Ended, Open, Refused, TooLong}
 use Rattle.its_plain.specs.Operator.Lines.{Lined, Done, Peeks, lined}
-use Rattle.its_plain.specs.Transcript.Turns.{turn_after, highest, turns_asked, ticks_asked}
+use Rattle.its_plain.specs.Transcript.Turns.{turn_after, highest, turn_kept, turns_asked, ticks_asked}
 use Rattle.its_stepped.specs.State.{State, plain, no_state}
 use Rattle.its_stepped.specs.Unwind.{left, unwound, all_unwound}
 use Rattle.its_stepped.specs.Tick.{after_help_if, tick}
@@ -105,6 +107,21 @@ peeked w s = record {
   h = byte_shown (w.frames s);
 }
 
+-- the slot of the one job that a line of the state part is about and finds in user mode
+abbrev pub restored_on : Block → StateLine → Option ℕ
+restored_on b (state_lines.CoreWords a ws) = Some b.slot
+restored_on b (state_lines.ReadOnly p) = Some b.slot
+restored_on b (state_lines.Regs r) = Some b.slot
+restored_on b (state_lines.Alarm s p n) = Some s
+restored_on b (state_lines.Under s t) = Some s
+restored_on b (state_lines.Tty s n w) = Some s
+restored_on b (state_lines.Disk s n d x y at) = Some s
+restored_on b (state_lines.Draft s n d x y) = Some s
+restored_on b (state_lines.Wrote s n ws) = Some s
+restored_on b (state_lines.Usr s n t w at) = Some s
+restored_on b (state_lines.Join s n l w x y) = Some s
+restored_on b _ = None
+
 -- the slot of the one job that a line names and finds in user mode
 abbrev pub called_on : Block → Event → Option ℕ
 called_on b (events.Words a words) = Some b.slot
@@ -117,6 +134,7 @@ called_on b (events.State s) = Some s
 called_on b (events.Deposit s a w) = Some s
 called_on b (events.Stop s) = Some s
 called_on b (events.Cont s) = Some s
+called_on b (events.Restore line) = restored_on b line
 called_on b _ = None
 
 abbrev pub unwound_at : Option ℕ → State → State
@@ -127,7 +145,17 @@ unwound_at None w = w
 -- clock, by slot number
 abbrev pub unwound_for : State → Block → Event → State
 unwound_for w b (events.Clock n) = all_unwound (due_slots (w.raw.clock + n) w.raw.jobs) w
+unwound_for w b (events.Restore (state_lines.Clock n)) = all_unwound (due_slots (w.raw.clock + n) w.raw.jobs) w
 unwound_for w b e = unwound_at (called_on b e) w
+
+-- the lines of the state part that are about a file or a draft
+abbrev pub restores_files : StateLine → Bool
+restores_files (state_lines.File d x y) = true
+restores_files (state_lines.FileWords ws) = true
+restores_files (state_lines.Disk s n d x y at) = true
+restores_files (state_lines.Draft s n d x y) = true
+restores_files (state_lines.Wrote s n ws) = true
+restores_files _ = false
 
 -- a line that looks at the directory first performs the pending parts of a close; the job that is
 -- in the close is not disturbed by it
@@ -136,11 +164,12 @@ looks_at_files (events.File d x y) = true
 looks_at_files (events.Append words) = true
 looks_at_files (events.Dir d) = true
 looks_at_files (events.Show d x y) = true
+looks_at_files (events.Restore line) = restores_files line
 looks_at_files _ = false
 
--- the state that a line finds: what it disturbs is unwound, and what it looks at is whole
+-- the state that a line finds: what it looks at is whole, and then what it disturbs is unwound
 unfoldable pub after_calm : State → Block → Event → State
-after_calm w b e = after_help_if (looks_at_files e) (unwound_for w b e)
+after_calm w b e = unwound_for (after_help_if (looks_at_files e) w) b e
 
 -- the state with another raw machine
 abbrev pub with_raw : State → Machine → State
@@ -236,7 +265,7 @@ abbrev pub told : ℕ → State → Block → ℕ → List Item → Told
 told n w b last [] = record { lines = []; fate = Open }
 told n w b last (Read e ∷ es) =
     line_told n w b e
-    (λ v b'. turned (turns_asked e) (ticks_asked e) v last (λ x l. told (n + 1) x b' l es))
+    (λ v b'. turned (turns_asked e) (ticks_asked e) v (turn_kept last e) (λ x l. told (n + 1) x b' l es))
 told n w b last (Unread r ∷ es) = record { lines = printed.Refused n r ∷ []; fate = Refused }
 told n w b last (Beyond ∷ es) = record { lines = []; fate = TooLong }
 

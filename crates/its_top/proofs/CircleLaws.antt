@@ -9,7 +9,7 @@ use Rattle.its_print.specs.Printing.{text_of_line, text}
 use Rattle.its_print.specs.Printing as printed
 use Rattle.its_plain.specs.Operator.{Block}
 use Rattle.its_plain.specs.Operator.Lines.{operate, lined}
-use Rattle.its_plain.specs.Transcript.Turns.{turn_after, turns_asked, ticks_asked}
+use Rattle.its_plain.specs.Transcript.Turns.{turn_after, turn_kept, turns_asked, ticks_asked}
 use Rattle.its_stepped.specs.State.{State}
 use Rattle.its_stepped.specs.Lines.{Told, after_calm, paces_of, after_ticks, turned_by, turned, told}
 use Rattle.its_top.specs.declared.sessions.flow.Flow.{Flow}
@@ -21,16 +21,16 @@ use Rattle.its_top.proofs.ConclusionLaws.{on_of}
 
 -- the turns that a line asks for, and the lines after them
 abbrev then : ℕ → Event → ℕ → List Item → State → Block → Told
-then n e i items v b = turned (turns_asked e) (ticks_asked e) v i (λ x l. told (n + 1) x b l items)
+then n e i items v b = turned (turns_asked e) (ticks_asked e) v (turn_kept i e) (λ x l. told (n + 1) x b l items)
 
 -- a line that asks for no turns
 then_none : (n : ℕ) (e : Event) (i : ℕ) (items : List Item) (v : State) (b : Block) → turns_asked e ≡ 0
-    → said (then n e i items v b) ≡ session_says (n + 1) v b i items
+    → said (then n e i items v b) ≡ session_says (n + 1) v b (turn_kept i e) items
 unfolding session_says
-then_none n e i items v b none = ap (λ k. said (turned k (ticks_asked e) v i (λ x l. told (n + 1) x b l items))) none
+then_none n e i items v b none = ap (λ k. said (turned k (ticks_asked e) v (turn_kept i e) (λ x l. told (n + 1) x b l items))) none
 
 follows_by : (flow : Flow) (n : ℕ) (v v' : State) (b b' : Block) (i : ℕ) (e : Event) (w : List ℕ) → turns_asked e ≡ 0
-    → Answers flow n v b e v' b' w → FollowsBy flow n v b i e v' b' i w
+    → Answers flow n v b e v' b' w → FollowsBy flow n v b i e v' b' (turn_kept i e) w
 unfolding session_says
 follows_by flows.On n v v' b b' i e w none a = (a.0, λ items. a.1 (then n e i items) ∙ ap (after w) (then_none n e i items v' b' none))
 follows_by flows.Ended n v v' b b' i e w none a = (a.0, λ items. a.1 (then n e i items))
@@ -38,14 +38,11 @@ follows_by flows.Refused n v v' b b' i e w none a = λ items. a (then n e i item
 follows_by flows.TooLong n v v' b b' i e w none a = a
 follows_by flows.Fault n v v' b b' i e w none a = λ items. a (then n e i items)
 
-pub line_follows : (flow : Flow) (n : ℕ) (v v' : State) (b b' : Block) (i : ℕ) (e : Event) (old new : Option (List ℕ)) → turns_asked e ≡ 0
-    → Answered flow n v b e v' b' old new
-    → Follows flow n v b i e v' b' i old new
-line_follows flow n v v' b b' i e old new none a = record {
-  wrote = a.wrote;
-  appended = a.appended;
-  follows = follows_by flow n v v' b b' i e a.wrote none a.answers;
-}
+pub line_follows : (flow : Flow) (n : ℕ) (v v' : State) (b b' : Block) (i j : ℕ) (e : Event) (old new : Option (List ℕ)) → j ≡ turn_kept i e
+    → turns_asked e ≡ 0 → Answered flow n v b e v' b' old new → Follows flow n v b i e v' b' j old new
+line_follows flow n v v' b b' i j e old new keeps none a =
+    subst (λ k. Follows flow n v b i e v' b' k old new) (sym keeps)
+    (record { wrote = a.wrote; appended = a.appended; follows = follows_by flow n v v' b b' i e a.wrote none a.answers })
 
 -- RUN, and its turns
 run_says : (n : ℕ) (v : State) (b : Block) (i k q : ℕ) (items : List Item)

@@ -15,7 +15,7 @@ use Rattle.its_top.specs.Checking.{Passes, checked}
 use Rattle.its_top.specs.Commands.{IfGenerates, keeps, reads_input}
 use Rattle.its_top.specs.Conclusion.{IsDone}
 use Rattle.its_top.specs.Promise.{Transcribed}
-use Rattle.its_top.specs.Outcomes.{AsmAnswers, AsmSays, CheckSays, Faults, OfAsm, OfCheck, OfGen, OfNoCommand, OfRun, OfVerify, RunSays, Unfailed, VerifyAnswers, VerifySays, WroteAll}
+use Rattle.its_top.specs.Outcomes.{AsmAnswers, AsmSays, CheckSays, Faults, OfAsm, OfCheck, OfGen, OfNoCommand, OfRun, OfVerify, RunSays, Unfailed, VerifyAnswers, VerifySays, WroteAll, OfSave, SaveSays}
 
 -- an object whose count of faults is as it was did not fail
 unfailed : (st : Status) (sf tf kf lf : ℕ) → Faults statuses.ReadFault st sf tf → Faults statuses.WriteFault st kf lf → tf ≡ sf → lf ≡ kf → Unfailed st
@@ -96,6 +96,7 @@ pub record All (c : Option Command) (st : Status) (left rest old new : Option (L
   pub gen : IfGenerates c (λ n. OfGen n st left rest old new)
   pub verify : c ≡ Some commands.Verify → OfVerify st left rest old new
   pub asm : c ≡ Some commands.Asm → OfAsm st left rest old new
+  pub save : c ≡ Some commands.Save → OfSave st left rest old new
   pub none : c ≡ None → OfNoCommand st left rest old new
 
 -- the input of a command that is done was read to its end, or to END
@@ -107,6 +108,7 @@ at_end bytes rest e =
 pub input_read : (c : Option Command) (st : Status) (left rest old new : Option (List ℕ)) → All c st left rest old new
     → reads_input c ≡ true → st ≡ statuses.Done → IfSome left (λ bytes. ReadOut bytes rest)
 input_read (Some commands.Run) st left rest old new a r e = if_then left (λ bytes. RunSays st bytes rest old new) _ (λ bytes s. s.input e) (a.run refl).says
+input_read (Some commands.Save) st left rest old new a r e = if_then left (λ bytes. SaveSays st bytes rest old new) _ (λ bytes s. s.input e) (a.save refl).says
 input_read (Some commands.Check) st left rest old new a r e =
     if_then left (λ bytes. CheckSays st bytes rest old new) _ (λ bytes s. s.input e) (a.check refl).says
 input_read (Some commands.Verify) st left rest old new a r e =
@@ -145,6 +147,7 @@ none_memory st (inr w) e = cc
 pub no_memory_unread : (c : Option Command) (st : Status) (left rest old new : Option (List ℕ)) → All c st left rest old new
     → keeps c ≡ false → st ≡ statuses.NoMemory → rest ≡ left
 no_memory_unread (Some commands.Run) st left rest old new a k e = (a.run refl).unread e
+no_memory_unread (Some commands.Save) st left rest old new a k e = (a.save refl).unread e
 no_memory_unread (Some commands.Check) st left rest old new a k e = absurd ((a.check refl).memory e)
 no_memory_unread (Some (commands.Gen n)) st left rest old new a k e = a.gen.unread
 no_memory_unread None st left rest old new a k e = absurd (none_memory st (a.none refl).ends e)

@@ -229,7 +229,10 @@ few_bare w = elim (cases_Bool (bytes_eq w (codes "run"))) [
       | inl l ↦ rw (t, k, l) tt
       | inr l ↦ elim (cases_Bool (bytes_eq w (codes "asm"))) [
         | inl m ↦ rw (t, k, l, m) tt
-        | inr m ↦ rw (t, k, l, m) tt
+        | inr m ↦ elim (cases_Bool (bytes_eq w (codes "save"))) [
+          | inl n ↦ rw (t, k, l, m, n) tt
+          | inr n ↦ rw (t, k, l, m, n) tt
+        ]
       ]
     ]
   ]

@@ -5,14 +5,15 @@ use Rattle.std.specs.List.{concat, list_all}
 use Rattle.std.proofs.lemmas.Bool.{cases_Bool}
 use Rattle.std.proofs.lemmas.Slice.Eq.{bytes_eq-Decides}
 use Rattle.its_records.specs.Item.{Item, Read}
-use Rattle.its_word.specs.Text.{is_code, words_of}
+use Rattle.its_word.specs.Text.{is_code, is_octal, words_of}
 use Rattle.its_records.specs.declared.session.Bad.{Bad}
 use Rattle.its_records.specs.declared.session.Event.{Event}
 use Rattle.its_records.specs.declared.session.Event.TheVariants as events
 use Rattle.its_records.specs.declared.session.Place.{Place}
 use Rattle.its_records.specs.declared.session.Place.TheVariants as places
 use Rattle.its_session.specs.Events.{events_of, item_then, items_from, lines_from, most_lines, place_after, version_after}
-use Rattle.its_session.specs.Grammar.{bare_line, event_of_words, kind_of, line_event, may_stand}
+use Rattle.its_session.specs.Grammar.{bare_line, event_of_words, kind_of, line_event, line_of_first, may_stand}
+use Rattle.its_session.specs.StateGrammar.{state_kind_of}
 use Rattle.its_session.specs.declared.kind.Kind.TheVariants as kinds
 use Rattle.its_reader.specs.TextLines.{before_lf, in_front, lines_in}
 use Rattle.its_verify.specs.Lines.{is_last, is_whole}
@@ -37,9 +38,18 @@ same_then (Ok events.End) f g h = refl
 same_then (Ok e) f g h = ap (λ es. Read e ∷ es) (h e)
 same_then (Err bad) f g h = refl
 
+end_stands : (place : Place) (v : ℕ) → Stops (line_of_first place v (kind_of (codes "END")) (codes "END") [])
+unfolding kind_of bare_line
+end_stands place v = elim (cases_Bool (may_stand place v kinds.End)) [ inl may ↦ rw may tt | inr not ↦ rw not tt ]
+
+-- in the state part, as at other places
 end_words : (place : Place) (v : ℕ) → Stops (event_of_words place v (codes "END" ∷ []))
-unfolding event_of_words kind_of bare_line
-end_words place v = elim (cases_Bool (may_stand place v kinds.End)) [ inl may ↦ rw may tt | inr not ↦ rw not tt ]
+unfolding event_of_words kind_of state_kind_of is_octal
+end_words places.System v = tt
+end_words places.First v = end_stands places.First v
+end_words places.Plain v = end_stands places.Plain v
+end_words places.Load v = end_stands places.Load v
+end_words places.File v = end_stands places.File v
 
 only_word : (word : List ℕ) (ws : List (List ℕ)) → is_only word ws ≡ true → ws ≡ word ∷ []
 only_word word [] h = cc

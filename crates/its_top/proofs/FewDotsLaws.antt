@@ -4,7 +4,6 @@ use Rattle.std.proofs.Common.{sym, ap, subst, arith}
 use Rattle.std.proofs.lemmas.List.{drop_at}
 use Rattle.std.specs.List.{AllByRecursion}
 use Rattle.its_records.specs.Item.{Item, Read}
-use Rattle.its_word.specs.Limits.{slots}
 use Rattle.its_records.specs.declared.calls.Pace.{Pace}
 use Rattle.its_records.specs.declared.calls.Pace.TheVariants.{Step, Work, Wait, Off}
 use Rattle.its_records.specs.declared.session.Event.{Event}
@@ -17,8 +16,7 @@ use Rattle.its_plain.specs.Machine.{Machine, no_machine}
 use Rattle.its_plain.specs.Operator.{Block, no_block, Refuses, Does, Ticks, Quits}
 use Rattle.its_plain.specs.Operator.Lines.{Lined, Done, Peeks, lined}
 use Rattle.its_plain.specs.Transcript.{Walk, at_start, after_letter, next_line}
-use Rattle.its_plain.specs.Transcript.Turns.{turn_after, highest, turns_asked, ticks_asked}
-use Rattle.its_plain.proofs.FairLaws.{turn_within}
+use Rattle.its_plain.specs.Transcript.Turns.{turn_after, highest, turn_kept, turns_asked, ticks_asked}
 use Rattle.its_stepped.specs.Calling.{Decoding}
 use Rattle.its_stepped.specs.Forest.{Forest}
 use Rattle.its_stepped.specs.Lines.{Told, after_calm, with_raw, lifted_line, paces_of, after_ticks, told_by, turned_by, turned, told, stepped}
@@ -86,29 +84,29 @@ module _ (decoding : Decoding) where
 
   -- turns, if what follows them goes on
   abbrev Follows : ℕ → Block → (State → ℕ → Told) → (Walk → ℕ → List Line → Course) → Type 0
-  Follows k b next more = (w : State) (d : Dots) (l : ℕ) → Fine d w → l < slots → Few (more (at k w d b) l (next w l).lines).moments
+  Follows k b next more = (w : State) (d : Dots) (l : ℕ) → Fine d w → Few (more (at k w d b) l (next w l).lines).moments
 
   turn_few : (k n q last : ℕ) (w : State) (d : Dots) (b : Block) (next : State → ℕ → Told) (more : Walk → ℕ → List Line → Course) (o : Option ℕ)
-      → last < slots → turn_after w.raw last ≡ o → Fine d w → Follows k b next more
-      → ((w' : State) (f : Dots) (s : ℕ) → Fine f w' → s < slots → Few (courses.turned n (at k w' f b) s (turned n q w' s next).lines more).moments)
+      → Fine d w → Follows k b next more
+      → ((w' : State) (f : Dots) (s : ℕ) → Fine f w' → Few (courses.turned n (at k w' f b) s (turned n q w' s next).lines more).moments)
       → let lines = (turned_by o q w (λ v s. turned n q v s next) (next w last)).lines in
       Few (courses.turned_by o (at k w d b) lines (λ x s rest. courses.turned n x s rest more) (more (at k w d b) last lines)).moments
-  turn_few k n q last w d b next more None l is g h go = h w d last g l
-  turn_few k n q last w d b next more (Some s) l is g h go = (
+  turn_few k n q last w d b next more None g h go = h w d last g
+  turn_few k n q last w d b next more (Some s) g h go = (
     tt,
     ticks_few k w d b s q (λ x. courses.turned n x s (turned n q (after_ticks w s q) s next).lines more) g
-        (λ f good. go (after_ticks w s q) f s good (turn_within w.raw last s l is)),
+        (λ f good. go (after_ticks w s q) f s good),
   )
 
   turns_few : (k n q last : ℕ) (w : State) (d : Dots) (b : Block) (next : State → ℕ → Told) (more : Walk → ℕ → List Line → Course)
-      → last < slots → Fine d w → Follows k b next more
+      → Fine d w → Follows k b next more
       → Few (courses.turned n (at k w d b) last (turned n q w last next).lines more).moments
-  turns_few k zero q last w d b next more l g h = h w d last g l
-  turns_few k (suc n) q last w d b next more l g h =
+  turns_few k zero q last w d b next more g h = h w d last g
+  turns_few k (suc n) q last w d b next more g h =
       let lines = (turned (suc n) q w last next).lines in
       subst (λ o. Few (courses.turned_by o (at k w d b) lines (λ x s rest. courses.turned n x s rest more)
-      (more (at k w d b) last lines)).moments) (sym (turn_plain w last l))
-      (turn_few k n q last w d b next more (turn_after w.raw last) l refl g h (λ w' f s good is. turns_few k n q s w' f b next more is good h))
+      (more (at k w d b) last lines)).moments) (sym (turn_plain w last))
+      (turn_few k n q last w d b next more (turn_after w.raw last) g h (λ w' f s good. turns_few k n q s w' f b next more good h))
 
   -- a line, if the lines after it go on
   line_few : (k n : ℕ) (w v : State) (d : Dots) (b : Block) (e : Event) (l : Lined) (next : State → Block → Told)
@@ -127,21 +125,21 @@ module _ (decoding : Decoding) where
   line_few k n w v d b e (Done Quits) next more g a h = tt
   line_few k n w v d b e (Peeks s) next more g a h = h w d b g
 
-  told_few : (k n : ℕ) (w : State) (d : Dots) (b : Block) (last : ℕ) (es : List Item) → last < slots → Fine d w
+  told_few : (k n : ℕ) (w : State) (d : Dots) (b : Block) (last : ℕ) (es : List Item) → Fine d w
       → Few (course (at k w d b) last es (told n w b last es).lines).moments
-  told_few k n w d b last (Read e ∷ es) l g =
-      let more : Walk → List Line → Course = λ x rest. courses.turned (turns_asked e) x last rest (λ y i ls. course (next_line y) i es ls) in
-      let next : State → Block → Told = λ v c. turned (turns_asked e) (ticks_asked e) v last (λ x i. told (n + 1) x c i es) in
+  told_few k n w d b last (Read e ∷ es) g =
+      let more : Walk → List Line → Course = λ x rest. courses.turned (turns_asked e) x (turn_kept last e) rest (λ y i ls. course (next_line y) i es ls) in
+      let next : State → Block → Told = λ v c. turned (turns_asked e) (ticks_asked e) v (turn_kept last e) (λ x i. told (n + 1) x c i es) in
       subst (λ o. Few (past (at k w d b) e o (told n w b last (Read e ∷ es)).lines more).moments) (sym (u.line d w b e g))
       (line_few k n w (after_calm w b e) d b e (lined (after_calm w b e).raw b e) next more g (u.after d w b e g)
       (λ w' f c good.
-      turns_few k (turns_asked e) (ticks_asked e) last w' f c (λ x i. told (n + 1) x c i es) (λ y i ls. course (next_line y) i es ls) l good
-      (λ x f' i fine at'. told_few (k + 1) (n + 1) x f' c i es at' fine)))
-  told_few k n w d b last _ l g = tt
+      turns_few k (turns_asked e) (ticks_asked e) (turn_kept last e) w' f c (λ x i. told (n + 1) x c i es) (λ y i ls. course (next_line y) i es ls) good
+      (λ x f' i fine. told_few (k + 1) (n + 1) x f' c i es fine)))
+  told_few k n w d b last _ g = tt
 
   -- the lines of `stepped`
   pub few_dots : (es : List Item) → FewDots es (stepped es).lines
   few_dots es = record {
     few = subst (λ m. Few (course (record at_start { machine = m }) highest es (stepped es).lines).moments) (no_state_plain no_machine)
-        (told_few 1 1 (no_state no_machine) (λ k. 0) no_block highest es (omega arith) u.starts);
+        (told_few 1 1 (no_state no_machine) (λ k. 0) no_block highest es u.starts);
   }

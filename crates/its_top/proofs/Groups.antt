@@ -4,7 +4,7 @@ use Rattle.its_top.proofs.CircleLaws.{circle_end, circle_fault, circle_none, cir
 use Rattle.its_top.proofs.ConclusionLaws.{session_fault, session_over, so_next, so_start}
 use Rattle.its_top.proofs.ExamLaws.{calm_next, calm_start, exam_end, exam_fails, exam_next, exam_start}
 use Rattle.its_top.proofs.FilingLaws.{counting_end, counting_none, counting_some, looking_next, looking_start}
-use Rattle.its_top.proofs.ObeyLaws.{obeyed_asm, obeyed_check, obeyed_gen, obeyed_none, obeyed_run, obeyed_verify}
+use Rattle.its_top.proofs.ObeyLaws.{obeyed_asm, obeyed_check, obeyed_gen, obeyed_none, obeyed_run, obeyed_save, obeyed_verify}
 use Rattle.its_top.proofs.PerformLaws.{append_performed, clock_performed, cont_performed, deposit_performed, end_file_performed, end_performed, go_performed, int_performed, nothing_performed, read_only_performed, run_performed, stop_performed, symbol_performed, typed_performed, version_performed, words_performed}
 use Rattle.its_top.proofs.SilentLaws.{silent_broken, silent_next, silent_over, silent_start, turns_done, turns_next, turns_none, turns_start}
 use Rattle.its_top.proofs.StartLaws.{found_later, found_start}
@@ -31,4 +31,4 @@ pub ruleset words_of_laws = (exam_start, exam_next, exam_fails, exam_end, calm_s
 
 pub ruleset run_items_laws = (so_start, so_next, session_over, session_fault, found_start, found_later)
 
-pub ruleset obey_laws = (obeyed_run, obeyed_check, obeyed_gen, obeyed_none, obeyed_verify, obeyed_asm)
+pub ruleset obey_laws = (obeyed_run, obeyed_check, obeyed_gen, obeyed_none, obeyed_verify, obeyed_asm, obeyed_save)

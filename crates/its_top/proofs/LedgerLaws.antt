@@ -11,12 +11,12 @@ use Rattle.its_print.specs.Printing.{Line}
 use Rattle.its_print.specs.Printing as printed
 use Rattle.its_plain.specs.Operator.Lines.{Lined, Done, Peeks, lined}
 use Rattle.its_plain.specs.Transcript.Course.{Lines, Letter, Course, rests, onward, after_step, paced, letters, turned_by, turned, past, course, run_of}
-use Rattle.its_plain.specs.Promise.Ledger.{typed_by, typed_at, byte_of, drained_by, Balanced, Ledger}
+use Rattle.its_plain.specs.Promise.Ledger.{typed_by, typed_at, placed_by, put_out_at, byte_of, drained_by, Balanced, Ledger}
 use Rattle.its_plain.specs.Promise.Ledger as books
 use Rattle.its_plain.specs.Machine.{Machine, no_machine}
 use Rattle.its_plain.specs.Operator.{Refuses, Does, Ticks, Quits}
 use Rattle.its_plain.specs.Transcript.{Fate, Walk, at_start, after_letter, walk_after, next_line, Transcript}
-use Rattle.its_plain.specs.Transcript.Turns.{turn_after, highest, turns_asked, ticks_asked}
+use Rattle.its_plain.specs.Transcript.Turns.{turn_after, highest, turn_kept, turns_asked, ticks_asked}
 use Rattle.its_plain.proofs.RunLaws.{PacedOn, TurnBy, TurnsOn, LinedOn, Run, shows_run}
 use Rattle.its_top.proofs.MoveLaws.{Passes, step_passes}
 use Rattle.its_top.proofs.ShownLaws.{Shows, ShowsBy, Few, line_shows}
@@ -26,7 +26,7 @@ use Rattle.its_plain.specs.Call.Step.{moves}
 -- the ledger of console c from machine m on, along a run that shows these lines
 record From (c : ℕ) (m : Machine) (u : Course) (lines : List Line) : Type 0 where
   pub input : (m.consoles c).input ++ flat_map (typed_at c) u.moments ≡ flat_map (books.moved_at c Inward) u.moments ++ (u.last.consoles c).input
-  pub output : (m.consoles c).output ++ flat_map (books.moved_at c Outward) u.moments ≡ flat_map (drained_by c) lines ++ (u.last.consoles c).output
+  pub output : (m.consoles c).output ++ flat_map (put_out_at c) u.moments ≡ flat_map (drained_by c) lines ++ (u.last.consoles c).output
 
 -- the walk of a course: that of the transcript, at a line with this number
 abbrev at : ℕ → Walk → Walk
@@ -47,7 +47,7 @@ from_step c i k v n u lines h f =
     let ins = flat_map (byte_of c Inward) (moves m i) in
     let outs = flat_map (byte_of c Outward) (moves m i) in
     let typed_in = flat_map (typed_at c) u.moments in
-    let put_out = flat_map (books.moved_at c Outward) u.moments in
+    let put_out = flat_map (put_out_at c) u.moments in
     record {
       input = ap (λ l. l ++ typed_in) h.input ∙ append_assoc ins (n.consoles c).input typed_in ∙ ap (λ l. ins ++ l) f.input
           ∙ sym (append_assoc ins (flat_map (books.moved_at c Inward) u.moments) (u.last.consoles c).input);
@@ -60,11 +60,13 @@ from_line : (c k : ℕ) (v : Walk) (n : Machine) (e : Event) (out : List Line) (
 from_line c k v n e out u rest h f =
     let m = v.machine in
     let typed_in = flat_map (typed_at c) u.moments in
-    let put_out = flat_map (books.moved_at c Outward) u.moments in
+    let put_out = flat_map (put_out_at c) u.moments in
     let shown = flat_map (drained_by c) out in
     record {
       input = sym (append_assoc (m.consoles c).input (typed_by c m e) typed_in) ∙ ap (λ l. l ++ typed_in) h.input ∙ f.input;
-      output = ap (λ l. l ++ put_out) h.output ∙ append_assoc shown (n.consoles c).output put_out ∙ ap (λ l. shown ++ l) f.output
+      output = ap (λ l. (m.consoles c).output ++ (l ++ put_out)) (append-nil (placed_by c e))
+          ∙ sym (append_assoc (m.consoles c).output (placed_by c e) put_out) ∙ ap (λ l. l ++ put_out) h.output ∙ append_assoc shown (n.consoles c).output put_out
+          ∙ ap (λ l. shown ++ l) f.output
           ∙ sym (append_assoc shown (flat_map (drained_by c) rest) (u.last.consoles c).output)
           ∙ ap (λ l. l ++ (u.last.consoles c).output) (sym (flat_map-append (drained_by c) out rest));
     }
@@ -169,7 +171,7 @@ from_run : (c k : ℕ) (v : Walk) (last : ℕ) (es : List Item) (lines : List Li
 from_run c k v last (Read e ∷ es) lines fate few t =
     from_lined c k v e lines fate (lined v.machine v.block e) _ _ few (line_shows c v.machine v.block e few) t
     (λ w rest few' x.
-    from_turns c k (turns_asked e) (ticks_asked e) last w (λ y l more. Run y l es more fate) (λ y l more. course (next_line y) l es more) rest few'
+    from_turns c k (turns_asked e) (ticks_asked e) (turn_kept last e) w (λ y l more. Run y l es more fate) (λ y l more. course (next_line y) l es more) rest few'
     (λ y l more fine z. from_run c (k + 1) y l es more fate fine z) x)
 from_run c k v last _ lines fate few t = from_rest c k v lines (ap (flat_map (drained_by c)) t.0)
 

@@ -3,10 +3,13 @@ pub mod StartLaws
 pub mod ConclusionLaws
 pub mod AnswerLaws
 pub mod PerformLaws
+pub mod RestoringLaws
 pub mod ExamLaws
 pub mod FewDotsLaws
 pub mod LeavingLaws
 pub mod SilentLaws
+pub mod SavedLaws
+pub mod SavingLaws
 pub mod TopLaws
 pub mod PaceLaws
 pub mod LoadingLaws

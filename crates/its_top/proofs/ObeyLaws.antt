@@ -14,6 +14,7 @@ use Rattle.its_top.specs.Conclusion.{WasRun, Session}
 use Rattle.its_top.specs.Commands.{reads_input, keeps, IfGenerates}
 use Rattle.its_top.specs.Checking.{checked, checked_text, Passes, Fails, StatusFor, WroteText, CheckOf, Check}
 use Rattle.its_top.specs.Generating.{generated_text}
+use Rattle.its_top.specs.Saving.{Saves}
 use Rattle.its_asm_command.specs.Past.{runs_past}
 use Rattle.its_top.specs.Assembling.{Asm, AsmOf}
 use Rattle.its_verify.specs.Finds.{Unmade}
@@ -40,6 +41,12 @@ pub obeyed_run : (st : Status) (left rest old new : Option (List ℕ)) → (st �
     → Obeyed (Some commands.Run) st left rest old new
 obeyed_run statuses.NoMemory left rest old new s m = record { obeys = m refl }
 obeyed_run st left rest old new s m = let n : st ≢ statuses.NoMemory = λ k. cc in as_obeys (Some commands.Run) st left rest old new n (s n)
+
+pub obeyed_save : (st : Status) (left rest old new : Option (List ℕ)) → (st ≢ statuses.NoMemory → Saves st left rest old new)
+    → (st ≡ statuses.NoMemory → (rest ≡ left) × (new ≡ old))
+    → Obeyed (Some commands.Save) st left rest old new
+obeyed_save statuses.NoMemory left rest old new s m = record { obeys = m refl }
+obeyed_save st left rest old new s m = let n : st ≢ statuses.NoMemory = λ k. cc in as_obeys (Some commands.Save) st left rest old new n (s n)
 
 pub obeyed_check : (st : Status) (left rest old new : Option (List ℕ)) → Check st left rest old new → Obeyed (Some commands.Check) st left rest old new
 obeyed_check statuses.NoMemory left rest old new s = absurd s.ran
@@ -220,6 +227,8 @@ is_none (Some commands.Run) st left rest old new e o = absurd
     (subst (λ x. Session x left rest old new) e (done_for (Some commands.Run) (Some commands.Run) st left rest old new o refl (λ k. cc))).ran
 is_none (Some commands.Check) st left rest old new e o = absurd
     (subst (λ x. Check x left rest old new) e (done_for (Some commands.Check) (Some commands.Check) st left rest old new o refl (λ k. cc))).ran
+is_none (Some commands.Save) st left rest old new e o = absurd
+    (subst (λ x. Saves x left rest old new) e (done_for (Some commands.Save) (Some commands.Save) st left rest old new o refl (λ k. cc))).ran
 is_none (Some commands.Verify) st left rest old new e o = absurd
     ((done_for (Some commands.Verify) (Some commands.Verify) st left rest old new o refl (λ k. cc)).ran e)
 is_none (Some commands.Asm) st left rest old new e o = absurd ((done_for (Some commands.Asm) (Some commands.Asm) st left rest old new o refl (λ k. cc)).ran e)
@@ -256,6 +265,7 @@ by_input : (d : Option Command) (left rest old new : Option (List ℕ)) → Obey
 by_input None left rest old new o r = cc
 by_input (Some commands.Run) left rest old new o r = o.obeys.input refl
 by_input (Some commands.Check) left rest old new o r = o.obeys.input refl
+by_input (Some commands.Save) left rest old new o r = o.obeys.input refl
 by_input (Some commands.Verify) left rest old new o r = ended left (o.obeys.input refl)
   where
     ended : (l : Option (List ℕ)) → IfSome l (λ bytes. rest ≡ Some []) → IfSome l (λ bytes. ReadOut bytes rest)

@@ -1,6 +1,6 @@
 -- What the monitor writes of its peeks is short: their slots and their counts of steps are small
 -- numbers.
-use Rattle.std.proofs.Common.{◌≡◌, ◌≤◌, ◌<◌, ◌+◌, ◌/◌, ◌^◌, ℕ, zero, suc, Bool, true, false, Option, Some, None, Result, Ok, Err, List, [], ◌∷◌, ◌++◌, length, map, drop, ltb, leb, refl, inl, inr, arith}
+use Rattle.std.proofs.Common.{◌≤◌, ◌<◌, ◌+◌, ◌/◌, ◌^◌, ℕ, zero, suc, Bool, true, false, Option, Some, None, Result, Ok, Err, List, [], ◌∷◌, ◌++◌, length, map, drop, ltb, leb, refl, inl, inr, arith}
 use Rattle.std.specs.Prelude.{IfOk}
 use Rattle.std.specs.List.{AllByRecursion, list_all}
 use Rattle.std.proofs.lemmas.Bool.{cases_Bool}
@@ -13,6 +13,8 @@ use Rattle.its_records.specs.declared.session.Place.{Place}
 use Rattle.its_records.specs.declared.session.Place.TheVariants as places
 use Rattle.its_records.specs.declared.session.Reason.{Reason}
 use Rattle.its_records.specs.declared.show.JobShow.{JobShow}
+use Rattle.its_records.specs.declared.state_line.StateLine.{StateLine}
+use Rattle.its_records.specs.declared.state_line.StateLine.TheVariants as states
 use Rattle.its_print.specs.Printing.{Line, Peeked}
 use Rattle.its_print.specs.Printing as printed
 use Rattle.its_session.specs.Events.{end_of, events_of, item_then, items_from, lines_from, most_lines, place_after, version_after}
@@ -26,9 +28,8 @@ use Rattle.its_plain.specs.Operator.{Block, no_block, Refuses, Does, Ticks, Quit
 use Rattle.its_plain.specs.Call.File.{file_named}
 use Rattle.its_plain.specs.Operator.Files.{file_shown, filed_line, files_in, rows, shown_by}
 use Rattle.its_plain.specs.Operator.Lines.{Lined, Done, Peeks, by_clock, by_exam, by_load, by_state, in_a_line, lined, operate, peeked_at, shows}
-use Rattle.its_plain.specs.Transcript.Turns.{highest, turn_after, turns_asked, ticks_asked}
-use Rattle.its_plain.proofs.FairLaws.{turn_within}
-use Rattle.its_word.specs.Limits.{slots}
+use Rattle.its_plain.specs.Operator.State.{restored}
+use Rattle.its_plain.specs.Transcript.Turns.{highest, turn_after, turn_kept, turns_asked, ticks_asked}
 use Rattle.its_stepped.specs.Calling.{Decoding}
 use Rattle.its_stepped.specs.Forest.{Forest}
 use Rattle.its_stepped.specs.Lines.{Told, after_calm, peeked, stepped, after_ticks, turned_by, turned, told, told_by, with_raw}
@@ -175,6 +176,33 @@ peek_shown : (s : ℕ) (o : Option Whole) → s < 2 ^ 8 → Shown (peeked_at s o
 peek_shown s (Some q) h = h
 peek_shown s None h = tt
 
+restored_shown : (m : Machine) (b : Block) (l : StateLine) → Shown (Done (restored m b l))
+unfolding restored
+restored_shown m b (states.System v) = tt
+restored_shown m b (states.Clock n) = clock_shown m b n _
+restored_shown m b (states.File d x y) = quietly_shown _ _
+restored_shown m b (states.FileWords ws) = quietly_shown b _
+restored_shown m b (states.Job s u j c) = disturbs_shown s _ _
+restored_shown m b (states.CoreWords a ws) = disturbs_shown b.slot b _
+restored_shown m b (states.ReadOnly p) = disturbs_shown b.slot b _
+restored_shown m b (states.Symbol x a) = quietly_shown b _
+restored_shown m b (states.Regs r) = disturbs_shown b.slot b _
+restored_shown m b (states.Alarm s p n) = disturbs_shown s b _
+restored_shown m b (states.Under s t) = disturbs_shown s b _
+restored_shown m b (states.Tty s n w) = disturbs_shown s b _
+restored_shown m b (states.Disk s n d x y at) = disturbs_shown s b _
+restored_shown m b (states.Draft s n d x y) = disturbs_shown s b _
+restored_shown m b (states.Wrote s n ws) = disturbs_shown s b _
+restored_shown m b (states.Usr s n t w at) = disturbs_shown s b _
+restored_shown m b (states.Join s n l w x y) = disturbs_shown s b _
+restored_shown m b (states.Sent l ws) = quietly_shown b _
+restored_shown m b (states.EndShut l w) = quietly_shown b _
+restored_shown m b (states.Input c bs) = quietly_shown b _
+restored_shown m b (states.Output c bs) = quietly_shown b _
+restored_shown m b (states.Hold c s) = quietly_shown b _
+restored_shown m b (states.Turn s) = tt
+restored_shown m b states.Ready = tt
+
 lined_shown : (m : Machine) (b : Block) (e : Event) → PeekFits e → Shown (lined m b e)
 unfolding lined operate
 lined_shown m b (events.Load u j c) h = load_shown b _
@@ -197,6 +225,7 @@ lined_shown m b (events.Cont s) h = disturbs_shown s b _
 lined_shown m b (events.Peek s) h = peek_shown s (m.jobs s) h
 lined_shown m b (events.Dir d) h = (tt, filed_small (files_in d m.files))
 lined_shown m b (events.Show d x y) h = show_shown m b d x y
+lined_shown m b (events.Restore l) h = restored_shown m b l
 lined_shown m b _ h = tt
 
 -- the steps that a peek counts are at most four
@@ -218,21 +247,20 @@ module _ (decoding : Decoding) where
 
   -- turns, and what follows them
   abbrev Next : (State → ℕ → Told) → Type 0
-  Next next = (w' : State) (f : Dots) (l : ℕ) → Fine f w' → l < slots → AllSmall (next w' l).lines
+  Next next = (w' : State) (f : Dots) (l : ℕ) → Fine f w' → AllSmall (next w' l).lines
 
-  turn_small : (q last : ℕ) (w : State) (d : Dots) (next : State → ℕ → Told) (done : Told) (o : Option ℕ) → last < slots
-      → turn_after w.raw last ≡ o → Fine d w → Next next
+  turn_small : (q last : ℕ) (w : State) (d : Dots) (next : State → ℕ → Told) (done : Told) (o : Option ℕ) → Fine d w → Next next
       → AllSmall done.lines → AllSmall (turned_by o q w next done).lines
-  turn_small q last w d next done None l is g h k = k
-  turn_small q last w d next done (Some s) l is g h k =
-      (tt, ticks_small w d s q (λ x. (next x s).lines) g (λ f good. h (after_ticks w s q) f s good (turn_within w.raw last s l is)))
+  turn_small q last w d next done None g h k = k
+  turn_small q last w d next done (Some s) g h k =
+      (tt, ticks_small w d s q (λ x. (next x s).lines) g (λ f good. h (after_ticks w s q) f s good))
 
-  turns_small : (n q last : ℕ) (w : State) (d : Dots) (next : State → ℕ → Told) → last < slots → Fine d w → Next next
+  turns_small : (n q last : ℕ) (w : State) (d : Dots) (next : State → ℕ → Told) → Fine d w → Next next
       → AllSmall (turned n q w last next).lines
-  turns_small zero q last w d next l g h = h w d last g l
-  turns_small (suc n) q last w d next l g h =
-      turn_small q last w d (λ v s. turned n q v s next) (next w last) (turn_after w.raw last) l refl g
-      (λ w' f s good at. turns_small n q s w' f next at good h) (h w d last g l)
+  turns_small zero q last w d next g h = h w d last g
+  turns_small (suc n) q last w d next g h =
+      turn_small q last w d (λ v s. turned n q v s next) (next w last) (turn_after w.raw last) g
+      (λ w' f s good. turns_small n q s w' f next good h) (h w d last g)
 
   line_small : (n : ℕ) (w v : State) (d : Dots) (b : Block) (l : Lined) (next : State → Block → Told) → Fine d w → HoldsAfter Fine d v l → Shown l
       → ((w' : State) (f : Dots) (c : Block) → Fine f w' → AllSmall (next w' c).lines)
@@ -244,16 +272,16 @@ module _ (decoding : Decoding) where
   line_small n w v d b (Done Quits) next g a s h = tt
   line_small n w v d b (Peeks i) next g a s h = ((s, peek_small w i g.sound), h w d b g)
 
-  told_small : (n : ℕ) (w : State) (d : Dots) (b : Block) (last : ℕ) (es : List Item) → last < slots → Fine d w → AllFit es
+  told_small : (n : ℕ) (w : State) (d : Dots) (b : Block) (last : ℕ) (es : List Item) → Fine d w → AllFit es
       → AllSmall (told n w b last es).lines
-  told_small n w d b last [] l g fit = tt
-  told_small n w d b last (Read e ∷ es) l g fit =
+  told_small n w d b last [] g fit = tt
+  told_small n w d b last (Read e ∷ es) g fit =
       line_small n w (after_calm w b e) d b (lined (after_calm w b e).raw b e) _ g (u.after d w b e g) (lined_shown (after_calm w b e).raw b e fit.0)
-      (λ w' f c good. turns_small (turns_asked e) (ticks_asked e) last w' f (λ x i. told (n + 1) x c i es) l good
-      (λ x g i fine at. told_small (n + 1) x g c i es at fine fit.1))
-  told_small n w d b last (Unread r ∷ es) l g fit = (tt, tt)
-  told_small n w d b last (Beyond ∷ es) l g fit = tt
+      (λ w' f c good. turns_small (turns_asked e) (ticks_asked e) (turn_kept last e) w' f (λ x i. told (n + 1) x c i es) good
+      (λ x g i fine. told_small (n + 1) x g c i es fine fit.1))
+  told_small n w d b last (Unread r ∷ es) g fit = (tt, tt)
+  told_small n w d b last (Beyond ∷ es) g fit = tt
 
   -- the lines of a session
   pub session_small : (bytes : List ℕ) → AllSmall (stepped (events_of bytes)).lines
-  session_small bytes = told_small 1 (no_state no_machine) (λ k. 0) no_block highest (events_of bytes) (omega arith) u.starts (events_fit bytes)
+  session_small bytes = told_small 1 (no_state no_machine) (λ k. 0) no_block highest (events_of bytes) u.starts (events_fit bytes)

@@ -60,14 +60,14 @@ pub end_performed : (b b' : Block) (w : World) → Performed (Err overs.Ended) (
 end_performed b b' w = ends b b' w
 
 -- a line that shows nothing, by what its call answers
-silent_done : (v c : State) (b b' : Block) (e : Event) (w : World) (o : Result Machine Reason)
+pub silent_done : (v c : State) (b b' : Block) (e : Event) (w : World) (o : Result Machine Reason)
     (f : Result Machine Reason → Operated) (touched : ℕ → Bool) → ((m : Machine) → f (Ok m) ≡ Does m [] touched b')
     → Comes v b e c (Done (f o)) → Lands c (state_of w) o → Performed (Ok shows.Nothing) v b e w b'
 silent_done v c b b' e w o f touched g h d =
     does v c (state_of w).raw b b' e shows.Nothing w touched
     (record { calm = h.calm; is = h.is ∙ ap (λ x. Done (f x)) d.is ∙ ap Done (g (state_of w).raw) }) d.rest tt
 
-silent_refused : (v c : State) (b b' : Block) (e : Event) (w : World) (o : Result Machine Reason)
+pub silent_refused : (v c : State) (b b' : Block) (e : Event) (w : World) (o : Result Machine Reason)
     (f : Result Machine Reason → Operated) (r : Refusal) → ((q : Reason) → f (Err q) ≡ Refuses q)
     → Comes v b e c (Done (f o)) → o ≡ Err (reason_of r) → Performed (Err (overs.Refused r)) v b e w b'
 silent_refused v c b b' e w o f r g h k = refuses v c b b' e r w
@@ -82,20 +82,20 @@ silent (Ok x) v c b b' e w o f touched g g' h d k = silent_done v c b b' e w o f
 silent (Err r) v c b b' e w o f touched g g' h d k = silent_refused v c b b' e w o f r g' h k
 
 -- one that disturbs its job, or nobody
-disturbing : {T : Type 0} (r : Result Shown Over) (answer : Result T Refusal) (v c : State) (b : Block) (e : Event) (s : ℕ)
+pub disturbing : {T : Type 0} (r : Result Shown Over) (answer : Result T Refusal) (v c : State) (b : Block) (e : Event) (s : ℕ)
     (w : World) (o : Result Machine Reason) → r ≡ quiet answer
     → Comes v b e c (Done (disturbs s b o)) → OnOk answer (Lands c (state_of w) o) → IfErr answer (λ r. o ≡ Err (reason_of r)) → Performed r v b e w b
 disturbing r answer v c b e s w o i h d k = subst (λ x. Performed x v b e w b) (sym i)
     (silent answer v c b b e w o (disturbs s b) (only s) (λ m. refl) (λ q. refl) h d k)
 
-unseen : {T : Type 0} (r : Result Shown Over) (answer : Result T Refusal) (v c : State) (b : Block) (e : Event) (w : World)
+pub unseen : {T : Type 0} (r : Result Shown Over) (answer : Result T Refusal) (v c : State) (b : Block) (e : Event) (w : World)
     (o : Result Machine Reason) → r ≡ quiet answer
     → Comes v b e c (Done (quietly b o)) → OnOk answer (Lands c (state_of w) o) → IfErr answer (λ r. o ≡ Err (reason_of r)) → Performed r v b e w b
 unseen r answer v c b e w o i h d k = subst (λ x. Performed x v b e w b) (sym i)
     (silent answer v c b b e w o (quietly b) nobody (λ m. refl) (λ q. refl) h d k)
 
 -- the refusal that the line finds
-refused_calmed : {T X : Type 0} (answer : Result T Refusal) (w v : State) (f : Machine → Result X Reason)
+pub refused_calmed : {T X : Type 0} (answer : Result T Refusal) (w v : State) (f : Machine → Result X Reason)
     → IfErr answer (λ e. kept.Refused w v f e) → IfErr answer (λ e. f v.raw ≡ Err (reason_of e))
 refused_calmed (Ok x) w v f h = tt
 refused_calmed (Err e) w v f h = h.calmed

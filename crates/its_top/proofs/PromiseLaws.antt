@@ -7,10 +7,12 @@ use Rattle.its_top.specs.declared.commands.status.Status.{Status}
 use Rattle.its_top.specs.declared.commands.status.Status.TheVariants as statuses
 use Rattle.its_top.specs.Commands.{IfGenerates}
 use Rattle.its_top.specs.Conclusion.{Session, WasRun}
-use Rattle.its_top.specs.Outcomes.{AsmSays, CheckSays, Faults, OfAsm, OfCheck, OfGen, OfNoCommand, OfRun, OfVerify, RunSays, Unfailed, VerifySays, WroteAll}
+use Rattle.its_top.specs.Outcomes.{AsmSays, CheckSays, Faults, OfAsm, OfCheck, OfGen, OfNoCommand, OfRun, OfSave, OfVerify, RunSays, SaveSays, Unfailed, VerifySays, WroteAll}
+use Rattle.its_top.specs.Saving.{Saves}
 use Rattle.its_top.specs.Top.{Obeyed}
 use Rattle.its_top.proofs.AssemblingLaws.{asm_answered, asm_begins, asm_breaks, asm_done, asm_ran, asm_refused, asm_too_long}
 use Rattle.its_top.proofs.ObeyLaws.{check_begins, check_breaks, check_complete, check_done, check_ran, check_read, check_refused, check_too_long, gen_begins, gen_done, gen_ends, if_all, no_memory, none_obeyed, unread, usage_begins, usage_only, usage_written}
+use Rattle.its_top.proofs.SavingLaws.{save_says}
 use Rattle.its_top.proofs.TopLaws.{session_begins, session_breaks, session_complete, session_done, session_refused, session_too_long, session_transcribed, session_writes, session_written}
 use Rattle.its_top.proofs.VerifyingLaws.{verify_answered, verify_begins, verify_breaks, verify_done, verify_lacks, verify_ran, verify_refused, verify_too_long, vouched}
 
@@ -154,6 +156,34 @@ of_asm d st left rest old new o c = record { says = told left o; command = asm_r
       answered = λ u. asm_answered d st (Some bytes) rest old new o c (no_read_fault st u) (no_write_fault st u);
     }
 
+-- save
+saved_as : (l : Option (List ℕ)) (st : Status) (rest old new : Option (List ℕ)) → Saves st l rest old new → IfSome l (λ bytes. SaveSays st bytes rest old new)
+saved_as None st rest old new s = tt
+saved_as (Some bytes) st rest old new s = save_says st bytes rest old new s
+
+nothing_saved : (bytes : List ℕ) (rest old new : Option (List ℕ)) → SaveSays statuses.NoMemory bytes rest old new
+nothing_saved bytes rest old new = record {
+  done = λ e. cc;
+  input = λ e. cc;
+  refused = λ e. cc;
+  too_long = λ e. cc;
+  broken = λ e. cc;
+  begun = λ e. cc;
+  complete = λ u d. inr refl;
+}
+
+pub of_save : (d : Option Command) (st : Status) (left rest old new : Option (List ℕ)) → Obeyed d st left rest old new
+    → d ≡ Some commands.Save → OfSave st left rest old new
+of_save d st left rest old new o c = by st (subst (λ x. Obeyed x st left rest old new) c o)
+  where
+    by : (t : Status) → Obeyed (Some commands.Save) t left rest old new → OfSave t left rest old new
+    by statuses.NoMemory o = record { says = if_all left _ (λ bytes. nothing_saved bytes rest old new); command = λ e. cc; unread = λ e. o.obeys.0 }
+    by t o = record {
+      says = saved_as left t rest old new o.obeys;
+      command = was_command t o.obeys.ran;
+      unread = λ e. absurd (had_memory t o.obeys.ran e);
+    }
+
 -- words that are no command
 pub of_none : (d : Option Command) (st : Status) (left rest old new : Option (List ℕ)) → Obeyed d st left rest old new → d ≡ None
     → OfNoCommand st left rest old new
@@ -168,4 +198,4 @@ of_none d st left rest old new o c = record {
 pub faults_of : (fault st : Status) (before now : ℕ) → (st ≡ fault → now ≡ before + 1) → (st ≢ fault → now ≡ before) → Faults fault st before now
 faults_of fault st before now once unfailed = record { once = once; unfailed = unfailed }
 
-pub ruleset promises = (of_run, of_check, of_gen, of_verify, of_asm, of_none, usage_only, no_memory, faults_of)
+pub ruleset promises = (of_run, of_check, of_gen, of_verify, of_asm, of_save, of_none, usage_only, no_memory, faults_of)

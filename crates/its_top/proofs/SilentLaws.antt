@@ -1,8 +1,8 @@
 -- A session obeyed in silence: from what each of its lines leads to, to the state at its end.
-use Rattle.std.specs.Prelude.{◌≡◌, ◌<◌, ◌≤◌, ◌-◌, ◌+◌, ℕ, suc, true, false, Option, Some, None, IfSome, Result, Ok, Err, List, [], ◌∷◌, ◌++◌, refl}
+use Rattle.std.specs.Prelude.{◌≡◌, ◌<◌, ◌≤◌, ◌-◌, ◌+◌, ℕ, suc, false, Option, Some, None, IfSome, Result, Ok, Err, List, [], ◌∷◌, ◌++◌, refl}
 use Rattle.std.proofs.Common.{sym, ◌∙◌, ap, subst, arith, append_assoc, append-nil}
 use Rattle.its_io.specs.declared.stream.Failed.{Failed}
-use Rattle.its_records.specs.Item.{Item, Read, Unread}
+use Rattle.its_records.specs.Item.{Item, Read}
 use Rattle.its_records.specs.Refusals.{reason_of}
 use Rattle.its_records.specs.declared.session.Event.{Event}
 use Rattle.its_records.specs.declared.session.Event.TheVariants as events
@@ -24,8 +24,8 @@ use Rattle.its_plain.specs.Machine.{no_machine}
 use Rattle.its_plain.specs.Machine.Own.{names_of}
 use Rattle.its_plain.specs.Operator.{Block, no_block}
 use Rattle.its_plain.specs.Operator.Lines.{operate, lined}
-use Rattle.its_plain.specs.Transcript.{Fate, Open}
-use Rattle.its_plain.specs.Transcript.Turns.{turn_after, highest, turns_asked, ticks_asked}
+use Rattle.its_plain.specs.Transcript.{Open}
+use Rattle.its_plain.specs.Transcript.Turns.{turn_after, highest, turn_kept, turns_asked, ticks_asked}
 use Rattle.its_stepped.specs.State.{State, plain, no_state}
 use Rattle.its_stepped.specs.Lines.{Told, telling, after_calm, paces_of, after_ticks, turned_by, turned, told, stepped}
 use Rattle.its_stepped.proofs.Frame.DecodingLaws.{decoding}
@@ -121,21 +121,25 @@ run_leads n v v' b i j k q e is t =
       );
     })
 
--- a line that was performed
-pub event_on : (s : Shown) (n : ℕ) (v : State) (b b' : Block) (i : ℕ) (e : Event) (w : World) → turns_asked e ≡ 0 → Performed (Ok s) v b e w b'
-    → Leads None n v b i (founds.Line e) (state_of w) b' i
-event_on s n v b b' i e w none p = record {
-  shown = lines_of s w;
-  led = (
-    not_last e p.goes,
-    λ behind. (
-      p.tells n (λ x c. turned (turns_asked e) (ticks_asked e) x i (λ y l. told (n + 1) y c l behind))
-          ∙ ap (λ k. telling (lines_of s w) (turned k (ticks_asked e) (state_of w) i (λ y l. told (n + 1) y b' l behind))) none,
-      p.leaves (left_at v i) (λ x c. turns_left (turns_asked e) (ticks_asked e) x i (λ y l. left y c l behind))
-          ∙ ap (λ k. turns_left k (ticks_asked e) (state_of w) i (λ y l. left y b' l behind)) none,
-    ),
-  );
-}
+-- a line that was performed, after which slot j counts as that of the last turn
+pub event_on : (s : Shown) (n : ℕ) (v : State) (b b' : Block) (i j : ℕ) (e : Event) (w : World) → j ≡ turn_kept i e → turns_asked e ≡ 0
+    → Performed (Ok s) v b e w b' → Leads None n v b i (founds.Line e) (state_of w) b' j
+event_on s n v b b' i j e w keeps none p =
+    let kept = turn_kept i e in
+    record {
+      shown = lines_of s w;
+      led = (
+        not_last e p.goes,
+        λ behind. (
+          p.tells n (λ x c. turned (turns_asked e) (ticks_asked e) x kept (λ y l. told (n + 1) y c l behind))
+              ∙ ap (λ k. telling (lines_of s w) (turned k (ticks_asked e) (state_of w) kept (λ y l. told (n + 1) y b' l behind))) none
+              ∙ ap (λ k. telling (lines_of s w) (told (n + 1) (state_of w) b' k behind)) (sym keeps),
+          p.leaves (left_at v i) (λ x c. turns_left (turns_asked e) (ticks_asked e) x kept (λ y l. left y c l behind))
+              ∙ ap (λ k. turns_left k (ticks_asked e) (state_of w) kept (λ y l. left y b' l behind)) none
+              ∙ ap (λ k. left (state_of w) b' k behind) (sym keeps),
+        ),
+      );
+    }
 
 -- END
 end_alone : (e : Event) → goes_on_after e ≡ false → e ≡ events.End
@@ -146,38 +150,42 @@ end_left : (v : State) (b : Block) (i : ℕ) (items : List Item) → left v b i 
 unfolding after_calm lined operate
 end_left v b i items = refl
 
-over_leads : (n : ℕ) (v : State) (b b' : Block) (i : ℕ) (e : Event) (w : World) → Performed (Err overs.Ended) v b e w b'
-    → Leads (Some endings.Over) n v b i (founds.Line e) (state_of w) b' i
-over_leads n v b b' i e w p = record {
-  shown = [];
-  led = (
-    is_the_end e p.goes,
-    λ behind l. (
-      subst (λ (t : Told). IsDone t.fate)
-          (sym (p.tells n (λ x c. turned (turns_asked e) (ticks_asked e) x i (λ y j. told (n + 1) y c j behind)))) tt,
-      ap (λ x. left v b i (Read x ∷ behind)) (end_alone e p.goes) ∙ end_left v b i behind ∙ ap (λ x. left_at x i) (sym p.leaves),
-    ),
-  );
-}
+over_leads : (n : ℕ) (v : State) (b b' : Block) (i j : ℕ) (e : Event) (w : World) → j ≡ turn_kept i e → Performed (Err overs.Ended) v b e w b'
+    → Leads (Some endings.Over) n v b i (founds.Line e) (state_of w) b' j
+over_leads n v b b' i j e w keeps p =
+    let kept = turn_kept i e in
+    let is = end_alone e p.goes in
+    record {
+      shown = [];
+      led = (
+        is_the_end e p.goes,
+        λ behind l. (
+          subst (λ (t : Told). IsDone t.fate)
+              (sym (p.tells n (λ x c. turned (turns_asked e) (ticks_asked e) x kept (λ y k. told (n + 1) y c k behind)))) tt,
+          ap (λ x. left v b i (Read x ∷ behind)) is ∙ end_left v b i behind ∙ ap (λ x. left_at x i) (sym p.leaves)
+              ∙ ap (left_at (state_of w)) (sym (keeps ∙ ap (turn_kept i) is)),
+        ),
+      );
+    }
 
-pub event_over : (r : Result Shown Over) (n : ℕ) (v : State) (b b' : Block) (i : ℕ) (e : Event) (w : World) → r ≡ Err overs.Ended
-    → Performed r v b e w b' → Leads (Some endings.Over) n v b i (founds.Line e) (state_of w) b' i
-event_over r n v b b' i e w is p = over_leads n v b b' i e w (subst (λ x. Performed x v b e w b') is p)
+pub event_over : (r : Result Shown Over) (n : ℕ) (v : State) (b b' : Block) (i j : ℕ) (e : Event) (w : World) → j ≡ turn_kept i e
+    → r ≡ Err overs.Ended → Performed r v b e w b' → Leads (Some endings.Over) n v b i (founds.Line e) (state_of w) b' j
+event_over r n v b b' i j e w keeps is p = over_leads n v b b' i j e w keeps (subst (λ x. Performed x v b e w b') is p)
 
 -- a refused line
-refused_leads : (r : Refusal) (n : ℕ) (v : State) (b b' : Block) (i : ℕ) (e : Event) (w : World) → Performed (Err (overs.Refused r)) v b e w b'
-    → Leads (Some (endings.Refused n (reason_of r))) n v b i (founds.Line e) (state_of w) b' i
-refused_leads r n v b b' i e w p = record {
+refused_leads : (r : Refusal) (n : ℕ) (v : State) (b b' : Block) (i j : ℕ) (e : Event) (w : World) → Performed (Err (overs.Refused r)) v b e w b'
+    → Leads (Some (endings.Refused n (reason_of r))) n v b i (founds.Line e) (state_of w) b' j
+refused_leads r n v b b' i j e w p = record {
   shown = [];
-  led = λ behind. p.tells n (λ x c. turned (turns_asked e) (ticks_asked e) x i (λ y l. told (n + 1) y c l behind));
+  led = λ behind. p.tells n (λ x c. turned (turns_asked e) (ticks_asked e) x (turn_kept i e) (λ y l. told (n + 1) y c l behind));
 }
 
-pub event_refused : (o : Result Shown Over) (r : Refusal) (q : Reason) (n : ℕ) (v : State) (b b' : Block) (i : ℕ) (e : Event) (w : World)
+pub event_refused : (o : Result Shown Over) (r : Refusal) (q : Reason) (n : ℕ) (v : State) (b b' : Block) (i j : ℕ) (e : Event) (w : World)
     → o ≡ Err (overs.Refused r) → q ≡ reason_of r → Performed o v b e w b'
-    → Leads (Some (endings.Refused n q)) n v b i (founds.Line e) (state_of w) b' i
-event_refused o r q n v b b' i e w is why p =
-    subst (λ x. Leads (Some (endings.Refused n x)) n v b i (founds.Line e) (state_of w) b' i) (sym why)
-    (refused_leads r n v b b' i e w (subst (λ x. Performed x v b e w b') is p))
+    → Leads (Some (endings.Refused n q)) n v b i (founds.Line e) (state_of w) b' j
+event_refused o r q n v b b' i j e w is why p =
+    subst (λ x. Leads (Some (endings.Refused n x)) n v b i (founds.Line e) (state_of w) b' j) (sym why)
+    (refused_leads r n v b b' i j e w (subst (λ x. Performed x v b e w b') is p))
 
 pub bad_leads : (n : ℕ) (v : State) (b : Block) (i : ℕ) (f : Found) (r : Reason) → f ≡ founds.Bad r
     → Leads (Some (endings.Refused n r)) n v b i f v b i

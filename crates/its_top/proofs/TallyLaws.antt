@@ -23,7 +23,7 @@ use Rattle.its_plain.specs.Machine.{File, no_machine}
 use Rattle.its_plain.specs.Machine.Own.{names_of}
 use Rattle.its_plain.specs.Operator.{Block, no_block}
 use Rattle.its_plain.specs.Operator.Files.{files_in, filed_line, rows}
-use Rattle.its_plain.specs.Transcript.Turns.{highest, turns_asked, ticks_asked}
+use Rattle.its_plain.specs.Transcript.Turns.{highest, turn_kept, turns_asked, ticks_asked}
 use Rattle.its_stepped.specs.State.{State, no_state}
 use Rattle.its_stepped.specs.Lines.{Told, telling, turned, told}
 use Rattle.its_world.specs.World.{state_of}
@@ -135,6 +135,10 @@ generated_asks : (e : Event) → IsGenerated e → turns_asked e ≡ 0
 generated_asks (events.Run n q) k = absurd k
 generated_asks _ k = refl
 
+generated_keeps : (e : Event) (i : ℕ) → IsGenerated e → turn_kept i e ≡ i
+generated_keeps (events.Restore line) i k = absurd k
+generated_keeps _ i k = refl
+
 pub played : (r : Result Shown Over) (old new : Play) (v : State) (w : World) (e : Event) (t : Tally) → old.over ≡ false
     → new.over ≡ is_err r → new.tally ≡ plus old.tally t → t ≡ counted r → IsGenerated e
     → Performed r v (block_of old.progress.slot old.progress.file) e w (block_of new.progress.slot new.progress.file) → PlayedOn old new v (state_of w) e
@@ -142,14 +146,16 @@ played r old new v w e t h k s c is p = record {
   on = λ n es all so. record {
     whole =
         let b' = block_of new.progress.slot new.progress.file in
-        let next : ℕ → State → Block → Told = λ i x b. turned i (ticks_asked e) x highest (λ y l. told (n + 1) y b l (items_of es)) in
+        let next : ℕ → ℕ → State → Block → Told = λ i j x b. turned i (ticks_asked e) x j (λ y l. told (n + 1) y b l (items_of es)) in
         let behind = told_behind r (told (n + 1) (state_of w) b' highest (items_of es)) in
         let sum : plus new.tally (tally behind.lines) ≡ all =
         ap (λ x. plus x (tally behind.lines)) (s ∙ ap (plus old.tally) c) ∙ sym (plus_assoc old.tally (counted r) (tally behind.lines))
         ∙ ap (λ x. plus old.tally (plus x (tally behind.lines))) (sym (counts_for n r w))
         ∙ ap (plus old.tally) (sym (tally_append (lines_shown n r w) behind.lines))
-        ∙ ap (λ (i : ℕ). plus old.tally (tally (telling (lines_shown n r w) (told_behind r (next i (state_of w) b'))).lines)) (sym (generated_asks e is))
-        ∙ ap (λ (x : Told). plus old.tally (tally x.lines)) (sym (p.tells n (next (turns_asked e))))
+        ∙ ap (λ (i : ℕ). plus old.tally (tally (telling (lines_shown n r w) (told_behind r (next i highest (state_of w) b'))).lines)) (sym (generated_asks e is))
+        ∙ ap (λ (j : ℕ). plus old.tally (tally (telling (lines_shown n r w) (told_behind r (next (turns_asked e) j (state_of w) b'))).lines))
+        (sym (generated_keeps e highest is))
+        ∙ ap (λ (x : Told). plus old.tally (tally x.lines)) (sym (p.tells n (next (turns_asked e) (turn_kept highest e))))
         ∙ going old n v (e ∷ es) all h so in
         subst (λ o. LeftOf o new.tally (n + 1) (state_of w) b' es all) (sym k) (left_behind r new.tally (n + 1) (state_of w) b' es all sum);
   };
@@ -170,6 +176,7 @@ generated_fits _ k f = absurd k
 
 pub generated_starts : (e : Event) (v : State) → IsGenerated e → FindsStart e v
 generated_starts (events.Version n) v k = absurd k
+generated_starts (events.Restore l) v k = absurd k
 generated_starts _ v k = tt
 
 -- marks one after another

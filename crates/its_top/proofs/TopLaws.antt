@@ -77,7 +77,7 @@ session_written st (Some bytes) rest old new (inl (inl e)) s = (session_done st 
 session_written st (Some bytes) rest old new (inl (inr e)) s = (session_refused st (Some bytes) rest old new e s).wrote
 session_written st (Some bytes) rest old new (inr e) s = (session_too_long st (Some bytes) rest old new e s).wrote
 
-done_answer : (f : Fate) → IsDone f → statuses.Done ≡ answer_of f
+pub done_answer : (f : Fate) → IsDone f → statuses.Done ≡ answer_of f
 done_answer Ended d = refl
 done_answer Open d = refl
 done_answer Refused d = absurd d

@@ -4,6 +4,7 @@ use Rattle.std.specs.Prelude.{◌≡◌, ◌<◌, ◌+◌, ◌-◌, ℕ, true, i
 use Rattle.std.specs.Io.KnownBytes.{Appends}
 use Rattle.its_records.specs.declared.session.Event.{Event}
 use Rattle.its_records.specs.declared.session.Event.TheVariants as events
+use Rattle.its_records.specs.declared.state_line.StateLine.TheVariants as states
 use Rattle.its_reader.specs.declared.items.Found.{Found}
 use Rattle.its_reader.specs.declared.items.Found.TheVariants as founds
 use Rattle.its_records.specs.declared.calls.Pace.{Pace}
@@ -60,9 +61,10 @@ pub record CircleSo (v now : State) (i j n k q : ℕ) (old new : Option (List �
   pub appended : Appends old new wrote
   pub says : (next : State → ℕ → Told) → said (turned n q v i next) ≡ after wrote (said (turned (n - k) q now j next))
 
--- VERSION finds a machine without jobs
+-- VERSION and SYSTEM find a machine without jobs
 abbrev pub FindsStart : Event → State → Type 0
 FindsStart (events.Version k) v = (s : ℕ) → v.raw.jobs s ≡ None
+FindsStart (events.Restore (states.System k)) v = (s : ℕ) → v.raw.jobs s ≡ None
 FindsStart e v = Unit {0}
 
 abbrev pub FoundStart : Found → State → Type 0

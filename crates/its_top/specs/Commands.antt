@@ -3,16 +3,17 @@
 use Rattle.std.specs.Prelude.{if◌then◌else◌, ◌^◌, ◌==◌, ◌&&◌, ℕ, Bool, true, false, Option, Some, None, List, [], ◌∷◌, map, nat_le, bytes_eq, codes, String, string_bytes}
 use Rattle.its_word.specs.Text.{is_octal, octal_value}
 use Rattle.its_top.specs.declared.commands.words.Command.{Command}
-use Rattle.its_top.specs.declared.commands.words.Command.TheVariants.{Run, Check, Gen, Verify, Asm}
+use Rattle.its_top.specs.declared.commands.words.Command.TheVariants.{Run, Check, Gen, Verify, Asm, Save}
 
--- `run`, `check`, `verify` and `asm` are the only word
+-- `run`, `check`, `verify`, `asm` and `save` are the only word
 abbrev pub bare_command : List ℕ → Option Command
 bare_command w =
     if bytes_eq w (codes "run") then Some Run
     else (if bytes_eq w (codes "check") then Some Check
     else (if bytes_eq w (codes "verify") then Some Verify
     else (if bytes_eq w (codes "asm") then Some Asm
-    else None)))
+    else (if bytes_eq w (codes "save") then Some Save
+    else None))))
 
 -- a number of rounds, 1 to 10000
 abbrev pub is_rounds : List ℕ → Bool
@@ -55,6 +56,7 @@ reads_input (Some Check) = true
 reads_input (Some (Gen n)) = false
 reads_input (Some Verify) = true
 reads_input (Some Asm) = true
+reads_input (Some Save) = true
 reads_input None = false
 
 -- it keeps what it reads
@@ -62,6 +64,7 @@ abbrev pub keeps : Option Command → Bool
 keeps (Some Verify) = true
 keeps (Some Asm) = true
 keeps (Some Run) = false
+keeps (Some Save) = false
 keeps (Some Check) = false
 keeps (Some (Gen n)) = false
 keeps None = false
@@ -73,4 +76,5 @@ IfGenerates (Some Run) p = Unit {0}
 IfGenerates (Some Check) p = Unit {0}
 IfGenerates (Some Verify) p = Unit {0}
 IfGenerates (Some Asm) p = Unit {0}
+IfGenerates (Some Save) p = Unit {0}
 IfGenerates None p = Unit {0}

@@ -5,8 +5,7 @@ use Rattle.its_records.specs.Item.{Item, Read, Unread, Beyond}
 use Rattle.its_records.specs.declared.session.Event.{Event}
 use Rattle.its_plain.specs.Operator.{Block, Refuses, Does, Ticks, Quits}
 use Rattle.its_plain.specs.Operator.Lines.{Lined, Done, Peeks, lined}
-use Rattle.its_plain.specs.Transcript.Course.{Course, Deed, Lines, Turns, Letter, Moment}
-use Rattle.its_plain.specs.Transcript.Turns.{turn_after, highest, turns_asked, ticks_asked}
+use Rattle.its_plain.specs.Transcript.Turns.{turn_after, turn_kept, turns_asked, ticks_asked}
 use Rattle.its_stepped.specs.State.{State}
 use Rattle.its_stepped.specs.Lines.{after_calm, with_raw, after_ticks}
 
@@ -41,20 +40,6 @@ turns_left (suc n) q w last next = turn_left (turn_after w.raw last) q w (λ v s
 abbrev pub left : State → Block → ℕ → List Item → Left
 left w b last [] = left_at w last
 left w b last (Read e ∷ es) =
-    line_left w b (left_at w last) e (λ v c. turns_left (turns_asked e) (ticks_asked e) v last (λ x l. left x c l es))
+    line_left w b (left_at w last) e (λ v c. turns_left (turns_asked e) (ticks_asked e) v (turn_kept last e) (λ x l. left x c l es))
 left w b last (Unread r ∷ es) = left_at w last
 left w b last (Beyond ∷ es) = left_at w last
-
--- the slot of the last turn after a moment: a turn of RUN is that of its slot
-abbrev pub turn_at : ℕ → Deed → ℕ
-turn_at last (Lines e) = last
-turn_at last (Turns s) = s
-turn_at last (Letter i p) = last
-
-abbrev pub turn_past : ℕ → List Moment → ℕ
-turn_past last [] = last
-turn_past last (t ∷ ts) = turn_past (turn_at last t.deed) ts
-
--- the slot of the last turn of a run; the highest one before the first turn
-unfoldable pub last_turn : Course → ℕ
-last_turn u = turn_past highest u.moments

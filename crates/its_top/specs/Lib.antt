@@ -10,6 +10,7 @@ pub mod Leaving
 pub mod Performing
 pub mod Generating
 pub mod Silent
+pub mod Saving
 pub mod Promise
 pub mod Outcomes
 pub mod Top

@@ -28,10 +28,11 @@ use Rattle.its_top.specs.Checking.{checked, checked_text, Passes, Fails, GoesOn}
 use Rattle.its_top.specs.Generating.{generated_text}
 use Rattle.its_top.specs.Assembling.{answer_to}
 use Rattle.its_top.specs.Verifying.{Why, status_of}
-use Rattle.its_top.specs.Promise.{Assembled, Licensed, Transcribed, Vouched}
+use Rattle.its_top.specs.Promise.{Assembled, Licensed, Saved, Transcribed, Vouched}
+use Rattle.its_top.specs.Saving.{last_alone, save_text}
 
 abbrev pub usage : List ℕ
-usage = codes "usage: its run | its check | its gen N | its verify | its asm\n"
+usage = codes "usage: its run | its check | its gen N | its verify | its asm | its save\n"
 
 -- an answer with which nothing is left to be written
 abbrev pub WroteAll : Status → Type 0
@@ -259,3 +260,45 @@ pub record AsmSays (status : Status) (bytes : List ℕ) (rest old new : Option (
 pub record OfAsm (status : Status) (left rest old new : Option (List ℕ)) : Type 0 where
   pub says : IfSome left (λ bytes. AsmSays status bytes rest old new)
   pub command : status ≢ statuses.Usage
+
+-- what `its save` wrote: the lines of the system that the session leads to, which are those of the
+-- promise
+pub record SaveDone (bytes : List ℕ) (old new : Option (List ℕ)) : Type 0 where
+  pub done : IsDone (stepped (events_of bytes)).fate
+  pub saved : Saved bytes old new
+  pub wrote : Appends old new (save_text (events_of bytes))
+
+-- a line is refused; its `?` line alone was written
+pub record SaveRefuses (bytes : List ℕ) (old new : Option (List ℕ)) : Type 0 where
+  pub refused : (stepped (events_of bytes)).fate ≡ Refused
+  pub wrote : Appends old new (text (last_alone (stepped (events_of bytes)).lines))
+
+-- a line past the most begins before END and before a refused line; nothing was written
+pub record SaveRunsOn (bytes : List ℕ) (old new : Option (List ℕ)) : Type 0 where
+  pub too_long : (stepped (events_of bytes)).fate ≡ TooLong
+  pub wrote : Appends old new []
+
+-- the source failed: none of the whole lines that were read is END or refused, no line is too long
+-- or past the most, not even the one that had begun, and nothing was written
+pub record SaveBreaks (bytes : List ℕ) (rest old new : Option (List ℕ)) : Type 0 where
+  pub read : List ℕ
+  pub consumed : Consumes (Some bytes) rest read
+  pub open_end : (stepped (whole_events_of read)).fate ≡ Open
+  pub limits : WithinLimits read
+  pub wrote : Appends old new []
+
+-- of `save`, if the bytes of the source are known
+pub record SaveSays (status : Status) (bytes : List ℕ) (rest old new : Option (List ℕ)) : Type 0 where
+  pub done : status ≡ statuses.Done → SaveDone bytes old new
+  pub input : status ≡ statuses.Done → ReadOut bytes rest
+  pub refused : status ≡ statuses.Refused → SaveRefuses bytes old new
+  pub too_long : status ≡ statuses.TooLong → SaveRunsOn bytes old new
+  pub broken : status ≡ statuses.ReadFault → SaveBreaks bytes rest old new
+  pub begun : status ≡ statuses.WriteFault → Begins (save_text (events_of bytes)) old new
+  pub complete : Unfailed status → IsDone (stepped (events_of bytes)).fate → (status ≡ statuses.Done) ⊎ (status ≡ statuses.NoMemory)
+
+-- of `save`; if memory was refused, nothing was read
+pub record OfSave (status : Status) (left rest old new : Option (List ℕ)) : Type 0 where
+  pub says : IfSome left (λ bytes. SaveSays status bytes rest old new)
+  pub command : status ≢ statuses.Usage
+  pub unread : status ≡ statuses.NoMemory → rest ≡ left

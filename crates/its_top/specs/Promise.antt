@@ -1,16 +1,21 @@
 -- What the program promises, for a reader who opens one file: of `run`, that what it writes is a
 -- transcript of its session (`Transcribed`), and that `verify` accepts it (`Vouched`); what YES of
--- `verify` means (`Licensed`), and what Done of `asm` means (`Assembled`). What else each answer
--- says, and which text is written, is in Outcomes.
+-- `verify` means (`Licensed`), what Done of `asm` means (`Assembled`), and what Done of `save`
+-- means (`Saved`). What else each answer says, and which text is written, is in Outcomes.
 -- A promise rests on this.
-use Rattle.std.specs.Prelude.{◌≡◌, ◌≤◌, ℕ, ◌+◌, length, false, Option, Some, Ok, List, [], ◌∷◌, ◌++◌}
+use Rattle.std.specs.Prelude.{◌≡◌, ◌≢◌, ◌≤◌, ℕ, ◌+◌, length, map, false, Option, Some, Ok, List, [], ◌∷◌, ◌++◌}
 use Rattle.std.specs.Io.KnownBytes.{Appends}
-use Rattle.its_records.specs.Item.{Item}
+use Rattle.its_records.specs.Item.{Item, Read}
 use Rattle.its_records.specs.declared.session.Event.{Event}
 use Rattle.its_print.specs.Printing.{Line, text}
-use Rattle.its_session.specs.Events.{events_of, most_lines}
+use Rattle.its_records.specs.declared.session.Place.TheVariants as places
+use Rattle.its_session.specs.Events.{events_of, most_lines, before_end, place_past}
+use Rattle.its_session.specs.Fits.{ReadAt}
+use Rattle.its_session.specs.Writing.{lines_text}
 use Rattle.its_reader.specs.TextLines.{lines_in}
 use Rattle.its_plain.specs.Transcript.{Fate, Open, Refused, TooLong, Transcript, Ended}
+use Rattle.its_plain.specs.Machine.{Machine}
+use Rattle.its_plain.specs.Transcript.Course.{run_of, last_turn}
 use Rattle.its_plain.specs.Promise.Ledger.{Ledger}
 use Rattle.its_plain.specs.Promise.LinkLedger.{LinkLedger}
 use Rattle.its_plain.specs.Promise.Stretch.{Stretches}
@@ -24,7 +29,7 @@ use Rattle.its_verify.specs.Verified.{Judged, Both, parts_from, verified}
 use Rattle.its_asm.specs.Assembly.{assembly}
 use Rattle.its_asm.specs.declared.assembly.Image.{Image}
 use Rattle.its_asm_command.specs.Past.{runs_past}
-use Rattle.its_asm_command.specs.Written.{image_events, lines_text}
+use Rattle.its_asm_command.specs.Written.{image_events}
 use Rattle.its_asm_command.specs.Loading.{IsWhole}
 use Rattle.its_top.specs.declared.commands.status.Status.{Status}
 use Rattle.its_top.specs.declared.commands.status.Status.TheVariants as statuses
@@ -137,3 +142,40 @@ pub record Assembled (bytes : List ℕ) (rest old new : Option (List ℕ)) : Typ
   pub wrote : Appends old new (lines_text session)
   -- The grammar reads these lines whole, and the plain machine then has the job of the image.
   pub whole : IsWhole image
+
+-- these events show nothing, lead to this machine after a turn of this slot, and leave no block
+-- open
+pub record Restores (events : List Event) (machine : Machine) (turn : ℕ) : Type 0 where
+  -- The transcript of these events has no line.
+  pub silent : Transcript (map Read events) [] Open
+  -- The plain machine at their end is this one, equal in all it has.
+  pub leads : (run_of (map Read events) []).last ≡ machine
+  -- The turn of RUN that follows is the one that follows a turn of this slot.
+  pub next : last_turn (run_of (map Read events) []) ≡ turn
+  -- What follows them is outside any block.
+  pub outside : place_past places.First events ≡ places.Plain
+
+-- what `its save` wrote of the session that these bytes are, if its answer is Done
+pub record Saved (bytes : List ℕ) (old new : Option (List ℕ)) : Type 0 where
+  -- The session shows lines.
+  pub lines : List Line
+  -- It has an end.
+  pub fate : Fate
+  -- The lines are those that the plain machine shows of its events, up to this end.
+  pub transcript : Transcript (events_of bytes) lines fate
+  -- No line is refused, and no line past the most begins.
+  pub done : answer_of fate ≡ statuses.Done
+  -- Lines of a session were written.
+  pub checkpoint : List Event
+  -- Their text is all that was written.
+  pub wrote : Appends old new (lines_text checkpoint)
+  -- The grammar reads this text as these lines, and as nothing else.
+  pub read : events_of (lines_text checkpoint) ≡ map Read checkpoint
+  -- They restore the machine at the end of the session, and the turn.
+  pub restores : Restores checkpoint (run_of (events_of bytes) lines).last (last_turn (run_of (events_of bytes) lines))
+  -- Whatever follows the session, without its END, may follow these lines: what is shown of the
+  -- rest after the session, with no refused line, may be shown after these lines.
+  pub goes_on : (rest : List Item) (more : List Line) (end : Fate)
+      → ReadAt places.Plain rest → end ≢ Refused
+      → Transcript (before_end (events_of bytes) ++ rest) (lines ++ more) end
+      → Transcript (map Read checkpoint ++ rest) more end

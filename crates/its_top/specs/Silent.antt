@@ -3,7 +3,6 @@
 use Rattle.std.specs.Prelude.{◌≡◌, ◌-◌, ℕ, ◌+◌, true, false, Option, Some, None, IfSome, Result, Ok, Err, List, [], ◌∷◌, ◌++◌}
 use Rattle.std.specs.Io.KnownBytes.{Consumes}
 use Rattle.its_records.specs.Item.{Item}
-use Rattle.its_records.specs.declared.session.Reason.{Reason}
 use Rattle.its_io.specs.declared.stream.Failed.{Failed}
 use Rattle.its_print.specs.Printing.{Line}
 use Rattle.its_print.specs.Printing as printed
@@ -14,15 +13,15 @@ use Rattle.its_reader.specs.Limits.{WithinLimits}
 use Rattle.its_reader.specs.Items.{is_last, is_end, last_items, FoundSoFar, ReadOut}
 use Rattle.its_plain.specs.Machine.{no_machine}
 use Rattle.its_plain.specs.Operator.{Block, no_block}
-use Rattle.its_plain.specs.Transcript.{Fate, Ended, Open, Refused, TooLong}
-use Rattle.its_plain.specs.Transcript.Course.{run_of}
+use Rattle.its_plain.specs.Transcript.{Fate, Open, Refused, TooLong}
+use Rattle.its_plain.specs.Transcript.Course.{run_of, last_turn}
 use Rattle.its_plain.specs.Transcript.Turns.{highest}
 use Rattle.its_stepped.specs.State.{State, no_state}
 use Rattle.its_stepped.specs.Lines.{Told, telling, turned, told, stepped}
 use Rattle.its_world.specs.declared.world.World.{World}
 use Rattle.its_world.specs.World.{plain_of}
 use Rattle.its_top.specs.Conclusion.{IsDone}
-use Rattle.its_top.specs.Leaving.{Left, left_at, turns_left, left, last_turn}
+use Rattle.its_top.specs.Leaving.{Left, left_at, turns_left, left}
 use Rattle.its_top.specs.declared.sessions.silent.Ending.{Ending}
 use Rattle.its_top.specs.declared.sessions.silent.Ending.TheVariants as endings
 

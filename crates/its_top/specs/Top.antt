@@ -6,11 +6,12 @@ use Rattle.its_verify.specs.Finds.{Unmade}
 use Rattle.its_top.specs.declared.commands.status.Status.{Status}
 use Rattle.its_top.specs.declared.commands.status.Status.TheVariants as statuses
 use Rattle.its_top.specs.declared.commands.words.Command.{Command}
-use Rattle.its_top.specs.declared.commands.words.Command.TheVariants.{Run, Check as CheckCommand, Gen, Verify as VerifyCommand, Asm as AsmCommand}
+use Rattle.its_top.specs.declared.commands.words.Command.TheVariants.{Run, Check as CheckCommand, Gen, Verify as VerifyCommand, Asm as AsmCommand, Save as SaveCommand}
 use Rattle.its_top.specs.Conclusion.{Session}
 use Rattle.its_top.specs.Checking.{WroteText, Check}
 use Rattle.its_top.specs.Generating.{generated_text}
 use Rattle.its_top.specs.Assembling.{Asm}
+use Rattle.its_top.specs.Saving.{Saves}
 use Rattle.its_top.specs.Verifying.{Verify}
 use Rattle.its_top.specs.Outcomes.{usage}
 
@@ -21,6 +22,7 @@ DoneFor (Some CheckCommand) st left rest old new = Check st left rest old new
 DoneFor (Some (Gen n)) st left rest old new = WroteText st statuses.Done (generated_text n) old new × (rest ≡ left)
 DoneFor (Some VerifyCommand) st left rest old new = Verify st left rest old new
 DoneFor (Some AsmCommand) st left rest old new = Asm st left rest old new
+DoneFor (Some SaveCommand) st left rest old new = Saves st left rest old new
 DoneFor None st left rest old new = WroteText st statuses.Usage usage old new × (rest ≡ left)
 
 -- if memory was refused, nothing was written, and only a command that keeps what it reads has read

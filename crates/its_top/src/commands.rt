@@ -5,6 +5,7 @@ pub mod assembling;
 pub mod checking;
 pub mod counts;
 pub mod generating;
+pub mod saving;
 pub mod status;
 pub mod verifying;
 pub mod words;

@@ -9,6 +9,7 @@ pub mod loading;
 pub mod performing;
 pub mod printing;
 pub mod progress;
+pub mod restoring;
 pub mod room;
 pub mod run;
 pub mod shown;

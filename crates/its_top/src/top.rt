@@ -5,12 +5,14 @@ ghost use Rattle.its_top.specs.Commands.{asked, command_of, IfGenerates};
 ghost use Rattle.its_top.specs.Checking.{WroteText};
 ghost use Rattle.its_top.specs.Generating.{generated_text};
 ghost use Rattle.its_top.specs.Conclusion.{Session};
-ghost use Rattle.its_top.specs.Outcomes.{Faults, OfAsm, OfCheck, OfGen, OfNoCommand, OfRun, OfVerify};
+ghost use Rattle.its_top.specs.Outcomes.{Faults, OfAsm, OfCheck, OfGen, OfNoCommand, OfRun, OfSave, OfVerify};
+ghost use Rattle.its_top.specs.Saving.{Saves};
 ghost use Rattle.its_top.specs.Top.{Obeyed};
 
 use crate::commands::assembling::assemble;
 use crate::commands::checking::{check, write_text};
 use crate::commands::generating::generate;
+use crate::commands::saving::save_session;
 use crate::commands::status::Status;
 use crate::commands::verifying::judge;
 use crate::commands::words::{Command, read_command};
@@ -20,13 +22,14 @@ use its_monitor::Monitor;
 use std::alloc::Global;
 
 /// The usage line.
-const USAGE: &[u8] = b"usage: its run | its check | its gen N | its verify | its asm\n";
+const USAGE: &[u8] = b"usage: its run | its check | its gen N | its verify | its asm | its save\n";
 
 /// The program: the words after its name, the session that `src` gives, and what `out` takes. The
 /// words `run` and `check` read a session; `gen` and a number run a generated one, and read
-/// nothing. The word `verify` reads a session and its transcript, and `asm` an assembly text. What
-/// each of them promises is a record of `specs/Outcomes`, over those of `specs/Promise`. Split for
-/// its proof: `its_row` says what is done.
+/// nothing. The word `verify` reads a session and its transcript, `asm` an assembly text, and
+/// `save` a session, of whose end it writes the state part. What each of them promises is a record
+/// of `specs/Outcomes`, over those of `specs/Promise`. Split for its proof: `its_row` says what is
+/// done.
 #[tactic(auto, using(crate::proofs::PromiseLaws::promises))]
 pub fn its<S: Source, K: Sink>(alloc: Global, words: &[String], src: &mut S, out: &mut K) -> Status
     requires readable { S.readable src.old ≡ true }
@@ -42,6 +45,8 @@ pub fn its<S: Source, K: Sink>(alloc: Global, words: &[String], src: &mut S, out
         → OfVerify result (S.left src.old) (S.left src.new) (K.written out.old) (K.written out.new) }
     ensures asm { asked words.now ≡ Some Command.Asm
         → OfAsm result (S.left src.old) (S.left src.new) (K.written out.old) (K.written out.new) }
+    ensures save { asked words.now ≡ Some Command.Save
+        → OfSave result (S.left src.old) (S.left src.new) (K.written out.old) (K.written out.new) }
     ensures usage { asked words.now ≡ None
         → OfNoCommand result (S.left src.old) (S.left src.new) (K.written out.old) (K.written out.new) }
     ensures command { result ≡ Status.Usage → asked words.now ≡ None }
@@ -94,6 +99,7 @@ fn obey<S: Source, K: Sink>(
         Some(Command::Gen(n)) => generate_rounds(alloc, n, out),
         Some(Command::Verify) => judge(alloc, src, out),
         Some(Command::Asm) => assemble(alloc, src, out),
+        Some(Command::Save) => save(alloc, src, out),
         None => write_text(out, USAGE, Status::Usage),
     }
 }
@@ -130,6 +136,25 @@ fn run<S: Source, K: Sink>(alloc: Global, src: &mut S, out: &mut K) -> Status
 {
     match Monitor::open(alloc) {
         Ok(mut m) => session(&mut m, src, out),
+        Err(_) => Status::NoMemory,
+    }
+}
+
+/// Saves the system that the session that the source gives leads to.
+fn save<S: Source, K: Sink>(alloc: Global, src: &mut S, out: &mut K) -> Status
+    requires readable { S.readable src.old ≡ true }
+    requires source { S.faults src.old < 2 ^ 64 - 1 }
+    requires sink { K.faults out.old < 2 ^ 64 - 1 }
+    ensures saves { result ≢ Status.NoMemory → Saves result (S.left src.old) (S.left src.new) (K.written out.old) (K.written out.new) }
+    ensures no_memory { result ≡ Status.NoMemory → (S.left src.new ≡ S.left src.old) × (K.written out.new ≡ K.written out.old) }
+    ensures not_usage { result ≢ Status.Usage }
+    ensures read_once { result ≡ Status.ReadFault → S.faults src.new ≡ S.faults src.old + 1 }
+    ensures write_once { result ≡ Status.WriteFault → K.faults out.new ≡ K.faults out.old + 1 }
+    ensures read_unfailed { result ≢ Status.ReadFault → S.faults src.new ≡ S.faults src.old }
+    ensures write_unfailed { result ≢ Status.WriteFault → K.faults out.new ≡ K.faults out.old }
+{
+    match Monitor::open(alloc) {
+        Ok(mut m) => save_session(&mut m, src, out),
         Err(_) => Status::NoMemory,
     }
 }

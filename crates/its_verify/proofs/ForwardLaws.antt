@@ -5,7 +5,7 @@ use Rattle.its_print.specs.Printing.{Refused}
 use Rattle.its_plain.specs.Operator.{Does, Quits, Refuses, Ticks}
 use Rattle.its_plain.specs.Operator.Lines.{Done, Lined, Peeks, lined}
 use Rattle.its_plain.specs.Transcript.{Walk, next_line, walk_after}
-use Rattle.its_plain.specs.Transcript.Turns.{ticks_asked, turns_asked}
+use Rattle.its_plain.specs.Transcript.Turns.{ticks_asked, turn_kept, turns_asked}
 use Rattle.its_verify.specs.TranscriptReader.{Forward}
 use Rattle.its_verify.specs.Rulings.{Ruling, at_end, gone, judged, peeking, turned}
 use Rattle.its_verify.specs.Letters.{ticked}
@@ -24,7 +24,7 @@ gone_forward v (Peeks i) next h = led_forward peeking (λ text. next (next_line 
 pub judged_forward : (es : List Item) (v : Walk) (last : ℕ) → Forward (judged v last es)
 judged_forward [] v last = end_forward
 judged_forward (Read e ∷ es) v last =
-    gone_forward v (lined v.machine v.block e) (λ w. turned (turns_asked e) (ticks_asked e) w last (λ x s. judged x s es))
-    (λ w. turned_forward (turns_asked e) (ticks_asked e) w last (λ x s. judged x s es) (λ x s. judged_forward es x s))
+    gone_forward v (lined v.machine v.block e) (λ w. turned (turns_asked e) (ticks_asked e) w (turn_kept last e) (λ x s. judged x s es))
+    (λ w. turned_forward (turns_asked e) (ticks_asked e) w (turn_kept last e) (λ x s. judged x s es) (λ x s. judged_forward es x s))
 judged_forward (Unread r ∷ es) v last = lines_forward (Refused v.line r ∷ []) at_end end_forward
 judged_forward (Beyond ∷ es) v last = end_forward

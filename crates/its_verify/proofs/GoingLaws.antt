@@ -91,11 +91,13 @@ obeyed_so e a old new b n h forgets speaks =
 -- there is a block of which a place speaks
 abbrev pub block_at : Spot → Block
 block_at spots.Plain = no_block
+block_at (spots.System s names) = record { slot = s; file = names }
 block_at (spots.Load s) = record { slot = s; file = no_block.file }
 block_at (spots.File names) = record { slot = 0; file = names }
 
 pub speaks_at : (p : Spot) → Speaks p (block_at p)
 speaks_at spots.Plain = tt
+speaks_at (spots.System s names) = (refl, refl)
 speaks_at (spots.Load s) = refl
 speaks_at (spots.File names) = refl
 

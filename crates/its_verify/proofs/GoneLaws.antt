@@ -5,6 +5,8 @@ use Rattle.its_io.specs.declared.stream.Failed.{Failed}
 use Rattle.its_records.specs.Item.{Item}
 use Rattle.its_records.specs.declared.session.Event.{Event}
 use Rattle.its_records.specs.declared.session.Event.TheVariants as events
+use Rattle.its_records.specs.declared.state_line.StateLine.{StateLine}
+use Rattle.its_records.specs.declared.state_line.StateLine.TheVariants as states
 use Rattle.its_records.specs.declared.session.Place.{Place}
 use Rattle.its_records.specs.declared.session.Place.TheVariants as places
 use Rattle.its_records.specs.declared.session.Reason.{Reason}
@@ -20,7 +22,7 @@ use Rattle.its_reader.specs.Bytes.{pending}
 use Rattle.its_reader.specs.Items.{Finds, found_fits, found_stands, is_last, place_found}
 use Rattle.its_reader.specs.Lines.{BetweenLines}
 use Rattle.its_plain.specs.Operator.{Block, no_block}
-use Rattle.its_plain.specs.Transcript.Turns.{ticks_asked, turns_asked}
+use Rattle.its_plain.specs.Transcript.Turns.{ticks_asked, turn_kept, turns_asked}
 use Rattle.its_direct.specs.Events.{MayStand, Speaks}
 use Rattle.its_direct.specs.declared.plain.Spot.{Spot}
 use Rattle.its_direct.specs.declared.plain.Spot.TheVariants as spots
@@ -61,58 +63,59 @@ pub not_last : (e : Event) → is_end e ≡ false → is_last (Line e) ≡ false
 not_last events.End h = absurd (false≢true (sym h))
 not_last e h = refl
 
--- a line, and its turns
-obeyed_then : (r : Result (Option Outcome) Failed) (e : Event) (old mid new : Verifier) (left between rest : Option (List ℕ)) (b : Block)
-    (n : ℕ) (es : List Item) (last : Ruling) (line : LedOn old mid left between b n e) → mid.last ≡ old.last
-    → Says r mid.reader new.reader between rest (turned (turns_asked e) (ticks_asked e) (walk_of mid.judge line.after (n + 1)) mid.last
+-- a line, which names the slot k as that of the last turn, and its turns
+obeyed_then : (r : Result (Option Outcome) Failed) (e : Event) (old mid new : Verifier) (k : ℕ) (left between rest : Option (List ℕ)) (b : Block)
+    (n : ℕ) (es : List Item) (last : Ruling) (line : LedOn old mid left between b n e) → k ≡ turn_kept old.last e
+    → Says r mid.reader new.reader between rest (turned (turns_asked e) (ticks_asked e) (walk_of mid.judge line.after (n + 1)) k
     (λ x s. judged x s es)) last
     → Says r old.reader new.reader left rest (judge_from old b n (items_by (Line e) es)) last
-obeyed_then r e old mid new left between rest b n es last line same says =
+obeyed_then r e old mid new k left between rest b n es last line same says =
     let on : ℕ → Ruling = λ i. turned (turns_asked e) (ticks_asked e) (walk_of mid.judge line.after (n + 1)) i (λ x s. judged x s es) in
-    says_then r old.reader mid.reader new.reader left between rest (judge_from old b n (items_by (Line e) es)) (on old.last) last
-    (line.goes (λ w. turned (turns_asked e) (ticks_asked e) w old.last (λ x s. judged x s es)))
+    says_then r old.reader mid.reader new.reader left between rest (judge_from old b n (items_by (Line e) es)) (on (turn_kept old.last e)) last
+    (line.goes (λ w. turned (turns_asked e) (ticks_asked e) w (turn_kept old.last e) (λ x s. judged x s es)))
     (subst (λ (i : ℕ). Says r mid.reader new.reader between rest (on i) last) same says)
 
-pub obeyed_says : (r o : Result (Option Outcome) Failed) (e : Event) (old mid new : Verifier) (left between rest : Option (List ℕ)) (n : ℕ)
-    → r ≡ Ok None → LineSays r old mid left between n e → mid.last ≡ old.last
-    → TurnsSay o mid new between rest (turns_asked e) (ticks_asked e)
+pub obeyed_says : (r o : Result (Option Outcome) Failed) (e : Event) (old mid new : Verifier) (k : ℕ) (left between rest : Option (List ℕ))
+    (n : ℕ) → r ≡ Ok None → LineSays r old mid left between n e → k ≡ turn_kept old.last e
+    → TurnsSay o (record mid { last = k }) new between rest (turns_asked e) (ticks_asked e)
     → new.judge.plain.place ≡ mid.judge.plain.place → ItemSays o old new left rest n (Line e)
-obeyed_says r (Ok None) e old mid new left between rest n is line last turns place = λ b speaks.
+obeyed_says r (Ok None) e old mid new k left between rest n is line last turns place = λ b speaks.
     (let led = subst (λ q. LineSays q old mid left between n e) is line b speaks in
     record {
       after = led.after;
       speaks = subst (λ (s : Spot). Speaks s led.after) (sym place) led.speaks;
       goes = λ es.
-          obeyed_then (Ok None) e old mid new left between rest b n es (judge_from new led.after (n + 1) es) led last
+          obeyed_then (Ok None) e old mid new k left between rest b n es (judge_from new led.after (n + 1) es) led last
           (turns led.after (n + 1) (λ x s. judged x s es));
     })
-obeyed_says r (Ok (Some f)) e old mid new left between rest n is line last turns place = λ b speaks es.
+obeyed_says r (Ok (Some f)) e old mid new k left between rest n is line last turns place = λ b speaks es.
     (let led = subst (λ q. LineSays q old mid left between n e) is line b speaks in
-    obeyed_then (Ok (Some f)) e old mid new left between rest b n es (judge_from new led.after (n + 1) es) led last
+    obeyed_then (Ok (Some f)) e old mid new k left between rest b n es (judge_from new led.after (n + 1) es) led last
     (turns led.after (n + 1) (λ x s. judged x s es)))
-obeyed_says r (Err x) e old mid new left between rest n is line last turns place = λ b speaks es.
+obeyed_says r (Err x) e old mid new k left between rest n is line last turns place = λ b speaks es.
     (let led = subst (λ q. LineSays q old mid left between n e) is line b speaks in
-    obeyed_then (Err x) e old mid new left between rest b n es at_end led last
+    obeyed_then (Err x) e old mid new k left between rest b n es at_end led last
     (λ on. turns led.after (n + 1) (λ x s. judged x s es) (λ x s. judged_forward es x s)) end_forward)
 
 pub stopped_says : (r : Result (Option Outcome) Failed) (f : Outcome) (e : Event) (old mid new : Verifier)
     (left between rest : Option (List ℕ)) (n : ℕ) → r ≡ Ok (Some f) → LineSays r old mid left between n e
     → ItemSays (Ok (Some f)) old new left rest n (Line e)
 stopped_says r f e old mid new left between rest n is line = λ b speaks es.
-    subst (λ q. LineSays q old mid left between n e) is line b speaks (λ w. turned (turns_asked e) (ticks_asked e) w old.last (λ x s. judged x s es))
+    subst (λ q. LineSays q old mid left between n e) is line b speaks (λ w. turned (turns_asked e) (ticks_asked e) w (turn_kept old.last e) (λ x s. judged x s es))
 
 pub failed_says : (r : Result (Option Outcome) Failed) (x : Failed) (e : Event) (old mid new : Verifier) (left rest : Option (List ℕ))
     (n : ℕ) → r ≡ Err x → LineSays r old mid left rest n e
     → ItemSays (Err x) old new left rest n (Line e)
 failed_says r x e old mid new left rest n is line = λ b speaks es.
-    subst (λ q. LineSays q old mid left rest n e) is line b speaks (λ w. turned (turns_asked e) (ticks_asked e) w old.last (λ x s. judged x s es))
-    (λ w. turned_forward (turns_asked e) (ticks_asked e) w old.last (λ x s. judged x s es) (λ x s. judged_forward es x s))
+    subst (λ q. LineSays q old mid left rest n e) is line b speaks (λ w. turned (turns_asked e) (ticks_asked e) w (turn_kept old.last e) (λ x s. judged x s es))
+    (λ w. turned_forward (turns_asked e) (ticks_asked e) w (turn_kept old.last e) (λ x s. judged x s es) (λ x s. judged_forward es x s))
 
 -- places
 at_settled : (p q : Place) → machine_place q ≡ q → is_at p q ≡ true → machine_place p ≡ q
 at_settled places.First places.First is h = is
 at_settled places.First places.Plain is h = refl
 at_settled places.Plain places.Plain is h = refl
+at_settled places.System places.System is h = refl
 at_settled places.Load places.Load is h = refl
 at_settled places.File places.File is h = refl
 at_settled _ _ is h = absurd (false≢true h)
@@ -124,6 +127,8 @@ at_first _ h = absurd (false≢true h)
 event_stands : (p q : Place) (e : Event) → machine_place p ≡ q → Stands p e → MayStand q e
 event_stands p q events.Nothing same h = tt
 event_stands p q (events.Version v) same h = sym same ∙ at_first p h
+event_stands p q (events.Restore (states.System v)) same h = sym same ∙ at_first p h
+event_stands p q (events.Restore _) same h = sym same ∙ at_settled p places.System refl h
 event_stands p q e same h = sym same ∙ at_settled p (event_place e) refl h
 
 pub stands_on : (p q : Place) (f : Found) → machine_place p ≡ q → found_stands p f → FoundStands q f
@@ -134,9 +139,19 @@ pub fits_on : (v : ℕ) (f : Found) → found_fits v f → found_fits 2 f
 fits_on v (Line e) h = later_fits v e h
 fits_on v _ h = tt
 
+restored_settled : (p : Place) (l : StateLine) → machine_place (place_after p (events.Restore l)) ≡ place_after (machine_place p) (events.Restore l)
+restored_settled p (states.System v) = refl
+restored_settled p states.Ready = refl
+restored_settled places.First _ = refl
+restored_settled places.Plain _ = refl
+restored_settled places.System _ = refl
+restored_settled places.Load _ = refl
+restored_settled places.File _ = refl
+
 after_settled : (p : Place) (e : Event) → machine_place (place_after p e) ≡ place_after (machine_place p) e
 after_settled p (events.Load u j c) = refl
 after_settled p (events.Go a) = refl
+after_settled p (events.Restore l) = restored_settled p l
 after_settled p (events.File d x y) = refl
 after_settled p events.EndFile = refl
 after_settled places.First e = refl

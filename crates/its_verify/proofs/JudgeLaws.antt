@@ -14,7 +14,7 @@ use Rattle.its_plain.specs.Machine.{Machine}
 use Rattle.its_plain.specs.Operator.{Block, Refuses, Does, Quits}
 use Rattle.its_plain.specs.Operator as operator
 use Rattle.its_plain.specs.Transcript.{Fate, Ended, Open, Refused, TooLong, Walk, walk_after, next_line}
-use Rattle.its_plain.specs.Transcript.Turns.{turn_after, turns_asked, ticks_asked}
+use Rattle.its_plain.specs.Transcript.Turns.{turn_after, turn_kept, turns_asked, ticks_asked}
 use Rattle.its_plain.proofs.RunLaws.{PacedOn, TurnBy, TurnsOn, LinedOn, Run}
 use Rattle.its_verify.specs.Lines.{Said, is_peek, says}
 use Rattle.its_verify.specs.Letters.{paced, ticked, ticks_in}
@@ -241,8 +241,8 @@ From v last es texts = Along [] (Run v last es) texts
 pub right_judged : (es : List Item) (v : Walk) (last : ℕ) → Right (From v last es) (judged v last es)
 right_judged [] v last = right_known [] (Run v last []) Open (refl, refl) (λ lines f h. h.0)
 right_judged (Read e ∷ es) v last =
-    right_gone v (lined v.machine v.block e) (λ w. Turns (turns_asked e) (ticks_asked e) w last (λ x s. Run x s es))
-    (λ w. turned (turns_asked e) (ticks_asked e) w last (λ x s. judged x s es))
-    (λ w. right_turns (turns_asked e) (ticks_asked e) w last (λ x s. Run x s es) (λ x s. judged x s es) (λ x s. right_judged es x s))
+    right_gone v (lined v.machine v.block e) (λ w. Turns (turns_asked e) (ticks_asked e) w (turn_kept last e) (λ x s. Run x s es))
+    (λ w. turned (turns_asked e) (ticks_asked e) w (turn_kept last e) (λ x s. judged x s es))
+    (λ w. right_turns (turns_asked e) (ticks_asked e) w (turn_kept last e) (λ x s. Run x s es) (λ x s. judged x s es) (λ x s. right_judged es x s))
 right_judged (Unread r ∷ es) v last = right_known (printed.Refused v.line r ∷ []) (Run v last (Unread r ∷ es)) Refused (refl, refl) (λ lines f h. h.0)
 right_judged (Beyond ∷ es) v last = right_known [] (Run v last (Beyond ∷ es)) TooLong (refl, refl) (λ lines f h. h.0)

@@ -29,6 +29,7 @@ use Rattle.its_verify.proofs.TranscriptReaderLaws.{fails_here, at_line_on, lacks
 -- TICK and RUN are outside any block of lines
 plain_spot : (x : Spot) → spot_place x ≡ places.Plain → x ≡ spots.Plain
 plain_spot spots.Plain e = refl
+plain_spot (spots.System s names) e = cc
 plain_spot (spots.Load s) e = cc
 plain_spot (spots.File names) e = cc
 

@@ -8,7 +8,7 @@ use Rattle.its_print.specs.Printing.{Line, Refused}
 use Rattle.its_plain.specs.Operator.Lines.{Lined, Done, Peeks, lined}
 use Rattle.its_plain.specs.Operator.{Refuses, Does, Ticks, Quits}
 use Rattle.its_plain.specs.Transcript.{Walk, at_start, walk_after, next_line}
-use Rattle.its_plain.specs.Transcript.Turns.{turn_after, highest, turns_asked, ticks_asked}
+use Rattle.its_plain.specs.Transcript.Turns.{turn_after, highest, turn_kept, turns_asked, ticks_asked}
 use Rattle.its_reader.specs.TextLines.{lines_in}
 use Rattle.its_verify.specs.Lines.{is_peek, says}
 use Rattle.its_verify.specs.Letters.{if_so, ticked}
@@ -73,7 +73,7 @@ turned (suc n) q v last next = turned_by q v (turn_after v.machine last) (λ w s
 abbrev pub judged : Walk → ℕ → List Item → Ruling
 judged v last [] = at_end
 judged v last (Read e ∷ es) =
-    gone v (lined v.machine v.block e) (λ w. turned (turns_asked e) (ticks_asked e) w last (λ x s. judged x s es))
+    gone v (lined v.machine v.block e) (λ w. turned (turns_asked e) (ticks_asked e) w (turn_kept last e) (λ x s. judged x s es))
 judged v last (Unread r ∷ es) = expects (Refused v.line r ∷ []) at_end
 judged v last (Beyond ∷ es) = at_end
 

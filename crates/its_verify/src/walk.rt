@@ -9,7 +9,7 @@ ghost use Rattle.its_session.specs.Events.{events_of, most_lines, place_after};
 ghost use Rattle.its_session.specs.Fits.{EventFits};
 ghost use Rattle.its_plain.specs.Operator.{Block, no_block};
 ghost use Rattle.its_plain.specs.Transcript.{Walk};
-ghost use Rattle.its_plain.specs.Transcript.Turns.{ticks_asked, turns_asked};
+ghost use Rattle.its_plain.specs.Transcript.Turns.{ticks_asked, turn_kept, turns_asked};
 ghost use Rattle.its_direct.specs.Events.{MayStand, spot_place};
 ghost use Rattle.its_verify.specs.Finds.{Found as IsFound, Judges, ReadsOut};
 
@@ -23,7 +23,7 @@ use super::verifier::Verifier;
 use its_direct::Spot;
 use its_io::{Failed, SafeSource, Source};
 use its_reader::{Found, Items, Texts};
-use its_records::Event;
+use its_records::{Event, StateLine};
 use its_session::MOST_LINES;
 use its_word::Slot;
 use std::alloc::Global;
@@ -173,6 +173,7 @@ impl Verifier {
         if let Some(outcome) = self.line(src, number, event)? {
             return Ok(Some(outcome));
         }
+        self.last = turn_kept(self.last, event);
         self.turns_of(src, event)
     }
 
@@ -193,5 +194,17 @@ impl Verifier {
             Event::Run { n, q } => self.turns(src, *n, *q),
             _ => Ok(None),
         }
+    }
+}
+
+/// The slot that counts as that of the last turn after a line: TURN names it.
+fn turn_kept(last: Slot, event: &Event) -> Slot
+    ensures { result ≡ turn_kept last event.now }
+{
+    match event {
+        Event::Restore {
+            line: StateLine::Turn { s },
+        } => *s,
+        _ => last,
     }
 }

@@ -4,55 +4,64 @@ use Rattle.std.specs.Io.KnownBytes.{Appends}
 use Rattle.its_asm.specs.Assembly.{assembly}
 use Rattle.its_asm_command.specs.Past.{runs_past}
 use Rattle.its_asm_command.specs.Written.{assembly_text, lines_text}
+use Rattle.its_session.specs.Events.{events_of}
+use Rattle.its_stepped.specs.Lines.{stepped}
 use Rattle.its_verify.specs.Rulings.{Yes}
 use Rattle.its_verify.specs.Verified.{Answer, Judged, answer_text}
 use Rattle.its_top.specs.Commands.{IfGenerates}
 use Rattle.its_top.specs.Generating.{generated_text}
+use Rattle.its_top.specs.Saving.{save_by}
 use Rattle.its_top.proofs.CutLaws.{answer_by}
-use Rattle.its_top.specs.Outcomes.{Begins, OfRun, OfCheck, OfVerify, OfAsm, OfGen, OfNoCommand, RunSays, CheckSays, VerifySays, AsmSays, usage}
+use Rattle.its_top.specs.Outcomes.{Begins, OfRun, OfCheck, OfVerify, OfAsm, OfGen, OfNoCommand, OfSave, RunSays, CheckSays, VerifySays, AsmSays, SaveSays, usage}
 use Rattle.its_top.specs.declared.commands.words.Command.{Command}
 use Rattle.its_top.specs.declared.commands.words.Command.TheVariants as commands
 use Rattle.its_top.specs.declared.commands.status.Status.{Status}
 use Rattle.its_top.specs.declared.commands.status.Status.TheVariants as statuses
-use Rattle.its_web.specs.Answers.{asm_text, code_of, status_given, to_write, Runs, Checks, Judges, Assembles, Generates, Says, Answers, Given}
+use Rattle.its_web.specs.Answers.{asm_text, code_of, status_given, to_write, Runs, Checks, Judges, Assembles, Generates, Restarts, Says, Answers, Given}
 
 -- what the program says, of a source of these bytes and a sink that has got those that were written
 module _ (st : Status) (bytes written : List ℕ) (left rest old new : Option (List ℕ)) (l : left ≡ Some bytes) (o : old ≡ Some [])
     (w : new ≡ Some written) where
   said : (c : Option Command) → (c ≡ Some commands.Run → OfRun st left rest old new) → (c ≡ Some commands.Check → OfCheck st left rest old new)
       → IfGenerates c (λ k. OfGen k st left rest old new) → (c ≡ Some commands.Verify → OfVerify st left rest old new)
-      → (c ≡ Some commands.Asm → OfAsm st left rest old new) → Says c bytes written st
-  said (Some commands.Run) run check gen verify asm = record {
+      → (c ≡ Some commands.Asm → OfAsm st left rest old new) → (c ≡ Some commands.Save → OfSave st left rest old new) → Says c bytes written st
+  said (Some commands.Run) run check gen verify asm save = record {
     rest = rest;
     says = subst (λ (x : Option (List ℕ)). RunSays st bytes rest x (Some written)) o
         (subst (λ (x : Option (List ℕ)). RunSays st bytes rest old x) w
         (subst (λ (x : Option (List ℕ)). IfSome x (λ b. RunSays st b rest old new)) l (run refl).says));
   }
-  said (Some commands.Check) run check gen verify asm = record {
+  said (Some commands.Check) run check gen verify asm save = record {
     rest = rest;
     says = subst (λ (x : Option (List ℕ)). CheckSays st bytes rest x (Some written)) o
         (subst (λ (x : Option (List ℕ)). CheckSays st bytes rest old x) w
         (subst (λ (x : Option (List ℕ)). IfSome x (λ b. CheckSays st b rest old new)) l (check refl).says));
   }
-  said (Some commands.Verify) run check gen verify asm = record {
+  said (Some commands.Verify) run check gen verify asm save = record {
     rest = rest;
     says = subst (λ (x : Option (List ℕ)). VerifySays st bytes rest x (Some written)) o
         (subst (λ (x : Option (List ℕ)). VerifySays st bytes rest old x) w
         (subst (λ (x : Option (List ℕ)). IfSome x (λ b. VerifySays st b rest old new)) l (verify refl).says));
   }
-  said (Some commands.Asm) run check gen verify asm = record {
+  said (Some commands.Asm) run check gen verify asm save = record {
     rest = rest;
     says = subst (λ (x : Option (List ℕ)). AsmSays st bytes rest x (Some written)) o
         (subst (λ (x : Option (List ℕ)). AsmSays st bytes rest old x) w
         (subst (λ (x : Option (List ℕ)). IfSome x (λ b. AsmSays st b rest old new)) l (asm refl).says));
   }
-  said (Some (commands.Gen k)) run check gen verify asm = record {
+  said (Some commands.Save) run check gen verify asm save = record {
+    rest = rest;
+    says = subst (λ (x : Option (List ℕ)). SaveSays st bytes rest x (Some written)) o
+        (subst (λ (x : Option (List ℕ)). SaveSays st bytes rest old x) w
+        (subst (λ (x : Option (List ℕ)). IfSome x (λ b. SaveSays st b rest old new)) l (save refl).says));
+  }
+  said (Some (commands.Gen k)) run check gen verify asm save = record {
     rest = rest;
     says = subst (λ (x : Option (List ℕ)). OfGen k st x rest (Some []) (Some written)) l
         (subst (λ (x : Option (List ℕ)). OfGen k st left rest x (Some written)) o
         (subst (λ (x : Option (List ℕ)). OfGen k st left rest old x) w gen));
   }
-  said None run check gen verify asm = tt
+  said None run check gen verify asm save = tt
 
 -- what was written is the first part of what is to be written
 record Starts (all written : List ℕ) : Type 0 where
@@ -124,6 +133,18 @@ by_asm statuses.NoMemory bytes written r m u f = none_starts _ written (m refl)
 by_asm statuses.Usage bytes written r m u f = absurd (u refl)
 by_asm statuses.ReadFault bytes written r m u f = absurd (f refl)
 
+by_save : (st : Status) (bytes written : List ℕ) → Restarts bytes written st → (st ≡ statuses.NoMemory → written ≡ []) → st ≢ statuses.Usage
+    → st ≢ statuses.ReadFault → Starts (to_write (Some commands.Save) bytes) written
+by_save statuses.Done bytes written r m u f = whole_starts _ written (r.says.done refl).wrote
+by_save statuses.Refused bytes written r m u f =
+    let d = r.says.refused refl in
+    whole_starts _ written (d.wrote ∙ sym (ap (save_by (events_of bytes) (stepped (events_of bytes)).lines) d.refused))
+by_save statuses.TooLong bytes written r m u f = none_starts _ written (r.says.too_long refl).wrote
+by_save statuses.WriteFault bytes written r m u f = begun_starts _ written (r.says.begun refl)
+by_save statuses.NoMemory bytes written r m u f = none_starts _ written (m refl)
+by_save statuses.Usage bytes written r m u f = absurd (u refl)
+by_save statuses.ReadFault bytes written r m u f = absurd (f refl)
+
 by_gen : (k : ℕ) (st : Status) (bytes written : List ℕ) → Generates k bytes written st → (st ≡ statuses.NoMemory → written ≡ [])
     → Starts (to_write (Some (commands.Gen k)) bytes) written
 by_gen k st bytes written r m = go r.says.ends
@@ -152,6 +173,7 @@ module _ (st : Status) (bytes written : List ℕ) (left rest old new : Option (L
   starts (Some commands.Check) command says none = by_check st bytes written says unwritten (λ e. absurd (let k = command e in cc)) safe
   starts (Some commands.Verify) command says none = by_verify st bytes written says unwritten (λ e. absurd (let k = command e in cc)) safe
   starts (Some commands.Asm) command says none = by_asm st bytes written says unwritten (λ e. absurd (let k = command e in cc)) safe
+  starts (Some commands.Save) command says none = by_save st bytes written says unwritten (λ e. absurd (let k = command e in cc)) safe
   starts (Some (commands.Gen k)) command says none = by_gen k st bytes written says unwritten
   starts None command says none =
       by_none st bytes written left rest (subst (λ (x : Option (List ℕ)). OfNoCommand st left rest x (Some written)) o
@@ -232,11 +254,13 @@ pub obeyed : (c : Option Command) (st : Status) (n count : ℕ) (bytes written o
     → Given n st written count out → left ≡ Some bytes → old ≡ Some [] → new ≡ Some written
     → (c ≡ Some commands.Run → OfRun st left rest old new) → (c ≡ Some commands.Check → OfCheck st left rest old new)
     → IfGenerates c (λ k. OfGen k st left rest old new) → (c ≡ Some commands.Verify → OfVerify st left rest old new)
-    → (c ≡ Some commands.Asm → OfAsm st left rest old new) → (c ≡ None → OfNoCommand st left rest old new)
+    → (c ≡ Some commands.Asm → OfAsm st left rest old new) → (c ≡ Some commands.Save → OfSave st left rest old new)
+    → (c ≡ None → OfNoCommand st left rest old new)
     → (st ≡ statuses.Usage → c ≡ None) → (st ≡ statuses.NoMemory → new ≡ old) → st ≢ statuses.ReadFault → Answers c n bytes count out
-obeyed c st n count bytes written out left rest old new g l o w run check gen verify asm none command memory safe = record {
+obeyed c st n count bytes written out left rest old new g l o w run check gen verify asm save none command memory safe = record {
   within = g.within;
-  says = says_by c st bytes written (take count out) (status_given n) g.bytes (said st bytes written left rest old new l o w c run check gen verify asm);
+  says = says_by c st bytes written (take count out) (status_given n) g.bytes
+      (said st bytes written left rest old new l o w c run check gen verify asm save);
   usage = λ e.
       let u = usage_given st n (take count out) written g.bytes e in
       let c_is = command u.0 in
@@ -244,7 +268,8 @@ obeyed c st n count bytes written out left rest old new g l o w run check gen ve
   no_command = λ e. no_command_code st n g.answer (none e).ends;
   nothing = g.nothing;
   short = λ e. short_by (to_write c bytes) written out (g.short e)
-      (starts st bytes written left rest old new o w memory safe c command (said st bytes written left rest old new l o w c run check gen verify asm) none);
+      (starts st bytes written left rest old new o w memory safe c command
+      (said st bytes written left rest old new l o w c run check gen verify asm save) none);
   statuses = in_range st n g.answer safe;
 }
 

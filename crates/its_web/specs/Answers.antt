@@ -13,7 +13,8 @@ use Rattle.its_asm_command.specs.Past.{runs_past}
 use Rattle.its_asm_command.specs.Written.{assembly_text}
 use Rattle.its_top.specs.Checking.{checked, checked_text}
 use Rattle.its_top.specs.Generating.{generated_text}
-use Rattle.its_top.specs.Outcomes.{RunSays, CheckSays, VerifySays, AsmSays, OfGen, usage}
+use Rattle.its_top.specs.Outcomes.{RunSays, CheckSays, VerifySays, AsmSays, SaveSays, OfGen, usage}
+use Rattle.its_top.specs.Saving.{save_text}
 use Rattle.its_top.specs.declared.commands.words.Command.{Command}
 use Rattle.its_top.specs.declared.commands.words.Command.TheVariants as commands
 use Rattle.its_top.specs.declared.commands.status.Status.{Status}
@@ -69,6 +70,11 @@ pub record Assembles (bytes written : List ℕ) (status : Status) : Type 0 where
   pub rest : Option (List ℕ)
   pub says : AsmSays status bytes rest (Some []) (Some written)
 
+-- of `save`
+pub record Restarts (bytes written : List ℕ) (status : Status) : Type 0 where
+  pub rest : Option (List ℕ)
+  pub says : SaveSays status bytes rest (Some []) (Some written)
+
 -- of `gen` with so many rounds
 pub record Generates (n : ℕ) (bytes written : List ℕ) (status : Status) : Type 0 where
   pub rest : Option (List ℕ)
@@ -80,6 +86,7 @@ Says (Some commands.Run) bytes written st = Runs bytes written st
 Says (Some commands.Check) bytes written st = Checks bytes written st
 Says (Some commands.Verify) bytes written st = Judges bytes written st
 Says (Some commands.Asm) bytes written st = Assembles bytes written st
+Says (Some commands.Save) bytes written st = Restarts bytes written st
 Says (Some (commands.Gen n)) bytes written st = Generates n bytes written st
 Says None bytes written st = Unit {0}
 
@@ -94,6 +101,7 @@ to_write (Some commands.Run) bytes = text (stepped (events_of bytes)).lines
 to_write (Some commands.Check) bytes = checked_text (checked (events_of bytes))
 to_write (Some commands.Verify) bytes = answer_text (verified bytes)
 to_write (Some commands.Asm) bytes = asm_text (runs_past bytes) (assembly bytes)
+to_write (Some commands.Save) bytes = save_text (events_of bytes)
 to_write (Some (commands.Gen n)) bytes = generated_text n
 to_write None bytes = usage
 

@@ -4,9 +4,9 @@
 //!
 //! Proved of `its_call`: the contract says of the bytes in `out` what `its_top::its` says of what
 //! it writes, for each command and each status that comes with bytes (`run`, `check`, `generate`,
-//! `verify`, `asm`, `usage`). Otherwise nothing is given (`nothing`). The answer is 4 only if what
-//! the program is to write is longer than `out` (`short`), and 7 only if a word is not UTF-8
-//! (`text`). No clause says when 5 occurs.
+//! `verify`, `asm`, `save`, `usage`). Otherwise nothing is given (`nothing`). The answer is 4 only
+//! if what the program is to write is longer than `out` (`short`), and 7 only if a word is not
+//! UTF-8 (`text`). No clause says when 5 occurs.
 //!
 //! Tests: its_web/src/tests.rt.
 #![tactic(auto)]
@@ -16,7 +16,7 @@ ghost use Rattle.std.specs.Str.{IsUtf8};
 ghost use Rattle.its_top.specs.Commands.{asked, IfGenerates};
 ghost use Rattle.its_top.specs.Outcomes.{usage};
 ghost use Rattle.its_top.specs.declared.commands.words.Command.TheVariants as commands;
-ghost use Rattle.its_web.specs.Answers.{code_of, gives, status_given, to_write, Answers, Assembles, Checks, Generates, Given, Judges, Runs};
+ghost use Rattle.its_web.specs.Answers.{code_of, gives, status_given, to_write, Answers, Assembles, Checks, Generates, Given, Judges, Restarts, Runs};
 ghost use Rattle.its_web.specs.Words.{words_of, command_in};
 
 #[cfg(test)]
@@ -55,6 +55,7 @@ pub extern "C" fn its_call(
     ensures generate { IfGenerates (command_in command.now number.now) (λ n. IfSome (status_given result) (Generates n input.now (take count.new out.new))) }
     ensures verify { command_in command.now number.now ≡ Some commands.Verify → IfSome (status_given result) (Judges input.now (take count.new out.new)) }
     ensures asm { command_in command.now number.now ≡ Some commands.Asm → IfSome (status_given result) (Assembles input.now (take count.new out.new)) }
+    ensures save { command_in command.now number.now ≡ Some commands.Save → IfSome (status_given result) (Restarts input.now (take count.new out.new)) }
     ensures usage { result ≡ 1 → (take count.new out.new ≡ usage) × (command_in command.now number.now ≡ None) }
     ensures no_command { command_in command.now number.now ≡ None → ((result ≡ 1) ⊎ (result ≡ 4)) ⊎ ((result ≡ 5) ⊎ (result ≡ 7)) }
     ensures nothing { status_given result ≡ None → count.new ≡ 0 }

@@ -11,6 +11,9 @@ const FIRST: &str =
 
 const FIRST_OUT: &str = "J 0\nT 0 2*\nE 0 000200 000000000005\n";
 
+/// What `save` writes of a session without lines.
+const EMPTY: &str = "SYSTEM 1\nCLOCK 0\nREADY\n";
+
 /// A call with so much room gives this answer and these bytes.
 fn gives(
     alloc: Global,
@@ -49,8 +52,8 @@ fn calls(rt: HostRuntime) -> Result<(), Fail> {
     gives(alloc, &rt, (b"run", ""), "TICK 0\n", 10, (4, ""))?;
     gives(alloc, &rt, (b"check", ""), FIRST, 5, (0, "OK 6\n"))?;
     gives(alloc, &rt, (b"check", ""), FIRST, 4, (4, ""))?;
-    gives(alloc, &rt, (b"gen", "123456"), "", 70, (1, USAGE))?;
-    gives(alloc, &rt, (b"gen", "\u{e9}"), "", 70, (1, USAGE))?;
+    gives(alloc, &rt, (b"gen", "123456"), "", 73, (1, USAGE))?;
+    gives(alloc, &rt, (b"gen", "\u{e9}"), "", 73, (1, USAGE))?;
     gives(
         alloc,
         &rt,
@@ -62,10 +65,12 @@ fn calls(rt: HostRuntime) -> Result<(), Fail> {
     gives(alloc, &rt, (b"check", ""), FIRST, 1000, (0, "OK 6\n"))?;
     gives(alloc, &rt, (b"verify", ""), "END\n", 1000, (0, "YES 0\n"))?;
     gives(alloc, &rt, (b"asm", ""), "\n", 1000, (2, "? 2 CUT\n"))?;
+    gives(alloc, &rt, (b"save", ""), "", 1000, (0, EMPTY))?;
+    gives(alloc, &rt, (b"save", ""), "TICK 0\n", 1000, (2, refused))?;
     gives(alloc, &rt, (b"\xff", ""), FIRST, 1000, (7, ""))?;
     gives(alloc, &rt, (b"gen", "0"), "", 1000, (1, USAGE))?;
     gives(alloc, &rt, (b"run", "1"), FIRST, 1000, (1, USAGE))?;
     Ok(())
 }
 
-const USAGE: &str = "usage: its run | its check | its gen N | its verify | its asm\n";
+const USAGE: &str = "usage: its run | its check | its gen N | its verify | its asm | its save\n";

@@ -1,5 +1,5 @@
-//! The commands of the program: which words are one, and what `check`, `gen`, `verify` and `asm`
-//! write.
+//! The commands of the program: which words are one, and what `check`, `gen`, `verify`, `asm` and
+//! `save` write.
 
 use super::lines::FIRST;
 use its_top::Status;
@@ -8,7 +8,7 @@ use std::alloc::Global;
 use std::test::Fail;
 use test_rows::{obey, times};
 
-const USAGE: &str = "usage: its run | its check | its gen N | its verify | its asm\n";
+const USAGE: &str = "usage: its run | its check | its gen N | its verify | its asm | its save\n";
 
 /// Words that are no command, a row each; the first has none, and the second one without a letter.
 static NO_COMMANDS: &str = "
@@ -93,6 +93,32 @@ EXAM 0 200 1
 J 0
 ? 2 SYNTAX
 = YES 2
+# save = = SYSTEM 1
+CLOCK 0
+READY
+# save = VERSION 2
+CLOCK 5
+END
+x
+= SYSTEM 2
+CLOCK 5
+READY
+# save = @= SYSTEM 1
+CLOCK 0
+JOB 0 U J -
+000001/ 000000000005
+000020/ 000000000000
+000100/ 201040000005 202040000200
+000200/ 000000000005
+REGS RUN 010000000102 000000000000 000000000000 000000000000 000000000000 000000000000 000000000000
+READY
+# save = SYSTEM 2
+CLOCK 5
+READY
+TICK 0
+= ? 4 SYNTAX
+# save = LOAD U J -
+100/ 2010= ? 3 CUT
 ";
 
 /// Assembly texts, and what is written of each.
@@ -287,7 +313,8 @@ static FAULTS: &str =
 STEPS 50
 # check = 2 = - = ReadFault = @= # check = - = 0 = WriteFault = @= # verify = 2 = - = ReadFault = @= # verify = 1 = - = Refused = END
 x= NO 1
-# verify = - = 0 = WriteFault = @= ";
+# verify = - = 0 = WriteFault = @= # save = 2 = - = ReadFault = @= # save = - = 0 = WriteFault = @= # save = - = 1 = WriteFault = @= SYSTEM 1
+";
 
 /// The number of a call that fails; if none does, one that is never made.
 fn failing(text: &str) -> Result<u64, Fail> {

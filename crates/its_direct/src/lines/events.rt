@@ -118,6 +118,7 @@ impl Plain {
             Event::Peek { s } => self.tell_peek(*s),
             Event::Dir { d } => self.tell_dir(*d),
             Event::Show { d, x, y } => self.tell_show(*d, *x, *y),
+            Event::Restore { line } => self.restore(line),
             Event::Tick { .. } => unreachable!(),
             Event::Run { .. } => unreachable!(),
             Event::End => unreachable!(),
@@ -387,6 +388,7 @@ impl Plain {
         match self.place {
             Spot::Load { slot } => slot,
             Spot::Plain => unreachable!(),
+            Spot::System { .. } => unreachable!(),
             Spot::File { .. } => unreachable!(),
         }
     }
@@ -399,13 +401,14 @@ impl Plain {
         match self.place {
             Spot::File { names } => (names[0], names[1], names[2]),
             Spot::Plain => unreachable!(),
+            Spot::System { .. } => unreachable!(),
             Spot::Load { .. } => unreachable!(),
         }
     }
 }
 
 /// A line without an answer.
-fn answered(r: Result<(), Refusal>) -> Result<Answer, Refusal>
+pub fn answered(r: Result<(), Refusal>) -> Result<Answer, Refusal>
     ensures { result ≡ answered r }
 {
     match r {

@@ -3,7 +3,7 @@
 use Rattle.std.specs.Prelude.{ℕ, Option, Some, None, List, [], ◌∷◌, Result, Ok, Err, take}
 use Rattle.its_records.specs.declared.session.Event.{Event}
 use Rattle.its_records.specs.declared.session.Event.TheVariants as events
-use Rattle.its_records.specs.declared.session.Event.TheVariants.{Nothing, Version, Load, Words, ReadOnly, Symbol, Go, File, Append, EndFile, Tick, Run, TypeIn, Drain, Clock, Int, Exam, State, Deposit, Stop, Cont, Peek, Dir, Show, End}
+use Rattle.its_records.specs.declared.session.Event.TheVariants.{Nothing, Version, Load, Words, ReadOnly, Symbol, Go, File, Append, EndFile, Tick, Run, TypeIn, Drain, Clock, Int, Exam, State, Deposit, Stop, Cont, Peek, Dir, Show, Restore, End}
 use Rattle.its_records.specs.declared.session.Reason.{Reason}
 use Rattle.its_records.specs.declared.session.Reason.TheVariants.{NoJob}
 use Rattle.its_records.specs.declared.show.JobShow.{JobShow}
@@ -18,6 +18,7 @@ use Rattle.its_plain.specs.Operator.Version.{with_version}
 use Rattle.its_plain.specs.Operator.Consoles.{with_typed, dropped, after_drain}
 use Rattle.its_plain.specs.Operator.Files.{with_file_made, with_words_added, files_in, listing, file_shown}
 pub use Rattle.its_plain.specs.Operator.State.{by_clock}
+use Rattle.its_plain.specs.Operator.State.{restored}
 use Rattle.its_plain.specs.Operator.Jobs.{after_load, with_words_loaded, with_page_protected, after_go, after_int, after_stop, after_cont, on_registers, examined, state_shown, after_deposit}
 
 -- lines that show something of a job
@@ -73,6 +74,7 @@ operate m b (Cont s) = disturbs s b (on_registers m s after_cont)
 operate m b (Peek s) = Does m [] nobody b
 operate m b (Dir d) = Does m (listing d (files_in d m.files)) nobody b
 operate m b (Show d x y) = shows m b (file_shown m d x y)
+operate m b (Restore line) = restored m b line
 operate m b End = Quits
 
 -- PEEK shows how far a job is inside a call. The plain machine has no calls in progress, so the

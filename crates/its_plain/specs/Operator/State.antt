@@ -23,7 +23,7 @@ use Rattle.its_plain.specs.Machine.Own.{names_of, on_channel}
 use Rattle.its_plain.specs.Machine.Change.{on_console, on_link, in_job, superiors, console_in, channel_in, effect}
 use Rattle.its_plain.specs.Call.Basic.{is_shut, longest_period}
 use Rattle.its_plain.specs.Call.File.{has_file, is_full}
-use Rattle.its_plain.specs.Operator.{Block, no_block, Operated, Refuses, Does, nobody, only, disturbs, quietly, and_then}
+use Rattle.its_plain.specs.Operator.{Block, no_block, Operated, Refuses, Does, nobody, disturbs, quietly, and_then}
 use Rattle.its_plain.specs.Operator.Clock.{due, after_clock}
 use Rattle.its_plain.specs.Operator.Files.{with_file_made, with_words_added, channels_of}
 use Rattle.its_plain.specs.Operator.Jobs.{new_job, with_words_loaded, with_page_protected, on_registers}

@@ -15,15 +15,15 @@ pub record Turn : Type 0 where
   pub slot : ℕ
 
 -- the turns of the RUN on line k of the session, among these moments
-abbrev pub turn_at : Bool → Machine → Deed → List Turn → List Turn
-turn_at true m (Turns s) ts = record { machine = m; slot = s } ∷ ts
-turn_at true m (Lines e) ts = ts
-turn_at true m (Letter i p) ts = ts
-turn_at false m d ts = ts
+abbrev pub with_turn : Bool → Machine → Deed → List Turn → List Turn
+with_turn true m (Turns s) ts = record { machine = m; slot = s } ∷ ts
+with_turn true m (Lines e) ts = ts
+with_turn true m (Letter i p) ts = ts
+with_turn false m d ts = ts
 
 abbrev pub turns_on : ℕ → List Moment → List Turn
 turns_on k [] = []
-turns_on k (t ∷ ts) = turn_at (t.line == k) t.machine t.deed (turns_on k ts)
+turns_on k (t ∷ ts) = with_turn (t.line == k) t.machine t.deed (turns_on k ts)
 
 -- a slot's job runs at each of these choices
 abbrev pub RunsAt : ℕ → List Turn → Type 0

@@ -14,7 +14,7 @@ use Rattle.its_plain.specs.Machine.{Machine}
 use Rattle.its_plain.specs.Operator.{Block, Refuses, Does, Ticks, Quits}
 use Rattle.its_plain.specs.Operator.Lines.{Lined, Done, Peeks, lined}
 use Rattle.its_plain.specs.Transcript.{Walk, at_start, after_letter, walk_after, next_line}
-use Rattle.its_plain.specs.Transcript.Turns.{turn_after, highest, turns_asked}
+use Rattle.its_plain.specs.Transcript.Turns.{turn_after, highest, turn_kept, turns_asked}
 
 -- what happens at a moment of a run: a line of the session does something, a turn of RUN goes to a
 -- slot, or a slot has a tick with this letter
@@ -91,9 +91,24 @@ abbrev pub course : Walk → ℕ → List Item → List Line → Course
 course v last [] lines = rests v
 course v last (Read e ∷ es) lines =
     past v e (lined v.machine v.block e) lines
-    (λ w rest. turned (turns_asked e) w last rest (λ x l more. course (next_line x) l es more))
+    (λ w rest. turned (turns_asked e) w (turn_kept last e) rest (λ x l more. course (next_line x) l es more))
 course v last (Unread r ∷ es) lines = rests v
 course v last (Beyond ∷ es) lines = rests v
+
+-- the slot of the last turn after a moment: a turn of RUN is that of its slot, and the line TURN
+-- names one
+abbrev pub turn_at : ℕ → Deed → ℕ
+turn_at last (Lines e) = turn_kept last e
+turn_at last (Turns s) = s
+turn_at last (Letter i p) = last
+
+abbrev pub turn_past : ℕ → List Moment → ℕ
+turn_past last [] = last
+turn_past last (t ∷ ts) = turn_past (turn_at last t.deed) ts
+
+-- the slot of the last turn of a run; the highest one before the first turn
+unfoldable pub last_turn : Course → ℕ
+last_turn u = turn_past highest u.moments
 
 -- the run of a session
 abbrev pub run_of : List Item → List Line → Course

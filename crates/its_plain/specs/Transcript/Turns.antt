@@ -6,6 +6,7 @@ use Rattle.its_robin.specs.Robin.{robin}
 use Rattle.its_word.specs.Limits.{slots}
 use Rattle.its_records.specs.declared.session.Event.{Event}
 use Rattle.its_records.specs.declared.session.Event.TheVariants as events
+use Rattle.its_records.specs.declared.state_line.StateLine.TheVariants as states
 use Rattle.its_plain.specs.Machine.{Whole, Machine}
 
 -- the job of a slot runs
@@ -24,6 +25,11 @@ turn_after m last = robin slots (runs m) last
 -- before the first turn of a session the highest slot counts as the last one
 abbrev pub highest : ℕ
 highest = slots - 1
+
+-- the slot that counts as that of the last turn after a line: TURN names it
+abbrev pub turn_kept : ℕ → Event → ℕ
+turn_kept last (events.Restore (states.Turn s)) = s
+turn_kept last _ = last
 
 -- RUN n q asks for n turns of q ticks, and no other line asks for any
 abbrev pub turns_asked : Event → ℕ

@@ -43,7 +43,7 @@ module _ (h : Whole → Whole) (core : (q : Whole) → (h q).core ≡ q.core) (s
   owed_moves (owed.Link ∷ os) q = owed_moves os q
   owed_moves (owed.Free ∷ os) q = owed_moves os q
 
-  frame_moves : (f : Option Frame) (q : Whole) → seen f (h q) ≡ h (seen f q)
+  pub frame_moves : (f : Option Frame) (q : Whole) → seen f (h q) ≡ h (seen f q)
   unfolding seen
   frame_moves (Some (Holding f)) q = stores (debts f.ask f.owes) q
   frame_moves (Some (Waiting f)) q = stores (debts f.ask f.owes) q

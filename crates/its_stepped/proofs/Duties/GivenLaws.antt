@@ -35,7 +35,7 @@ use Rattle.its_stepped.proofs.Committing.EffectLaws.{superiors_plain}
 use Rattle.its_stepped.proofs.Frame.OverLaws.{can_stored, debts_alike}
 use Rattle.its_stepped.proofs.Ticking.TickLaws.{seen_at, found, Trying, trying_holding, trying_waiting}
 use Rattle.its_stepped.proofs.Keeping.ForestLaws.{forest_below, apart_job}
-use Rattle.its_stepped.proofs.Lining.LineLaws.{free_frame}
+use Rattle.its_stepped.proofs.Lining.LiftLaws.{free_frame}
 use Rattle.its_stepped.proofs.Committing.TargetLaws.{target_inferior}
 use Rattle.its_stepped.proofs.Committing.TestLaws.{fails_duty}
 use Rattle.its_stepped.proofs.Duties.CallDuties.{hang_duty, sleep_duty, dismiss_duty, realt_duty}

@@ -7,6 +7,9 @@ use Rattle.std.proofs.lemmas.Bool.{leb-true, leb-false, ltb-false}
 use Rattle.its_word.specs.Limits.{slots}
 use Rattle.its_records.specs.declared.calls.Ask.{Ask}
 use Rattle.its_records.specs.declared.session.Event.{Event}
+use Rattle.its_records.specs.declared.session.Event.TheVariants as events
+use Rattle.its_records.specs.declared.state_line.StateLine.{StateLine}
+use Rattle.its_records.specs.declared.state_line.StateLine.TheVariants as states
 use Rattle.its_frame.specs.declared.change.Change.{Change}
 use Rattle.its_frame.specs.declared.change.Change.TheVariants as changes
 use Rattle.its_frame.specs.declared.decision.Decision.{Decision}
@@ -18,18 +21,21 @@ use Rattle.its_plain.specs.Call.Step.{with_held, acted, decision, informs, step}
 use Rattle.its_plain.specs.Machine.Change.{in_job, is_gone, job_after_removal, after_removal, superiors, inferior, with_alarm, effect, effects}
 use Rattle.its_plain.specs.Call.Decide.{reach}
 use Rattle.its_plain.specs.Unit.Interrupt.{delivered}
-use Rattle.its_plain.specs.Machine.{Shut, Linked, Whole, Machine, no_machine, with_new}
+use Rattle.its_plain.specs.Machine.{Chan, Shut, Reads, On, Linked, Whole, Machine, no_machine, with_new}
 use Rattle.its_plain.specs.Operator.{Block, Does}
 use Rattle.its_plain.specs.Operator.Lines.{Done, lined}
 use Rattle.its_plain.specs.Machine.Alarm.{is_due, time_after, alarm_renewed}
 use Rattle.its_plain.specs.Operator.Clock.{alarm_in, due, after_alarm_if, at_clock}
-use Rattle.its_plain.specs.Machine.Own.{on_channel}
-use Rattle.its_plain.proofs.CallLineLaws.{AlarmsKept, Same, Went, LineKeepsBy, line_keeps}
+use Rattle.its_plain.specs.Machine.Own.{names_of, on_channel}
+use Rattle.its_plain.specs.Operator.State.{on_tty, under}
+use Rattle.its_plain.proofs.CallLineLaws.{AlarmsKept, Same, Went, Restores, job_keeps, Leaves, line_does}
+use Rattle.its_plain.proofs.RestoredLaws.{Opens, empty_draft, words_appended}
 use Rattle.its_plain.proofs.StepLaws.{AllOf, step_has}
 use Rattle.its_stepped.specs.Alarmed.{Coming, Periodic, Alarmed}
 use Rattle.its_stepped.specs.Forest.{Forest}
 use Rattle.its_stepped.proofs.Duties.FitLaws.{decision_fits}
 use Rattle.its_stepped.proofs.Keeping.ForestLaws.{forest_few, ChangeFits, AllFit, FitsAll, informs_fit}
+use Rattle.its_stepped.proofs.Keeping.RestoredLaws.{opens_end, coming}
 
 -- one job
 abbrev pub AlarmedBy : ℕ → Option Whole → Type 0
@@ -181,7 +187,39 @@ alarms_alarmed m n (Same clock kept) forest h = record {
 }
 alarms_alarmed m n (Went c later is) forest h = subst Alarmed (sym is) (clock_alarmed m c forest h)
 
+-- a line of the state part
+opened_alarmed : (m n : Machine) (s i : ℕ) (x : Chan) → Opens m s i x n → Alarmed m → Alarmed n
+opened_alarmed m n s i x f a = subst Alarmed (sym f.is) (job_alarmed m s (on_channel i (λ c. x)) (λ q. refl) a)
+
+appended_alarmed : (m : Machine) (s i : ℕ) (ws : List ℕ) → Alarmed m → Alarmed (effects (words_appended i ws) s m)
+appended_alarmed m s i [] a = a
+appended_alarmed m s i (w ∷ ws) a =
+    appended_alarmed (effect (changes.Append i w) s m) s i ws (effect_alarmed (changes.Append i w) s m tt a)
+
+restored_alarmed : (m n : Machine) (line : StateLine) → Restores m line n → Forest m → Alarmed m → Alarmed n
+restored_alarmed m n (states.Job s u j console) f d a = alarms_alarmed m n (job_keeps m n s u j console f).alarms d a
+restored_alarmed m n (states.Alarm s period next) f d a =
+    subst Alarmed (sym f.is) (effect_alarmed (changes.Arm (Some (period, next))) s m (coming m n s period next f) a)
+restored_alarmed m n (states.Under s t) f d a = subst Alarmed (sym f.is) (job_alarmed m s (under t) (λ q. refl) a)
+restored_alarmed m n (states.Tty s i write) f d a = opened_alarmed m n s i (on_tty write) f a
+restored_alarmed m n (states.Disk s i d1 x y at) f d a = opened_alarmed m n s i (Reads (names_of d1 x y) at) f a
+restored_alarmed m n (states.Draft s i d1 x y) f d a = opened_alarmed m n s i (empty_draft (names_of d1 x y)) f a
+restored_alarmed m n (states.Usr s i t write at) f d a = opened_alarmed m n s i (On t write at) f a
+restored_alarmed m n (states.Wrote s i words) f d a = subst Alarmed (sym f.is) (appended_alarmed m s i words.items a)
+restored_alarmed m n (states.Join s i l write x y) f d a =
+    subst Alarmed (sym f.is) (effect_alarmed (changes.Join i l write x y) s m (opens_end m n s i l write x y f) a)
+restored_alarmed m n (states.Sent l words) f d a = subst Alarmed (sym f.is) (jobs_alarmed m _ refl refl a)
+restored_alarmed m n (states.EndShut l write) f d a = subst Alarmed (sym f.is) (jobs_alarmed m _ refl refl a)
+restored_alarmed m n (states.Input c bytes) f d a = subst Alarmed (sym f.is) (jobs_alarmed m _ refl refl a)
+restored_alarmed m n (states.Output c bytes) f d a = subst Alarmed (sym f.is) (jobs_alarmed m _ refl refl a)
+restored_alarmed m n (states.Hold c s) f d a = subst Alarmed (sym f.is) (effect_alarmed (changes.Hold c s) s m f.job a)
+restored_alarmed m n line f d a = alarms_alarmed m n f.alarms d a
+
 -- a line leaves each alarm to come
 pub line_alarmed : (m n : Machine) (b c : Block) (e : Event) (out : List Line) (touched : ℕ → Bool) → Forest m → Alarmed m
     → lined m b e ≡ Done (Does n out touched c) → Alarmed n
-line_alarmed m n b c e out touched forest h is = alarms_alarmed m n (subst (LineKeepsBy m) is (line_keeps m b e)).alarms forest h
+line_alarmed m n b c e out touched forest h is = by e (line_does m n b c e out touched is)
+  where
+    by : (e : Event) → Leaves m e n → Alarmed n
+    by (events.Restore line) x = restored_alarmed m n line x forest h
+    by e x = alarms_alarmed m n x.alarms forest h

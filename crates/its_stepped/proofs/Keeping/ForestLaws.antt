@@ -160,7 +160,7 @@ same_forest m n h d = record {
 }
 
 -- another machine with the same jobs, holders and links
-jobs_forest : (m n : Machine) → n.jobs ≡ m.jobs → n.holders ≡ m.holders → n.version ≡ m.version → n.links ≡ m.links → Forest m → Forest n
+pub jobs_forest : (m n : Machine) → n.jobs ≡ m.jobs → n.holders ≡ m.holders → n.version ≡ m.version → n.links ≡ m.links → Forest m → Forest n
 jobs_forest m n e f v g d = same_forest m n
     (record {
       few = λ k l. ap (λ (jobs : ℕ → Option Whole). jobs k) e ∙ d.few k (subst (λ (i : ℕ). limit_of i ≤ k) v l);
@@ -213,7 +213,7 @@ record Keeps (m : Machine) (s : ℕ) (f : Whole → Whole) : Type 0 where
   lies : Lies m s f
   links : (q : Whole) → m.jobs s ≡ Some q → (i : ℕ) → SameLink (q.channels i) ((f q).channels i)
 
-slot_few : (jobs : ℕ → Option Whole) (s k : ℕ) (f : Whole → Whole) → jobs k ≡ None → on_slot jobs s f k ≡ None
+pub slot_few : (jobs : ℕ → Option Whole) (s k : ℕ) (f : Whole → Whole) → jobs k ≡ None → on_slot jobs s f k ≡ None
 slot_few jobs s k f h = elim (cases_eq k s) [
   | inl e ↦ subst (λ (i : ℕ). jobs i ≡ None → on_slot jobs s f i ≡ None) (sym e) (λ none. on_slot_here jobs s f ∙ ap (option_map f) none) h
   | inr ne ↦ on_slot_other jobs s k f ne ∙ h
@@ -277,7 +277,7 @@ job_forest : (m : Machine) (s : ℕ) (f : Whole → Whole) → Keeps m s f → F
 job_forest m s f h d = placed_forest m s f m.links h.lies (job_joined m s f h.links d.links) d
 
 -- the links alone changed
-links_forest : (m : Machine) (ls : ℕ → Option Pipe) → Joined (record m { links = ls }) → Forest m → Forest (record m { links = ls })
+pub links_forest : (m : Machine) (ls : ℕ → Option Pipe) → Joined (record m { links = ls }) → Forest m → Forest (record m { links = ls })
 links_forest m ls joined d = same_forest m (record m { links = ls })
     (record { few = d.few; tree = λ k. refl; jobs = λ k x. x; channels = d.channels; consoles = d.consoles; holders = d.holders; links = joined }) d
 
@@ -332,6 +332,13 @@ channel_keeps m j n g h k = record {
 
 shut_keeps : (m : Machine) (j : ℕ) → KeepsOn m j (λ c. Shut)
 shut_keeps m j = record { inferior = λ c h. tt; console = λ c h. tt }
+
+-- a channel that is on no link is put to another that fits the job
+pub put_forest : (m : Machine) (s i : ℕ) (x : Chan) → IsUnlinked (channel_in (m.jobs s) i) → IsUnlinked x → OnInferior m s x
+    → OnConsole (console_in (m.jobs s)) x → Forest m
+    → Forest (in_job m s (on_channel i (λ c. x)))
+put_forest m s i x was now inferior console d =
+    job_forest m s _ (channel_keeps m s i (λ c. x) (record { inferior = λ c h. inferior; console = λ c h. console }) (unlinked _ _ was now)) d
 
 -- a change that keeps jobs as they lie: a channel on a job is opened on an inferior, one on a
 -- console if the job has one, a job that exists makes another in a free slot, an inferior is

@@ -4,7 +4,7 @@
 use Rattle.std.specs.Prelude.{if◌then◌else◌, ◌≡◌, ◌≢◌, ◌<◌, ◌⊎◌, ℕ, Bool, true, false, Option, Some, None, option_map, is_some, refl}
 use Rattle.std.proofs.Common.{sym, ◌∙◌, ap, subst, inl, inr}
 use Rattle.std.proofs.lemmas.Bool.{cases_eq, eq-eqb, ne_eqb, or_parts}
-use Rattle.its_records.specs.Links.{most_links, link_end, with_end, is_open, is_alive, end_left, link_left}
+use Rattle.its_records.specs.Links.{most_links, link_end, with_end, is_unopened, is_open, is_alive, end_left, link_left}
 use Rattle.its_records.specs.declared.link.End.{End}
 use Rattle.its_records.specs.declared.link.End.TheVariants.{Unopened, Opened, Closed}
 use Rattle.its_records.specs.declared.link.Link.{Link}
@@ -12,6 +12,7 @@ use Rattle.its_plain.specs.Call.Basic.{channel_at}
 use Rattle.its_plain.specs.Machine.Change.{channel_in, superiors, is_gone, chan_after_removal, job_after_removal, after_removal, on_slot, in_job, link_or_new, with_end_opened, standing_if, after_end_close, on_link, ends_after_removal}
 use Rattle.its_plain.specs.Machine.{Chan, Shut, TtyIn, TtyOut, Reads, Writes, On, Linked, Pipe, Whole, Machine, changed, no_machine}
 use Rattle.its_plain.specs.Machine.Own.{on_channel}
+use Rattle.its_plain.specs.Operator.State.{has_unopened, with_end_closed}
 use Rattle.its_stepped.specs.Forest.{end_at, OnLink, Joined}
 use Rattle.its_stepped.proofs.Committing.ChannelLaws.{at_open}
 use Rattle.its_stepped.proofs.Frame.FrameLaws.{changed_only, on_slot_here, on_slot_other}
@@ -81,6 +82,15 @@ joined_same m n h e d = record {
   ends = λ l k i write is. (h k i).to l write (d.ends l k i write (sym (e l write) ∙ is));
 }
 
+-- a machine with the same jobs, and with each end open at the same slot and channel, or at none
+ends_joined : (m : Machine) (ls : ℕ → Option Pipe) → ((l : ℕ) (write : Bool) → SameEnd (end_at write (m.links l)) (end_at write (ls l))) → Joined m
+    → Joined (record m { links = ls })
+ends_joined m ls h d = record {
+  channels = λ k i. on_link_by (record m { links = ls }) k i (channel_in (m.jobs k) i)
+      (λ l write is. let was = linked_at m k i l write d is in (was.0, (h l write).to k i was.1));
+  ends = λ l k i write is. d.ends l k i write ((h l write).from k i is);
+}
+
 -- one job changed, whose channels are on the links that they were on
 pub job_joined : (m : Machine) (s : ℕ) (f : Whole → Whole)
     → ((q : Whole) → m.jobs s ≡ Some q → (i : ℕ) → SameLink (q.channels i) ((f q).channels i)) → Joined m → Joined (in_job m s f)
@@ -120,6 +130,30 @@ on_link_end m l r f write h = elim (cases_eq r l) [
 
 pub words_joined : (m : Machine) (l : ℕ) (f : Pipe → Pipe) → ((p : Pipe) → (f p).link ≡ p.link) → Joined m → Joined (on_link m l (option_map f))
 words_joined m l f h d = joined_same m (on_link m l (option_map f)) (λ k i. same_link _ _ refl) (λ r write. on_link_end m l r f write h) d
+
+-- an end that nobody has opened is closed
+unopened_is : (e : End) → is_unopened e ≡ true → is_open e ≡ false
+unopened_is Unopened h = refl
+unopened_is (Opened s i) h = cc
+unopened_is Closed h = cc
+
+shut_end : (write w : Bool) (o : Option Pipe) → has_unopened write o ≡ true → SameEnd (end_at w o) (end_at w (option_map (with_end_closed write) o))
+shut_end true true (Some p) h = neither _ _ (unopened_is p.link.writer h) refl
+shut_end false false (Some p) h = neither _ _ (unopened_is p.link.reader h) refl
+shut_end true false (Some p) h = same_end _ _ refl
+shut_end false true (Some p) h = same_end _ _ refl
+shut_end write w None h = cc
+
+pub shut_joined : (m : Machine) (l : ℕ) (write : Bool) → has_unopened write (m.links l) ≡ true → Joined m
+    → Joined (on_link m l (option_map (with_end_closed write)))
+shut_joined m l write h d = ends_joined m _ ends d
+  where
+    ends : (r : ℕ) (w : Bool) → SameEnd (end_at w (m.links r)) (end_at w (changed m.links l (option_map (with_end_closed write) (m.links l)) r))
+    ends r w = elim (cases_eq r l) [
+      | inl at ↦ rw at (subst (λ (o : Option Pipe). SameEnd (end_at w (m.links l)) (end_at w o))
+          (sym (changed_only m.links l (option_map (with_end_closed write) (m.links l))).here) (shut_end write w (m.links l) h))
+      | inr ne ↦ same_end _ _ (ap (end_at w) ((changed_only m.links l (option_map (with_end_closed write) (m.links l))).others r ne))
+    ]
 
 -- a channel of job j is put to something else
 put_other : (o : Option Whole) (i e : ℕ) (c : Chan) → e ≢ i → channel_in (option_map (on_channel i (λ x. c)) o) e ≡ channel_in o e

@@ -11,31 +11,37 @@ use Rattle.its_records.specs.declared.session.Event.{Event}
 use Rattle.its_records.specs.declared.session.Event.TheVariants as events
 use Rattle.its_records.specs.declared.session.Reason.{Reason}
 use Rattle.its_records.specs.declared.show.JobShow.{JobShow}
+use Rattle.its_records.specs.declared.state_line.StateLine.{StateLine}
+use Rattle.its_records.specs.declared.state_line.StateLine.TheVariants as states
+use Rattle.its_frame.specs.declared.change.Change.TheVariants as changes
 use Rattle.its_records.proofs.FreeLaws.{least_empty}
 use Rattle.its_frame.specs.declared.frame.Frame.{Frame}
 use Rattle.its_print.specs.Printing.{Line, listed}
-use Rattle.its_plain.specs.Machine.{File, Symbol, Whole, Machine, with_job, mapped, limit, with_new}
+use Rattle.its_plain.specs.Machine.{File, Symbol, Chan, Reads, On, Linked, Whole, Machine, with_job, mapped, limit, with_new}
 use Rattle.its_plain.specs.Operator.{Block, Refuses, Does, Ticks, Quits, nobody, only, and_then, disturbs, quietly}
 use Rattle.its_plain.specs.Operator.Jobs.{new_job, with_holder, after_load_in, after_load, with_stored, with_core, with_word_loaded_of, with_word_loaded, with_words_stored, words_barred, with_words_loaded_if, with_words_loaded, with_page_protected_in, with_page_protected, on_job, with_registers, on_registers, after_go, after_int, after_stop, after_cont, examined, state_shown, after_deposit_in, after_deposit}
 use Rattle.its_plain.specs.Operator.Lines.{by_load, by_exam, in_a_line, by_state, by_clock, operate, shows, Lined, Done, Peeks, peeked_at, lined}
-use Rattle.its_plain.specs.Machine.Change.{with_protection}
+use Rattle.its_plain.specs.Machine.Change.{in_job, with_protection, with_alarm, effect, effects}
 use Rattle.its_plain.specs.Operator.Symbols.{with_symbol_kept_if, with_symbol_kept_of, with_symbol_kept}
 use Rattle.its_plain.specs.Operator.Version.{with_version}
 use Rattle.its_plain.specs.Operator.Clock.{due, due_slots, after_alarm_if, at_clock, clock_end, after_clock_if, after_clock}
 use Rattle.its_plain.specs.Operator.Consoles.{with_typed, after_drain}
-use Rattle.its_plain.specs.Machine.Own.{names_of}
+use Rattle.its_plain.specs.Machine.Own.{names_of, with_word, on_channel}
 use Rattle.its_plain.specs.Operator.Files.{with_files, with_file_made, with_words_added, file_shown}
+use Rattle.its_plain.specs.Operator.State.{after_registers, with_job_made, with_alarm_set, under, with_superior_set, on_tty, with_tty, with_disk, with_draft, with_words_written, with_usr, with_link, with_words_sent, with_end_shut, with_bytes_waiting, with_holder_set, restored}
 use Rattle.its_plain.proofs.CallLineLaws.{FilesAlone, made_files, added_files}
+use Rattle.its_plain.proofs.RestoredLaws.{OkBy, MakesJob, job_made, SetsAlarm, alarm_set, SetsSuperior, superior_set, Opens, tty_opened, disk_opened, empty_draft, draft_opened, usr_opened, words_appended, WritesWords, words_written, Joins, link_joined, Sends, words_sent, ShutsEnd, end_shut, PutsBytes, bytes_put, SetsHolder, holder_set}
 use Rattle.its_stepped.specs.State.{State, plain}
 use Rattle.its_stepped.specs.Unwind.{unwound, all_unwound, help}
 use Rattle.its_stepped.specs.Sound.{SoundBy, SoundSlot, Sound}
 use Rattle.its_stepped.specs.Lines.{after_calm, with_raw}
-use Rattle.its_stepped.proofs.Frame.FrameLaws.{changed_only}
+use Rattle.its_stepped.proofs.Frame.FrameLaws.{changed_only, on_slot_other}
 use Rattle.its_stepped.proofs.Committing.HelpLaws.{help_sound, help_others}
 use Rattle.its_stepped.proofs.Lining.DueLaws.{due_same, clock_same, Hushed, undue_frame}
 use Rattle.its_stepped.proofs.Unwinding.UnwindLaws.{unwound_sound, unwound_none, unwound_others, all_unwound_plain, all_unwound_sound}
 use Rattle.its_stepped.proofs.Committing.CommitSound.{user_sound}
-use Rattle.its_stepped.proofs.Lining.LineLaws.{free_frame, calmed_hushed}
+use Rattle.its_stepped.proofs.Lining.LiftLaws.{free_frame}
+use Rattle.its_stepped.proofs.Lining.LineLaws.{calmed_hushed}
 
 -- the jobs of all slots but one are the same
 pub record Off (m n : Machine) (s : ℕ) : Type 0 where
@@ -254,11 +260,155 @@ peek_kept : (w : State) (s : ℕ) (o : Option Whole) → KeptBy w w (peeked_at s
 peek_kept w s (Some q) = tt
 peek_kept w s None = tt
 
+-- a line of the state part
+jobs_off : (m n : Machine) (s : ℕ) (f : Whole → Whole) → n ≡ in_job m s f → Off m n s
+jobs_off m n s f is = record { others = λ k ne. ap (λ (x : Machine). x.jobs k) is ∙ on_slot_other m.jobs s k f ne }
+
+opened_off : (m : Machine) (s i : ℕ) (x : Chan) (r : Result Machine Reason) → OkBy (Opens m s i x) r → OffBy m s r
+opened_off m s i x (Ok n) f = jobs_off m n s (on_channel i (λ c. x)) f.is
+opened_off m s i x (Err r) f = tt
+
+alarm_off : (m : Machine) (s period next : ℕ) (r : Result Machine Reason) → OkBy (SetsAlarm m s period next) r → OffBy m s r
+unfolding effect
+alarm_off m s period next (Ok n) f = jobs_off m n s (with_alarm (Some (period, next))) f.is
+alarm_off m s period next (Err r) f = tt
+
+superior_off : (m : Machine) (s t : ℕ) (r : Result Machine Reason) → OkBy (SetsSuperior m s t) r → OffBy m s r
+superior_off m s t (Ok n) f = jobs_off m n s (under t) f.is
+superior_off m s t (Err r) f = tt
+
+appended_off : (m : Machine) (s i : ℕ) (ws : List ℕ) → Off m (effects (words_appended i ws) s m) s
+unfolding effect
+appended_off m s i [] = same_off m s
+appended_off m s i (w ∷ ws) =
+    let first = jobs_off m (effect (changes.Append i w) s m) s (on_channel i (with_word w)) refl in
+    let rest = appended_off (effect (changes.Append i w) s m) s i ws in
+    record { others = λ k ne. rest.others k ne ∙ first.others k ne }
+
+written_off : (m : Machine) (s i : ℕ) (ws : List ℕ) (r : Result Machine Reason) → OkBy (WritesWords m s i ws) r → OffBy m s r
+written_off m s i ws (Ok n) f = subst (λ (x : Machine). Off m x s) (sym f.is) (appended_off m s i ws)
+written_off m s i ws (Err r) f = tt
+
+joined_off : (m : Machine) (s i l : ℕ) (write : Bool) (x y : ℕ) (r : Result Machine Reason) → OkBy (Joins m s i l write x y) r → OffBy m s r
+unfolding effect
+joined_off m s i l write x y (Ok n) f = record {
+  others = λ k ne. ap (λ (z : Machine). z.jobs k) f.is ∙ on_slot_other m.jobs s k (on_channel i (λ c. Linked l write)) ne;
+}
+joined_off m s i l write x y (Err r) f = tt
+
+-- one that is about a file or a draft: the parts of a close are made first
+helped_one : (w : State) (s : ℕ) (b : Block) (r : Result Machine Reason) → Sound w → OffBy (unwound (help w) s).raw s r
+    → KeptBy w (unwound (help w) s) (Done (disturbs s b r))
+helped_one w s b (Ok m) sound off =
+    let one = one_kept (help w) s m (help_sound w sound) off in
+    record { sound = one.sound; spares = λ k h. one.spares k h ∙ (help_others w k).frame }
+helped_one w s b (Err r) sound off = tt
+
+-- one that changes no job
+jobless_kept : (w : State) (m : Machine) → Sound w → m.jobs ≡ w.raw.jobs → Kept w w m nobody
+jobless_kept w m sound same = record {
+  sound = record {
+    each = λ k. subst (λ (o : Option Whole). SoundSlot o (w.frames k) (w.reserved k)) (sym (ap (λ (f : ℕ → Option Whole). f k) same)) (sound.each k);
+    mark = sound.mark;
+  };
+  spares = λ k h. refl;
+}
+
+quietly_kept : (w : State) (b : Block) (P : Machine → Type 0) (r : Result Machine Reason) → Sound w → ((n : Machine) → P n → n.jobs ≡ w.raw.jobs)
+    → OkBy P r → KeptBy w w (Done (quietly b r))
+quietly_kept w b P (Ok n) sound same f = jobless_kept w n sound (same n f)
+quietly_kept w b P (Err r) sound same f = tt
+
+holder_jobs : (m n : Machine) (c s : ℕ) → SetsHolder m c s n → n.jobs ≡ m.jobs
+unfolding effect
+holder_jobs m n c s f = ap (λ (x : Machine). x.jobs) f.is
+
+job_kept : (w : State) (s u j : ℕ) (console : Option ℕ) (b : Block) (r : Result Machine Reason) → Sound w → OkBy (MakesJob w.raw s u j console) r
+    → KeptBy w w (Done (disturbs s b r))
+job_kept w s u j console b (Ok n) sound f = record {
+  sound = off_sound w n s sound (free_frame w s sound f.free)
+      (subst (λ (x : Machine). Off w.raw x s) (sym f.is) (record { others = (put_off w.raw s (new_job u j console)).others }));
+  spares = λ k h. refl;
+}
+job_kept w s u j console b (Err r) sound f = tt
+
 hushed_for : (w : State) (b : Block) (n : ℕ) → Sound w
     → let v = all_unwound (due_slots (w.raw.clock + n) w.raw.jobs) w in
     Hushed (v.raw.clock + n) v
 unfolding after_calm
 hushed_for w b n sound = calmed_hushed w b (events.Clock n) sound
+
+-- CLOCK
+clock_line_kept : (w : State) (b : Block) (n : ℕ) → Sound w
+    → let v = all_unwound (due_slots (w.raw.clock + n) w.raw.jobs) w in
+    KeptBy w v (Done (by_clock v.raw b n (after_clock_if v.raw n (nat_lt (v.raw.clock + n) clock_end))))
+clock_line_kept w b n sound =
+    let v = all_unwound (due_slots (w.raw.clock + n) w.raw.jobs) w in
+    clock_kept w v b n (nat_lt (v.raw.clock + n) clock_end) (hushed_for w b n sound) (all_unwound_sound (due_slots (w.raw.clock + n) w.raw.jobs) w sound)
+    (λ k h. due_unwound w n k sound h)
+
+restored_kept : (w : State) (b : Block) (line : StateLine) → Sound w
+    → KeptBy w (after_calm w b (events.Restore line)) (Done (restored (after_calm w b (events.Restore line)).raw b line))
+unfolding restored after_calm after_clock
+restored_kept w b (states.System v) sound = version_kept w v sound
+restored_kept w b (states.Clock n) sound = clock_line_kept w b n sound
+restored_kept w b (states.File d x y) sound =
+    file_kept w (record b { file = names_of d x y }) (with_file_made (help w).raw (names_of d x y)) sound (made_files (help w).raw (names_of d x y))
+restored_kept w b (states.FileWords words) sound = file_kept w b (with_words_added (help w).raw b.file words.items) sound
+    (added_files (help w).raw b.file words.items)
+restored_kept w b (states.Job s u j console) sound =
+    job_kept w s u j console (record b { slot = s }) (with_job_made w.raw s u j console) sound (job_made w.raw s u j console)
+restored_kept w b (states.CoreWords a words) sound =
+    disturbs_kept w b.slot b (with_words_loaded (unwound w b.slot).raw b.slot a words.items) sound (words_off (unwound w b.slot).raw b.slot a words.items)
+restored_kept w b (states.ReadOnly page) sound =
+    disturbs_kept w b.slot b (with_page_protected (unwound w b.slot).raw b.slot page) sound (page_off (unwound w b.slot).raw b.slot page)
+restored_kept w b (states.Symbol name a) sound = symbol_line_kept w b b.slot name a sound
+restored_kept w b (states.Regs r) sound = disturbs_kept w b.slot b (on_registers (unwound w b.slot).raw b.slot (after_registers r)) sound
+    (registers_off (unwound w b.slot).raw b.slot (after_registers r))
+restored_kept w b (states.Alarm s period next) sound =
+    let m = (unwound w s).raw in
+    disturbs_kept w s b (with_alarm_set m s period next) sound (alarm_off m s period next (with_alarm_set m s period next) (alarm_set m s period next))
+restored_kept w b (states.Under s t) sound =
+    let m = (unwound w s).raw in
+    disturbs_kept w s b (with_superior_set m s t) sound (superior_off m s t (with_superior_set m s t) (superior_set m s t))
+restored_kept w b (states.Tty s i write) sound =
+    let m = (unwound w s).raw in
+    disturbs_kept w s b (with_tty m s i write) sound (opened_off m s i (on_tty write) (with_tty m s i write) (tty_opened m s i write))
+restored_kept w b (states.Disk s i d x y at) sound =
+    let m = (unwound (help w) s).raw in
+    let r = with_disk m s i (names_of d x y) at in
+    helped_one w s b r sound (opened_off m s i (Reads (names_of d x y) at) r (disk_opened m s i (names_of d x y) at))
+restored_kept w b (states.Draft s i d x y) sound =
+    let m = (unwound (help w) s).raw in
+    let r = with_draft m s i (names_of d x y) in
+    helped_one w s b r sound (opened_off m s i (empty_draft (names_of d x y)) r (draft_opened m s i (names_of d x y)))
+restored_kept w b (states.Wrote s i words) sound =
+    let m = (unwound (help w) s).raw in
+    let r = with_words_written m s i words.items in
+    helped_one w s b r sound (written_off m s i words.items r (words_written m s i words.items))
+restored_kept w b (states.Usr s i t write at) sound =
+    let m = (unwound w s).raw in
+    let r = with_usr m s i t write at in
+    disturbs_kept w s b r sound (opened_off m s i (On t write at) r (usr_opened m s i t write at))
+restored_kept w b (states.Join s i l write x y) sound =
+    let m = (unwound w s).raw in
+    let r = with_link m s i l write x y in
+    disturbs_kept w s b r sound (joined_off m s i l write x y r (link_joined m s i l write x y))
+restored_kept w b (states.Sent l words) sound =
+    quietly_kept w b (Sends w.raw l words.items) (with_words_sent w.raw l words.items) sound (λ n f. ap (λ (x : Machine). x.jobs) f.is)
+    (words_sent w.raw l words.items)
+restored_kept w b (states.EndShut l write) sound =
+    quietly_kept w b (ShutsEnd w.raw l write) (with_end_shut w.raw l write) sound (λ n f. ap (λ (x : Machine). x.jobs) f.is) (end_shut w.raw l write)
+restored_kept w b (states.Input c bytes) sound =
+    quietly_kept w b (PutsBytes w.raw c false bytes.items) (with_bytes_waiting w.raw c false bytes.items) sound
+    (λ n f. ap (λ (x : Machine). x.jobs) f.is) (bytes_put w.raw c false bytes.items)
+restored_kept w b (states.Output c bytes) sound =
+    quietly_kept w b (PutsBytes w.raw c true bytes.items) (with_bytes_waiting w.raw c true bytes.items) sound
+    (λ n f. ap (λ (x : Machine). x.jobs) f.is) (bytes_put w.raw c true bytes.items)
+restored_kept w b (states.Hold c s) sound =
+    quietly_kept w b (SetsHolder w.raw c s) (with_holder_set w.raw c s) sound (λ n f. holder_jobs w.raw n c s f) (holder_set w.raw c s)
+restored_kept w b (states.Turn s) sound = record { sound = sound; spares = λ k h. refl }
+restored_kept w b states.Ready sound = record { sound = sound; spares = λ k h. refl }
 
 pub line_kept : (w : State) (b : Block) (e : Event) → Sound w → KeptBy w (after_calm w b e) (lined (after_calm w b e).raw b e)
 unfolding lined operate after_calm after_load after_clock
@@ -279,10 +429,7 @@ line_kept w b (events.Deposit s a x) sound = disturbs_kept w s b (after_deposit 
 line_kept w b (events.Exam s a n) sound = exam_kept w s (in_a_line s a) b (examined (unwound w s).raw s a n) sound
 line_kept w b (events.List s a n) sound = exam_kept w s (listed s a) b (examined (unwound w s).raw s a n) sound
 line_kept w b (events.State s) sound = show_kept w s b (state_shown (unwound w s).raw s) sound
-line_kept w b (events.Clock n) sound =
-    let v = all_unwound (due_slots (w.raw.clock + n) w.raw.jobs) w in
-    clock_kept w v b n (nat_lt (v.raw.clock + n) clock_end) (hushed_for w b n sound) (all_unwound_sound (due_slots (w.raw.clock + n) w.raw.jobs) w sound)
-    (λ k h. due_unwound w n k sound h)
+line_kept w b (events.Clock n) sound = clock_line_kept w b n sound
 line_kept w b (events.Peek s) sound = peek_kept w s (w.raw.jobs s)
 line_kept w b (events.Tick s n) sound = tt
 line_kept w b events.End sound = tt
@@ -294,4 +441,5 @@ line_kept w b (events.TypeIn c bytes) sound = typed_kept w c bytes.items sound
 line_kept w b (events.Drain c n) sound = drained_kept w c n sound
 line_kept w b (events.Dir d) sound = helped_kept w (help w).raw sound refl
 line_kept w b (events.Show d x y) sound = shows_kept w b (file_shown (help w).raw d x y) sound
+line_kept w b (events.Restore line) sound = restored_kept w b line sound
 line_kept w b _ sound = record { sound = sound; spares = λ k h. refl }

@@ -1,10 +1,10 @@
 -- Worked examples of the lines of a session, evaluated.
-use Rattle.std.specs.Prelude.{◌≡◌, ℕ, Option, Some, None, List, [], ◌∷◌, ◌++◌, refl}
+use Rattle.std.specs.Prelude.{◌≡◌, ℕ, false, Option, Some, None, List, [], ◌∷◌, ◌++◌, refl}
 use Rattle.its_word.specs.Core.{no_core, word_at}
 use Rattle.its_word.specs.Directory.{File, same_names}
 use Rattle.its_records.specs.Item.{Read}
 use Rattle.its_word.specs.Limits.{limit_of}
-use Rattle.its_records.specs.Tree.{free_from, least_free, fresh_job}
+use Rattle.its_records.specs.Tree.{free_from, least_free, fresh_job, climbs_to}
 use Rattle.its_records.specs.declared.calls.Ask.{Ask}
 use Rattle.its_records.specs.declared.calls.Operand.{Operand}
 use Rattle.its_records.specs.declared.calls.Owed.TheVariants.{Link, Free, Leave}
@@ -14,12 +14,14 @@ use Rattle.its_records.specs.declared.session.Event.TheVariants as events
 use Rattle.its_records.specs.declared.session.Reason.TheVariants as reasons
 use Rattle.its_records.specs.declared.show.Peek.{Peek}
 use Rattle.its_records.specs.declared.show.PeekState.TheVariants as states
+use Rattle.its_records.specs.declared.state_line.StateLine.TheVariants as state_lines
 use Rattle.its_frame.specs.declared.frame.Frame.{Frame}
 use Rattle.its_print.specs.Printing as printed
 use Rattle.its_plain.specs.Operator.{no_block, Does}
 use Rattle.its_plain.specs.Operator.Jobs.{after_load, on_registers}
 use Rattle.its_plain.specs.Operator.Clock.{due_slots, after_clock}
 use Rattle.its_plain.specs.Operator.Lines.{operate, Lined, Done, lined}
+use Rattle.its_plain.specs.Operator.State.{with_job_made, with_superior_set, with_tty, with_bytes_waiting, restored}
 use Rattle.its_plain.specs.Machine.{no_machine, with_jobs, whole}
 use Rattle.its_frame.specs.Calls.{sixbit, call_named}
 use Rattle.its_plain.specs.Machine.Own.{names_of, exit_of}
@@ -78,6 +80,24 @@ first_load = refl
 later_load : holder_after (lined (record no_machine { holders = λ c. Some 7 }) no_block (events.Load 1 2 (Some 3))) 3 ≡ Some 7
 unfolding lined operate after_load least_free limit_of free_from no_machine
 later_load = refl
+
+-- OUT: bytes wait as output, and DRAIN shows them
+waits : stepped (Read (events.Restore (state_lines.Output 3 (record { items = 72 ∷ 73 ∷ [] }))) ∷ Read (events.Drain 3 5) ∷ [])
+    ≡ record { lines = printed.Drained 3 (72 ∷ 73 ∷ []) ∷ []; fate = Open }
+unfolding lined operate restored with_bytes_waiting after_calm no_state no_machine
+waits = refl
+
+-- JOB makes a job in the slot that it names, which cannot be its own superior, and has no console
+-- for a channel
+own : stepped (Read (events.Restore (state_lines.Job 5 1 2 None)) ∷ Read (events.Restore (state_lines.Under 5 5)) ∷ [])
+    ≡ record { lines = printed.Refused 2 reasons.Unfit ∷ []; fate = Refused }
+unfolding lined operate restored with_job_made with_superior_set limit_of climbs_to after_calm unwound unwind_times left no_state no_machine fresh_job
+own = refl
+
+bare : stepped (Read (events.Restore (state_lines.Job 5 1 2 None)) ∷ Read (events.Restore (state_lines.Tty 5 3 false)) ∷ [])
+    ≡ record { lines = printed.Refused 2 reasons.Unfit ∷ []; fate = Refused }
+unfolding lined operate restored with_job_made with_tty limit_of after_calm unwound unwind_times left no_state no_machine fresh_job
+bare = refl
 
 -- what is drained is shown, and only the rest waits
 abbrev drained_of : Lined → List ℕ

@@ -1,8 +1,7 @@
 -- A line of a session is the same on the stepped machine and on its plain machine (docs/STEPS.md,
 -- "Lines").
 use Rattle.std.specs.Prelude.{◌≡◌, ℕ, ◌+◌, Bool, true, false, Option, Some, None, IfSome, List, [], ◌∷◌, ◌++◌, Result, Ok, Err, option_map, is_some, length, nat_lt, refl, if◌then◌else◌}
-use Rattle.std.proofs.Common.{sym, ◌∙◌, ap, subst, inl, inr}
-use Rattle.std.proofs.lemmas.Bool.{cases_eq, eq-eqb, ne_eqb}
+use Rattle.std.proofs.Common.{sym, ◌∙◌, ap, subst}
 use Rattle.its_word.specs.Core.{Core, Page, page_of, word_at, can_store}
 use Rattle.its_word.specs.Limits.{most_symbols}
 use Rattle.its_word.specs.Directory.{with_changed, longer}
@@ -12,14 +11,17 @@ use Rattle.its_records.specs.declared.session.Event.{Event}
 use Rattle.its_records.specs.declared.session.Event.TheVariants as events
 use Rattle.its_records.specs.declared.session.Reason.{Reason}
 use Rattle.its_records.specs.declared.show.JobShow.{JobShow}
+use Rattle.its_records.specs.declared.state_line.StateLine.{StateLine}
+use Rattle.its_records.specs.declared.state_line.StateLine.TheVariants as states
 use Rattle.its_records.proofs.FreeLaws.{least_alike, least_empty, no_job_alike}
 use Rattle.its_frame.specs.declared.frame.Frame.{Frame}
 use Rattle.its_print.specs.Printing.{Line, listed}
-use Rattle.its_plain.specs.Machine.{Names, File, Symbol, Whole, Machine, changed, with_job, mapped, words_at, limit, with_new}
-use Rattle.its_plain.specs.Operator.{Block, Does, nobody, and_then, disturbs, quietly}
+use Rattle.its_plain.specs.Machine.{Names, File, Symbol, Whole, Machine, mapped, words_at, limit, with_new}
+use Rattle.its_plain.specs.Operator.{Block, no_block, Does, nobody, and_then, disturbs, quietly}
 use Rattle.its_plain.specs.Operator.Jobs.{new_job, with_holder, after_load_in, after_load, with_stored, with_core, with_word_loaded_of, with_word_loaded, with_words_stored, barred_in, words_barred, with_words_loaded_if, with_words_loaded, with_page_protected_in, with_page_protected, on_job, with_registers, on_registers, after_go, after_int, after_stop, after_cont, seen, examined, shown, state_shown, after_deposit_in, after_deposit}
 use Rattle.its_plain.specs.Operator.Lines.{by_load, by_exam, in_a_line, by_state, by_clock, operate, shows, Done, peeked_at, lined}
 use Rattle.its_plain.specs.Machine.Change.{with_protection}
+use Rattle.its_plain.specs.Operator.State.{after_registers, with_job_made, with_alarm_set, with_superior_set, with_tty, with_disk, with_draft, with_words_written, with_usr, with_link, with_words_sent, with_end_shut, with_bytes_waiting, with_holder_set, restored}
 use Rattle.its_plain.specs.Operator.Symbols.{symbol_shown, with_symbol_kept_if, with_symbol_kept_of, with_symbol_kept}
 use Rattle.its_plain.specs.Operator.Version.{with_version}
 use Rattle.its_plain.specs.Operator.Clock.{due, due_slots, at_clock, clock_end, after_clock_if, after_clock}
@@ -27,44 +29,20 @@ use Rattle.its_plain.specs.Machine.Own.{names_of}
 use Rattle.its_plain.specs.Call.File.{most_files, is_full, file_named, has_file}
 use Rattle.its_plain.specs.Operator.Files.{channels_of, with_file_made_if, with_file_made, with_word_added_if, with_word_added_to, with_word_added, with_words_added, files_in, listing, shown_by, file_shown}
 use Rattle.its_plain.proofs.MachineLaws.{jobs_are}
-use Rattle.its_stepped.specs.State.{State, seen_jobs, plain}
+use Rattle.its_stepped.specs.State.{State, plain}
 use Rattle.its_stepped.specs.State as state
-use Rattle.its_stepped.specs.Sound.{SoundBy, Sound}
-use Rattle.its_stepped.specs.Unwind.{unwound, all_unwound}
+use Rattle.its_stepped.specs.Sound.{Sound}
+use Rattle.its_stepped.specs.Unwind.{all_unwound}
 use Rattle.its_stepped.specs.Tick.{after_help_if}
-use Rattle.its_stepped.specs.Lines.{called_on, unwound_at, unwound_for, looks_at_files, after_calm, with_raw, lifted, lifted_line}
+use Rattle.its_stepped.specs.Lines.{restored_on, called_on, unwound_at, unwound_for, restores_files, looks_at_files, after_calm, with_raw, lifted, lifted_line}
 use Rattle.its_stepped.proofs.Frame.FrameLaws.{mapped_plain}
-use Rattle.its_stepped.proofs.Committing.EffectLaws.{channel_seen, unmarked_files, files_plain}
-use Rattle.its_stepped.proofs.Committing.HelpLaws.{helped_if_plain, helped_if_sound, helped_if_others, helped_if_unmarked}
+use Rattle.its_stepped.proofs.Committing.EffectLaws.{unmarked_files, files_plain}
+use Rattle.its_stepped.proofs.Committing.HelpLaws.{helped_if_plain, helped_if_sound, helped_if_unmarked}
 use Rattle.its_stepped.proofs.Lining.DueLaws.{due_plain, clock_same, Hushed, unwound_hushed, rung_plain}
-use Rattle.its_stepped.proofs.Unwinding.UnwindLaws.{unwound_plain, unwound_sound, unwound_none, all_unwound_plain, all_unwound_sound}
-
--- a job in user mode is itself
-user_job : (f : Option Frame) (o : Option Whole) → f ≡ None → option_map (state.seen f) o ≡ o
-unfolding state.seen
-user_job f None e = refl
-user_job f (Some q) e = ap (λ g. Some (state.seen g q)) e
-
-pub job_here : (v : State) (s : ℕ) → v.frames s ≡ None → (plain v).jobs s ≡ v.raw.jobs s
-unfolding plain
-job_here v s e = user_job (v.frames s) (v.raw.jobs s) e
-
--- a job in user mode is put into a slot
-job_put : (v : State) (s : ℕ) (q : Whole) (k : ℕ) → v.frames s ≡ None
-    → seen_jobs v.frames (changed v.raw.jobs s (Some q)) k ≡ changed (seen_jobs v.frames v.raw.jobs) s (Some q) k
-job_put v s q k e = elim (cases_eq k s) [
-  | inl is ↦ rw (is, eq-eqb s s refl) (user_job (v.frames s) (Some q) e)
-  | inr ne ↦ rw (ne_eqb k s ne) refl
-]
-
-pub put_plain : (v : State) (s : ℕ) (q : Whole) → v.frames s ≡ None → plain (with_raw v (with_job v.raw s q)) ≡ with_job (plain v) s q
-unfolding plain
-put_plain v s q e = jobs_are _ _ (λ k. job_put v s q k e) refl
-
--- a machine or a refusal, on the plain machine
-abbrev pub lift : State → Result Machine Reason → Result Machine Reason
-lift v (Ok m) = Ok (plain (with_raw v m))
-lift v (Err r) = Err r
+pub use Rattle.its_stepped.proofs.Lining.LiftLaws.{job_here}
+use Rattle.its_stepped.proofs.Lining.LiftLaws.{job_put, put_plain, lift, then_lifted, some_alike, channels_plain, free_frame}
+use Rattle.its_stepped.proofs.Lining.RestoredLaws.{job_lifted, alarm_lifted, superior_lifted, tty_lifted, disk_lifted, draft_lifted, wrote_lifted, usr_lifted, link_lifted, sent_lifted, shut_lifted, bytes_lifted, holder_lifted}
+use Rattle.its_stepped.proofs.Unwinding.UnwindLaws.{unwound_plain, unwound_sound, unwound_none, unwound_unmarked, all_unwound_plain, all_unwound_sound, all_unwound_unmarked}
 
 core_lifted : (v : State) (s : ℕ) (q : Whole) (r : Result Core Reason) → v.frames s ≡ None → with_core (plain v) s q r ≡ lift v (with_core v.raw s q r)
 core_lifted v s q (Ok c) e = ap Ok (sym (put_plain v s (record q { core = c }) e))
@@ -99,17 +77,6 @@ loaded_of_lifted v s a w None e = refl
 pub word_lifted : (v : State) (s a w : ℕ) → v.frames s ≡ None → with_word_loaded (plain v) s a w ≡ lift v (with_word_loaded v.raw s a w)
 unfolding with_word_loaded
 word_lifted v s a w e = ap (with_word_loaded_of (plain v) s a w) (job_here v s e) ∙ loaded_of_lifted v s a w (v.raw.jobs s) e
-
-lift_again : (v : State) (n : Machine) (r : Result Machine Reason) → lift (with_raw v n) r ≡ lift v r
-lift_again v n (Ok m) = refl
-lift_again v n (Err r) = refl
-
--- what goes on after a result
-then_lifted : (v : State) (r : Result Machine Reason) (f : Machine → Result Machine Reason)
-    → ((n : Machine) → f (plain (with_raw v n)) ≡ lift (with_raw v n) (f n))
-    → and_then (lift v r) f ≡ lift v (and_then r f)
-then_lifted v (Ok n) f h = h n ∙ lift_again v n (f n)
-then_lifted v (Err r) f h = refl
 
 pub stored_lifted : (v : State) (s a : ℕ) (ws : List ℕ) → v.frames s ≡ None → with_words_stored (plain v) s a ws ≡ lift v (with_words_stored v.raw s a ws)
 stored_lifted v s a [] e = refl
@@ -160,10 +127,6 @@ unfolding with_symbol_kept plain
 symbol_lifted v s name a = symbol_lifted_of v s (name, a) (v.frames s) (v.raw.jobs s)
 
 -- VERSION
-some_alike : (f : Option Frame) (o : Option Whole) → is_some (option_map (state.seen f) o) ≡ is_some o
-some_alike f (Some q) = refl
-some_alike f None = refl
-
 pub empty_plain : (v : State) → no_job (plain v).jobs ≡ no_job v.raw.jobs
 unfolding plain
 empty_plain v = no_job_alike (plain v).jobs v.raw.jobs (λ k. some_alike (v.frames k) (v.raw.jobs k))
@@ -201,10 +164,6 @@ state_plain v s e = ap (on_job (plain v) s (λ q. Ok (shown q.job q.superior (sy
     go None = refl
 
 -- lines on files, if no close is half made
-pub channels_plain : (v : State) → channels_of (plain v) ≡ channels_of v.raw
-unfolding plain
-channels_plain v = λ t k n. channel_seen (v.frames k) (v.raw.jobs k) n t
-
 made_by : (v : State) (n : Names) (there room : Bool) → v.mark ≡ None
     → with_file_made_if (plain v) n there room ≡ lift v (with_file_made_if v.raw n there room)
 made_by v n true room e = refl
@@ -242,13 +201,7 @@ pub shown_plain : (v : State) (d x y : ℕ) → v.mark ≡ None → file_shown (
 unfolding file_shown
 shown_plain v d x y e = ap (λ fs. shown_by d x y (file_named (names_of d x y) fs)) (unmarked_files v e)
 
--- LOAD: the same slot is free, and has no frame
-empty_frame : (f : Option Frame) (r : Option ℕ) → SoundBy None f r → f ≡ None
-empty_frame f r h = h.0
-
-pub free_frame : (v : State) (s : ℕ) → Sound v → v.raw.jobs s ≡ None → v.frames s ≡ None
-free_frame v s sound e = empty_frame (v.frames s) (v.reserved s) (subst (λ (o : Option Whole). SoundBy o (v.frames s) (v.reserved s)) e (sound.each s).by)
-
+-- LOAD: the same slot is free
 pub least_plain : (v : State) → least_free (limit (plain v)) (plain v).jobs ≡ least_free (limit v.raw) v.raw.jobs
 unfolding plain
 least_plain v = least_alike (limit v.raw) (plain v).jobs v.raw.jobs (λ k. some_alike (v.frames k) (v.raw.jobs k))
@@ -304,11 +257,65 @@ clock_lifted v b n false h = refl
 -- what CLOCK needs of the state that it finds
 abbrev pub HushedFor : State → Event → Type 0
 HushedFor v (events.Clock n) = Hushed (v.raw.clock + n) v
+HushedFor v (events.Restore (states.Clock n)) = Hushed (v.raw.clock + n) v
 HushedFor v _ = Unit {0}
 
 peek_lifted : (v : State) (s : ℕ) (f : Option Frame) (o : Option Whole) → peeked_at s (option_map (state.seen f) o) ≡ lifted_line v (peeked_at s o)
 peek_lifted v s f (Some q) = refl
 peek_lifted v s f None = refl
+
+-- a line of the state part, if the job that it is about is in user mode, and the directory is whole
+-- if it is about files
+restored_calm : (v : State) (b : Block) (line : StateLine) → Sound v → IfSome (restored_on b line) (λ s. v.frames s ≡ None)
+    → HushedFor v (events.Restore line)
+    → (restores_files line ≡ true → v.mark ≡ None)
+    → restored (plain v) b line ≡ lifted v (restored v.raw b line)
+unfolding restored after_clock plain
+restored_calm v b (states.System n) sound h hush whole = ap (λ m. Does m [] nobody no_block) (version_lifted v n)
+restored_calm v b (states.Clock n) sound h hush whole = clock_lifted v b n (nat_lt (v.raw.clock + n) clock_end) hush
+restored_calm v b (states.File d x y) sound h hush whole =
+    let n = names_of d x y in
+    ap (quietly (record b { file = n })) (made_lifted v n (whole refl)) ∙ quietly_lifted v (record b { file = n }) (with_file_made v.raw n)
+restored_calm v b (states.FileWords words) sound h hush whole =
+    ap (quietly b) (words_added_lifted v b.file words.items (whole refl)) ∙ quietly_lifted v b (with_words_added v.raw b.file words.items)
+restored_calm v b (states.Job s u j console) sound h hush whole =
+    ap (disturbs s (record b { slot = s })) (job_lifted v s u j console sound) ∙ disturbs_lifted v s (record b { slot = s }) (with_job_made v.raw s u j console)
+restored_calm v b (states.CoreWords a words) sound h hush whole =
+    ap (disturbs b.slot b) (words_lifted v b.slot a words.items h) ∙ disturbs_lifted v b.slot b (with_words_loaded v.raw b.slot a words.items)
+restored_calm v b (states.ReadOnly page) sound h hush whole =
+    ap (disturbs b.slot b) (page_lifted v b.slot page h) ∙ disturbs_lifted v b.slot b (with_page_protected v.raw b.slot page)
+restored_calm v b (states.Symbol name a) sound h hush whole =
+    ap (quietly b) (symbol_lifted v b.slot name a) ∙ quietly_lifted v b (with_symbol_kept v.raw b.slot name a)
+restored_calm v b (states.Regs r) sound h hush whole =
+    ap (disturbs b.slot b) (registers_lifted v b.slot (after_registers r) h) ∙ disturbs_lifted v b.slot b (on_registers v.raw b.slot (after_registers r))
+restored_calm v b (states.Alarm s period next) sound h hush whole =
+    ap (disturbs s b) (alarm_lifted v s period next) ∙ disturbs_lifted v s b (with_alarm_set v.raw s period next)
+restored_calm v b (states.Under s t) sound h hush whole =
+    ap (disturbs s b) (superior_lifted v s t) ∙ disturbs_lifted v s b (with_superior_set v.raw s t)
+restored_calm v b (states.Tty s i write) sound h hush whole =
+    ap (disturbs s b) (tty_lifted v s i write) ∙ disturbs_lifted v s b (with_tty v.raw s i write)
+restored_calm v b (states.Disk s i d x y at) sound h hush whole =
+    ap (disturbs s b) (disk_lifted v s i (names_of d x y) at (whole refl)) ∙ disturbs_lifted v s b (with_disk v.raw s i (names_of d x y) at)
+restored_calm v b (states.Draft s i d x y) sound h hush whole =
+    ap (disturbs s b) (draft_lifted v s i (names_of d x y)) ∙ disturbs_lifted v s b (with_draft v.raw s i (names_of d x y))
+restored_calm v b (states.Wrote s i words) sound h hush whole =
+    ap (disturbs s b) (wrote_lifted v s i words.items (whole refl)) ∙ disturbs_lifted v s b (with_words_written v.raw s i words.items)
+restored_calm v b (states.Usr s i t write at) sound h hush whole =
+    ap (disturbs s b) (usr_lifted v s i t write at) ∙ disturbs_lifted v s b (with_usr v.raw s i t write at)
+restored_calm v b (states.Join s i l write x y) sound h hush whole =
+    ap (disturbs s b) (link_lifted v s i l write x y) ∙ disturbs_lifted v s b (with_link v.raw s i l write x y)
+restored_calm v b (states.Sent l words) sound h hush whole =
+    ap (quietly b) (sent_lifted v l words.items) ∙ quietly_lifted v b (with_words_sent v.raw l words.items)
+restored_calm v b (states.EndShut l write) sound h hush whole =
+    ap (quietly b) (shut_lifted v l write) ∙ quietly_lifted v b (with_end_shut v.raw l write)
+restored_calm v b (states.Input c bytes) sound h hush whole =
+    ap (quietly b) (bytes_lifted v c false bytes.items) ∙ quietly_lifted v b (with_bytes_waiting v.raw c false bytes.items)
+restored_calm v b (states.Output c bytes) sound h hush whole =
+    ap (quietly b) (bytes_lifted v c true bytes.items) ∙ quietly_lifted v b (with_bytes_waiting v.raw c true bytes.items)
+restored_calm v b (states.Hold c s) sound h hush whole =
+    ap (quietly b) (holder_lifted v c s) ∙ quietly_lifted v b (with_holder_set v.raw c s)
+restored_calm v b (states.Turn s) sound h hush whole = refl
+restored_calm v b states.Ready sound h hush whole = refl
 
 -- the line of a state in which the job that it speaks of is in user mode, and what it looks at is
 -- whole
@@ -357,6 +364,7 @@ line_calm v b (events.Append words) sound h hush whole =
 line_calm v b (events.Dir d) sound h hush whole = ap (λ fs. Done (Does (plain v) (listing d (files_in d fs)) nobody b)) (unmarked_files v (whole refl))
 line_calm v b (events.Show d x y) sound h hush whole =
     ap (λ r. Done (shows (plain v) b r)) (shown_plain v d x y (whole refl)) ∙ ap Done (shows_lifted v b (file_shown v.raw d x y))
+line_calm v b (events.Restore line) sound h hush whole = ap Done (restored_calm v b line sound h hush whole)
 line_calm v b _ sound h hush whole = refl
 
 -- the jobs that a line disturbs are unwound, and the state is sound and the same plain machine
@@ -368,47 +376,67 @@ at_sound : (w : State) (o : Option ℕ) → Sound w → Sound (unwound_at o w)
 at_sound w (Some s) sound = unwound_sound w s sound
 at_sound w None sound = sound
 
-at_none : (w : State) (o : Option ℕ) (h : Bool) → Sound w → IfSome o (λ s. (after_help_if h (unwound_at o w)).frames s ≡ None)
-at_none w (Some s) h sound = (helped_if_others h (unwound w s) s).frame ∙ unwound_none w s sound
-at_none w None h sound = tt
+at_none : (w : State) (o : Option ℕ) → Sound w → IfSome o (λ s. (unwound_at o w).frames s ≡ None)
+at_none w (Some s) sound = unwound_none w s sound
+at_none w None sound = tt
+
+at_unmarked : (w : State) (o : Option ℕ) → w.mark ≡ None → (unwound_at o w).mark ≡ None
+at_unmarked w (Some s) e = unwound_unmarked w s e
+at_unmarked w None e = e
 
 for_plain : (w : State) (b : Block) (e : Event) → Sound w → plain (unwound_for w b e) ≡ plain w
 for_plain w b (events.Clock n) sound = all_unwound_plain (due_slots (w.raw.clock + n) w.raw.jobs) w sound
+for_plain w b (events.Restore (states.Clock n)) sound = all_unwound_plain (due_slots (w.raw.clock + n) w.raw.jobs) w sound
 for_plain w b e sound = at_plain w (called_on b e) sound
 
 for_sound : (w : State) (b : Block) (e : Event) → Sound w → Sound (unwound_for w b e)
 for_sound w b (events.Clock n) sound = all_unwound_sound (due_slots (w.raw.clock + n) w.raw.jobs) w sound
+for_sound w b (events.Restore (states.Clock n)) sound = all_unwound_sound (due_slots (w.raw.clock + n) w.raw.jobs) w sound
 for_sound w b e sound = at_sound w (called_on b e) sound
 
-for_none : (w : State) (b : Block) (e : Event) (h : Bool) → Sound w → IfSome (called_on b e) (λ s. (after_help_if h (unwound_for w b e)).frames s ≡ None)
-for_none w b (events.Clock n) h sound = tt
-for_none w b e h sound = at_none w (called_on b e) h sound
+for_none : (w : State) (b : Block) (e : Event) → Sound w → IfSome (called_on b e) (λ s. (unwound_for w b e).frames s ≡ None)
+for_none w b (events.Clock n) sound = tt
+for_none w b (events.Restore (states.Clock n)) sound = tt
+for_none w b e sound = at_none w (called_on b e) sound
 
--- what a line disturbs is in user mode, what it looks at is whole, and the state is sound and the
+for_unmarked : (w : State) (b : Block) (e : Event) → w.mark ≡ None → (unwound_for w b e).mark ≡ None
+for_unmarked w b (events.Clock n) h = all_unwound_unmarked (due_slots (w.raw.clock + n) w.raw.jobs) w h
+for_unmarked w b (events.Restore (states.Clock n)) h = all_unwound_unmarked (due_slots (w.raw.clock + n) w.raw.jobs) w h
+for_unmarked w b e h = at_unmarked w (called_on b e) h
+
+-- what a line looks at is whole, what it disturbs is in user mode, and the state is sound and the
 -- same plain machine
 pub calmed_plain : (w : State) (b : Block) (e : Event) → Sound w → plain (after_calm w b e) ≡ plain w
 unfolding after_calm
-calmed_plain w b e sound = helped_if_plain (looks_at_files e) (unwound_for w b e) ∙ for_plain w b e sound
+calmed_plain w b e sound =
+    for_plain (after_help_if (looks_at_files e) w) b e (helped_if_sound (looks_at_files e) w sound) ∙ helped_if_plain (looks_at_files e) w
 
 pub calmed_sound : (w : State) (b : Block) (e : Event) → Sound w → Sound (after_calm w b e)
 unfolding after_calm
-calmed_sound w b e sound = helped_if_sound (looks_at_files e) (unwound_for w b e) (for_sound w b e sound)
+calmed_sound w b e sound = for_sound (after_help_if (looks_at_files e) w) b e (helped_if_sound (looks_at_files e) w sound)
 
 pub calmed_none : (w : State) (b : Block) (e : Event) → Sound w → IfSome (called_on b e) (λ s. (after_calm w b e).frames s ≡ None)
 unfolding after_calm
-calmed_none w b e sound = for_none w b e (looks_at_files e) sound
+calmed_none w b e sound = for_none (after_help_if (looks_at_files e) w) b e (helped_if_sound (looks_at_files e) w sound)
 
-pub calmed_hushed : (w : State) (b : Block) (e : Event) → Sound w → HushedFor (after_calm w b e) e
-unfolding after_calm
-calmed_hushed w b (events.Clock n) sound =
+-- CLOCK finds the jobs whose alarm is due in user mode
+clock_hushed : (w : State) (n : ℕ) → Sound w
+    → let v = all_unwound (due_slots (w.raw.clock + n) w.raw.jobs) w in
+    Hushed (v.raw.clock + n) v
+clock_hushed w n sound =
     let ks = due_slots (w.raw.clock + n) w.raw.jobs in
     subst (λ (c : ℕ). Hushed (c + n) (all_unwound ks w)) (sym (clock_same w (all_unwound ks w) (all_unwound_plain ks w sound)))
     (unwound_hushed w (w.raw.clock + n) sound)
+
+pub calmed_hushed : (w : State) (b : Block) (e : Event) → Sound w → HushedFor (after_calm w b e) e
+unfolding after_calm
+calmed_hushed w b (events.Clock n) sound = clock_hushed w n sound
+calmed_hushed w b (events.Restore (states.Clock n)) sound = clock_hushed w n sound
 calmed_hushed w b _ sound = tt
 
 pub calmed_whole : (w : State) (b : Block) (e : Event) → looks_at_files e ≡ true → (after_calm w b e).mark ≡ None
 unfolding after_calm
-calmed_whole w b e h = helped_if_unmarked (looks_at_files e) (unwound_for w b e) h
+calmed_whole w b e h = for_unmarked (after_help_if (looks_at_files e) w) b e (helped_if_unmarked (looks_at_files e) w h)
 
 -- every line of the stepped machine is that of the plain machine
 pub line_plain : (w : State) (b : Block) (e : Event) → Sound w → lined (plain w) b e ≡ lifted_line (after_calm w b e) (lined (after_calm w b e).raw b e)

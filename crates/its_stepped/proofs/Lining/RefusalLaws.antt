@@ -1,6 +1,6 @@
 -- A line is refused alike by the raw machine, by the one that it finds calmed, and by the plain
 -- one: so its refusal is tested first (docs/STEPS.md, "Lines").
-use Rattle.std.specs.Prelude.{◌≡◌, ℕ, zero, suc, ◌+◌, ◌%◌, ◌^◌, ◌&&◌, ◌||◌, not, Bool, true, false, Option, Some, None, List, Result, Ok, Err, option_map, is_some, nat_lt, refl}
+use Rattle.std.specs.Prelude.{◌≡◌, ℕ, zero, suc, ◌+◌, ◌%◌, ◌^◌, ◌&&◌, ◌||◌, not, Bool, true, false, Option, Some, None, List, [], ◌∷◌, Result, Ok, Err, option_map, is_some, is_none, nat_lt, refl}
 use Rattle.std.proofs.Common.{sym, ◌∙◌, ap}
 use Rattle.its_word.specs.Core.{Core, Page, page_of, word_at, can_store}
 use Rattle.its_word.specs.Limits.{most_pages}
@@ -9,12 +9,16 @@ use Rattle.its_records.specs.declared.jobs.Job.{Job}
 use Rattle.its_records.specs.declared.session.Event.{Event}
 use Rattle.its_records.specs.declared.session.Event.TheVariants as events
 use Rattle.its_records.specs.declared.session.Reason.{Reason}
+use Rattle.its_records.specs.declared.session.Reason.TheVariants.{Range, Exists}
 use Rattle.its_records.specs.declared.show.JobShow.{JobShow}
+use Rattle.its_records.specs.declared.state_line.StateLine.{StateLine}
+use Rattle.its_records.specs.declared.state_line.StateLine.TheVariants as states
 use Rattle.its_frame.specs.declared.frame.Frame.{Frame}
 use Rattle.its_print.specs.Printing.{Line, listed}
-use Rattle.its_plain.specs.Machine.{Names, Whole, Machine, mapped, joined, words_at, limit}
+use Rattle.its_plain.specs.Machine.{Names, Whole, Machine, mapped, joined, words_at, limit, with_new}
 use Rattle.its_plain.specs.Operator.{Block, Refuses, Does, Ticks, Quits, disturbs, quietly}
-use Rattle.its_plain.specs.Operator.Jobs.{after_load_in, after_load, with_stored_in, with_stored, with_core, with_word_loaded_of, with_word_loaded, is_barred, any_barred, barred_in, words_barred, with_page_protected_in, with_page_protected, on_job, with_registers, on_registers, after_go, after_int, after_stop, after_cont, seen, examined, shown, state_shown, after_deposit_in, after_deposit}
+use Rattle.its_plain.specs.Operator.State.{after_registers, provided, with_job_made, with_alarm_set, with_superior_set, with_tty, with_disk, with_draft, with_words_written, with_usr, with_link, with_words_sent, with_end_shut, with_bytes_waiting, with_holder_set, restored}
+use Rattle.its_plain.specs.Operator.Jobs.{new_job, after_load_in, after_load, with_stored_in, with_stored, with_core, with_word_loaded_of, with_word_loaded, is_barred, any_barred, barred_in, words_barred, with_page_protected_in, with_page_protected, on_job, with_registers, on_registers, after_go, after_int, after_stop, after_cont, seen, examined, shown, state_shown, after_deposit_in, after_deposit}
 use Rattle.its_plain.specs.Operator.Lines.{by_load, by_exam, in_a_line, by_state, by_clock, operate, shows, Lined, Done, Peeks, peeked_at, lined}
 use Rattle.its_plain.specs.Operator.Symbols.{symbol_shown, with_symbol_kept}
 use Rattle.its_plain.specs.Operator.Clock.{clock_end, after_clock_if, after_clock}
@@ -25,11 +29,13 @@ use Rattle.its_stepped.specs.State as state
 use Rattle.its_stepped.specs.Unwind.{unwound}
 use Rattle.its_stepped.specs.Sound.{Sound}
 use Rattle.its_stepped.specs.Tick.{after_help_if}
-use Rattle.its_stepped.specs.Lines.{looks_at_files, after_calm, lifted_line, refusal}
+use Rattle.its_stepped.specs.Lines.{restores_files, looks_at_files, after_calm, lifted_line, refusal}
 use Rattle.its_stepped.proofs.Frame.FrameLaws.{seen_can_store, seen_present, seen_page, mapped_plain}
 use Rattle.its_stepped.proofs.Unwinding.UnwindLaws.{unwound_plain}
 use Rattle.its_stepped.proofs.Committing.HelpLaws.{helped_if_plain, helped_if_unmarked}
-use Rattle.its_stepped.proofs.Lining.LineLaws.{lift, symbol_lifted, made_lifted, added_lifted, words_added_lifted, shown_plain, least_plain, line_plain}
+use Rattle.its_stepped.proofs.Lining.LiftLaws.{lift}
+use Rattle.its_stepped.proofs.Lining.RestoredLaws.{alarm_lifted, superior_lifted, tty_lifted, disk_lifted, draft_lifted, wrote_lifted, usr_lifted, link_lifted, sent_lifted, shut_lifted, bytes_lifted, holder_lifted}
+use Rattle.its_stepped.proofs.Lining.LineLaws.{symbol_lifted, made_lifted, added_lifted, words_added_lifted, shown_plain, least_plain, line_plain}
 
 -- why a result is none
 abbrev pub error_of : {X : Type 0} → Result X Reason → Option Reason
@@ -241,10 +247,79 @@ peek_alike : (s : ℕ) (f : Option Frame) (o : Option Whole) → refusal (peeked
 peek_alike s f (Some q) = refl
 peek_alike s f None = refl
 
--- every line but one of words, which are refused one by one
+-- every line but one of words of a core, which are refused one by one
 abbrev pub IsSingle : Event → Type 0
 IsSingle (events.Words a words) = ⊥
+IsSingle (events.Restore (states.CoreWords a words)) = ⊥
 IsSingle _ = Unit {0}
+
+-- JOB, in a slot that may have a frame
+job_alike : (w : State) (s u j : ℕ) (console : Option ℕ) → error_of (with_job_made (plain w) s u j console) ≡ error_of (with_job_made w.raw s u j console)
+unfolding with_job_made plain
+job_alike w s u j console = by (nat_lt s (limit w.raw)) (w.frames s) (w.raw.jobs s)
+  where
+    by : (b : Bool) (f : Option Frame) (o : Option Whole)
+        → error_of (provided ((b, Range) ∷ (is_none (option_map (state.seen f) o), Exists) ∷ []) (with_new (plain w) s (new_job u j console)))
+        ≡ error_of (provided ((b, Range) ∷ (is_none o, Exists) ∷ []) (with_new w.raw s (new_job u j console)))
+    by false f o = refl
+    by true f (Some q) = refl
+    by true f None = refl
+
+-- a result that is the same on both machines
+same_alike : (v : State) (r x : Result Machine Reason) → r ≡ lift v x → error_of r ≡ error_of x
+same_alike v r x is = ap error_of is ∙ lift_alike v x
+
+restored_alike : (w : State) (b : Block) (line : StateLine) → IsSingle (events.Restore line) → (restores_files line ≡ true → w.mark ≡ None)
+    → refusal (Done (restored (plain w) b line)) ≡ refusal (Done (restored w.raw b line))
+unfolding restored after_clock plain
+restored_alike w b (states.System v) h whole = refl
+restored_alike w b (states.Clock n) h whole = clock_alike (plain w) w.raw b n (nat_lt (w.raw.clock + n) clock_end)
+restored_alike w b (states.File d x y) h whole =
+    let n = names_of d x y in quietly_alike (record b { file = n }) (with_file_made (plain w) n) (with_file_made w.raw n) (made_alike w n (whole refl))
+restored_alike w b (states.FileWords words) h whole =
+    quietly_alike b (with_words_added (plain w) b.file words.items) (with_words_added w.raw b.file words.items)
+    (words_added_alike w b.file words.items (whole refl))
+restored_alike w b (states.Job s u j console) h whole =
+    disturbs_alike s (record b { slot = s }) (with_job_made (plain w) s u j console) (with_job_made w.raw s u j console) (job_alike w s u j console)
+restored_alike w b (states.CoreWords a words) h whole = absurd h
+restored_alike w b (states.ReadOnly page) h whole =
+    disturbs_alike b.slot b (with_page_protected (plain w) b.slot page) (with_page_protected w.raw b.slot page) (page_alike w b.slot page)
+restored_alike w b (states.Symbol name a) h whole =
+    quietly_alike b (with_symbol_kept (plain w) b.slot name a) (with_symbol_kept w.raw b.slot name a) (symbol_alike w b.slot name a)
+restored_alike w b (states.Regs r) h whole = disturbs_alike b.slot b (on_registers (plain w) b.slot (after_registers r))
+    (on_registers w.raw b.slot (after_registers r)) (registers_alike w b.slot (after_registers r))
+restored_alike w b (states.Alarm s period next) h whole =
+    disturbs_alike s b (with_alarm_set (plain w) s period next) (with_alarm_set w.raw s period next) (same_alike w _ _ (alarm_lifted w s period next))
+restored_alike w b (states.Under s t) h whole =
+    disturbs_alike s b (with_superior_set (plain w) s t) (with_superior_set w.raw s t) (same_alike w _ _ (superior_lifted w s t))
+restored_alike w b (states.Tty s i write) h whole =
+    disturbs_alike s b (with_tty (plain w) s i write) (with_tty w.raw s i write) (same_alike w _ _ (tty_lifted w s i write))
+restored_alike w b (states.Disk s i d x y at) h whole =
+    let n = names_of d x y in
+    disturbs_alike s b (with_disk (plain w) s i n at) (with_disk w.raw s i n at) (same_alike w _ _ (disk_lifted w s i n at (whole refl)))
+restored_alike w b (states.Draft s i d x y) h whole =
+    let n = names_of d x y in disturbs_alike s b (with_draft (plain w) s i n) (with_draft w.raw s i n) (same_alike w _ _ (draft_lifted w s i n))
+restored_alike w b (states.Wrote s i words) h whole =
+    disturbs_alike s b (with_words_written (plain w) s i words.items) (with_words_written w.raw s i words.items)
+    (same_alike w _ _ (wrote_lifted w s i words.items (whole refl)))
+restored_alike w b (states.Usr s i t write at) h whole =
+    disturbs_alike s b (with_usr (plain w) s i t write at) (with_usr w.raw s i t write at) (same_alike w _ _ (usr_lifted w s i t write at))
+restored_alike w b (states.Join s i l write x y) h whole =
+    disturbs_alike s b (with_link (plain w) s i l write x y) (with_link w.raw s i l write x y) (same_alike w _ _ (link_lifted w s i l write x y))
+restored_alike w b (states.Sent l words) h whole =
+    quietly_alike b (with_words_sent (plain w) l words.items) (with_words_sent w.raw l words.items) (same_alike w _ _ (sent_lifted w l words.items))
+restored_alike w b (states.EndShut l write) h whole =
+    quietly_alike b (with_end_shut (plain w) l write) (with_end_shut w.raw l write) (same_alike w _ _ (shut_lifted w l write))
+restored_alike w b (states.Input c bytes) h whole =
+    quietly_alike b (with_bytes_waiting (plain w) c false bytes.items) (with_bytes_waiting w.raw c false bytes.items)
+    (same_alike w _ _ (bytes_lifted w c false bytes.items))
+restored_alike w b (states.Output c bytes) h whole =
+    quietly_alike b (with_bytes_waiting (plain w) c true bytes.items) (with_bytes_waiting w.raw c true bytes.items)
+    (same_alike w _ _ (bytes_lifted w c true bytes.items))
+restored_alike w b (states.Hold c s) h whole =
+    quietly_alike b (with_holder_set (plain w) c s) (with_holder_set w.raw c s) (same_alike w _ _ (holder_lifted w c s))
+restored_alike w b (states.Turn s) h whole = refl
+restored_alike w b states.Ready h whole = refl
 
 pub line_alike : (w : State) (b : Block) (e : Event) → IsSingle e → (looks_at_files e ≡ true → w.mark ≡ None)
     → refusal (lined (plain w) b e) ≡ refusal (lined w.raw b e)
@@ -281,6 +356,7 @@ line_alike w b (events.Append words) h whole =
     (words_added_alike w b.file words.items (whole refl))
 line_alike w b (events.Show d x y) h whole =
     shows_alike (plain w) w.raw b (file_shown (plain w) d x y) (file_shown w.raw d x y) (ap error_of (shown_plain w d x y (whole refl)))
+line_alike w b (events.Restore line) h whole = restored_alike w b line h whole
 line_alike w b _ h whole = refl
 
 refusal_lifted : (v : State) (l : Lined) → refusal (lifted_line v l) ≡ refusal l

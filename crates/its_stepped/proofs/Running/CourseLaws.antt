@@ -14,7 +14,7 @@ use Rattle.its_plain.specs.Operator.{Block, Refuses, Does, Ticks, Quits}
 use Rattle.its_plain.specs.Operator.Lines.{Lined, Done, Peeks, lined}
 use Rattle.its_plain.specs.Promise.Stretch.{machine_at}
 use Rattle.its_plain.specs.Transcript.{Walk, after_letter, walk_after, next_line}
-use Rattle.its_plain.specs.Transcript.Turns.{turn_after, turns_asked}
+use Rattle.its_plain.specs.Transcript.Turns.{turn_after, turn_kept, turns_asked}
 use Rattle.its_stepped.specs.Forest.{Forest}
 use Rattle.its_stepped.proofs.Duties.FitLaws.{forest_steps}
 use Rattle.its_stepped.proofs.Running.WrittenLaws.{line_forest}
@@ -94,8 +94,11 @@ module _ {P : Moment → Machine → Type 0} (each : EachMoment P) where
 
   pub run_course : (v : Walk) (last : ℕ) (es : List Item) (lines : List Line) → Forest v.machine → RunFrom P v.machine (course v last es lines)
   run_course v last (Read e ∷ es) lines forest =
-      run_past v e (lined v.machine v.block e) lines (λ w rest. turned (turns_asked e) w last rest (λ x l more. course (next_line x) l es more)) refl forest
-      (λ w rest f. run_turned (turns_asked e) w last rest (λ x l more. course (next_line x) l es more) f (λ x l more g. run_course (next_line x) l es more g))
+      run_past v e (lined v.machine v.block e) lines
+      (λ w rest. turned (turns_asked e) w (turn_kept last e) rest (λ x l more. course (next_line x) l es more)) refl forest
+      (λ w rest f.
+      run_turned (turns_asked e) w (turn_kept last e) rest (λ x l more. course (next_line x) l es more) f
+      (λ x l more g. run_course (next_line x) l es more g))
   run_course v last _ lines forest = run_rests v
 
 -- some moments of a run, one after the other

@@ -1,12 +1,16 @@
 -- What a step of a job moves through links, and the ledger of the links: the words that were in a
 -- link and those that were sent are those that were received and those that are in it
 -- (docs/MACHINE.md, "The ledger").
-use Rattle.std.specs.Prelude.{◌==◌, ◌&&◌, ◌≡◌, ◌≢◌, ℕ, Bool, true, false, not, Option, Some, None, is_some, option_map, unwrap_or, List, [], ◌∷◌, ◌++◌, flat_map, Result, Ok, Err, refl}
+use Rattle.std.specs.Prelude.{if◌then◌else◌, ◌==◌, ◌&&◌, ◌≡◌, ◌≢◌, ℕ, Bool, true, false, not, Option, Some, None, is_some, option_map, unwrap_or, List, [], ◌∷◌, ◌++◌, flat_map, Result, Ok, Err, refl}
 use Rattle.std.proofs.Common.{sym, ◌∙◌, ap, subst, inl, inr, append_assoc, append-nil}
 use Rattle.std.proofs.lemmas.Bool.{cases_eq, eq-eqb, ne_eqb}
 use Rattle.std.proofs.lemmas.Grind.{flat_map-append}
 use Rattle.std.proofs.lemmas.Option.{same_Some}
 use Rattle.its_records.specs.Item.{Item}
+use Rattle.its_records.specs.declared.session.Event.{Event}
+use Rattle.its_records.specs.declared.session.Event.TheVariants as events
+use Rattle.its_records.specs.declared.state_line.StateLine.{StateLine}
+use Rattle.its_records.specs.declared.state_line.StateLine.TheVariants as states
 use Rattle.its_records.specs.Tree.{least_free}
 use Rattle.its_word.specs.declared.access.Fault.{Fault}
 use Rattle.its_records.specs.declared.calls.Ask.{Ask}
@@ -26,11 +30,11 @@ use Rattle.its_plain.specs.Call.Link.{words_in}
 use Rattle.its_plain.specs.Call.Step.{acted, decision, informs, step, Transition, moves_in, transition, moves}
 use Rattle.its_plain.specs.Call.Tty.{view_console, has_console, can_take, is_holder, lands, ttylnd_of, ttylnd}
 use Rattle.its_plain.specs.Call.Usr.{any_named, inferior_named, makes_job, opens_job, usr_tests, opens_usr, uclose_on, uclose}
-use Rattle.its_plain.specs.Machine.Change.{superiors, is_gone, after_removal, standing_if, after_end_close, with_sent, with_received, rest_of, ends_after_removal, effect, effects}
+use Rattle.its_plain.specs.Machine.Change.{on_link, superiors, is_gone, after_removal, standing_if, after_end_close, with_sent, with_received, rest_of, ends_after_removal, effect, effects}
 use Rattle.its_plain.specs.Transcript.Course.{Letter, Moment, moment_at, machine_after, run_of}
 use Rattle.its_plain.specs.Call.Decide.{call_named, decided_by, decided, target, reach}
 use Rattle.its_plain.specs.Unit.Interrupt.{after_dismissal, delivered}
-use Rattle.its_plain.specs.Promise.LinkLedger.{word_moved, linked_at, StandsAfter, LinkLedger}
+use Rattle.its_plain.specs.Promise.LinkLedger.{word_moved, linked_at, sent_by, put_in_at, StandsAfter, LinkLedger}
 use Rattle.its_plain.specs.Machine.{Chan, On, Pipe, Whole, Machine, changed}
 use Rattle.its_plain.specs.Call.Moves.{Way, Inward, Outward, AtConsole, AtLink, Move, first_move, moves_of, moves_of_all}
 use Rattle.its_plain.specs.Promise.Stretch.{machine_at, end_of}
@@ -38,7 +42,9 @@ use Rattle.its_plain.specs.Call.Tests.{◌⇒◌, finishes, fails, out}
 use Rattle.its_plain.specs.Transcript.{Walk, at_start}
 use Rattle.its_plain.specs.Transcript.Turns.{highest}
 use Rattle.its_plain.specs.Machine.View.{View, view}
-use Rattle.its_plain.proofs.CallLineLaws.{LineKeepsBy, line_keeps}
+use Rattle.its_plain.specs.Operator.State.{with_words_in, with_end_closed}
+use Rattle.its_plain.proofs.CallLineLaws.{Restores, job_keeps, Leaves, line_does}
+use Rattle.its_plain.proofs.RestoredLaws.{words_appended}
 use Rattle.its_plain.proofs.StepLaws.{AllOf, EachCase, transition_has}
 use Rattle.its_stepped.proofs.Duties.CallWays.{Any, AllStill, AllMild, Ways, Apart, call_ways}
 use Rattle.its_stepped.proofs.Running.CourseLaws.{Linked, EachMoment, run_course, linked_middle}
@@ -397,7 +403,7 @@ no_step m j h = go (transition m j) h
 -- a moment of a run
 abbrev Balances : Moment → Machine → Type 0
 Balances t n = (l : ℕ) → is_some (n.links l) ≡ true
-    → words_in (t.machine.links l) ++ linked_at l Outward t ≡ linked_at l Inward t ++ words_in (n.links l)
+    → words_in (t.machine.links l) ++ put_in_at l t ≡ linked_at l Inward t ++ words_in (n.links l)
 
 step_balances : (m : Machine) (j l : ℕ) (o : Option Machine) → step m j ≡ o → is_some ((unwrap_or o m).links l) ≡ true
     → LinkPasses (m.links l) ((unwrap_or o m).links l) (moves m j) l
@@ -411,23 +417,85 @@ letter_balances v i Work l stands = append-nil (words_in (v.machine.links l))
 letter_balances v i Wait l stands = append-nil (words_in (v.machine.links l))
 letter_balances v i Off l stands = append-nil (words_in (v.machine.links l))
 
+-- a line: LNK may make a link, which has no words, SENT puts words into one, and SHUT leaves them
+sent_words : (m : Machine) (k l : ℕ) (ws : List ℕ) → is_some (m.links k) ≡ true
+    → words_in (m.links l) ++ ((if k == l then ws else []) ++ []) ≡ words_in ((on_link m k (option_map (with_words_in ws))).links l)
+sent_words m k l ws there = elim (cases_eq k l) [
+  | inl at ↦ rw (at, eq-eqb l l refl)
+      (ap (λ (xs : List ℕ). words_in (m.links l) ++ xs) (append-nil ws) ∙ here (m.links l) (subst (λ (i : ℕ). is_some (m.links i) ≡ true) at there))
+  | inr ne ↦ rw (ne_eqb k l ne, ne_eqb l k (λ e. ne (sym e))) (append-nil (words_in (m.links l)))
+]
+  where
+    here : (o : Option Pipe) → is_some o ≡ true → words_in o ++ ws ≡ words_in (option_map (with_words_in ws) o)
+    here (Some p) h = refl
+    here None h = cc
+
+one_link : (ls : ℕ → Option Pipe) (f : Option Pipe → Option Pipe) (k l : ℕ) → ((o : Option Pipe) → words_in (f o) ≡ words_in o)
+    → words_in (changed ls k (f (ls k)) l) ≡ words_in (ls l)
+one_link ls f k l h = elim (cases_eq k l) [
+  | inl at ↦ ap (λ (i : ℕ). words_in (changed ls i (f (ls i)) l)) at ∙ ap words_in (link_there ls f l) ∙ h (ls l)
+  | inr ne ↦ ap words_in (links_elsewhere ls f k l ne)
+]
+
+shut_words : (write : Bool) (o : Option Pipe) → words_in (option_map (with_end_closed write) o) ≡ words_in o
+shut_words write (Some p) = refl
+shut_words write None = refl
+
+abbrev SameWords : Machine → Machine → ℕ → Type 0
+SameWords m n l = words_in (m.links l) ++ [] ≡ words_in (n.links l)
+
+same_words : (m n k : Machine) (l : ℕ) → n ≡ k → words_in (k.links l) ≡ words_in (m.links l) → SameWords m n l
+same_words m n k l is same = append-nil (words_in (m.links l)) ∙ sym (ap (λ (x : Machine). words_in (x.links l)) is ∙ same)
+
+appended_links : (m : Machine) (s i l : ℕ) (ws : List ℕ) → words_in ((effects (words_appended i ws) s m).links l) ≡ words_in (m.links l)
+unfolding effect
+appended_links m s i l [] = refl
+appended_links m s i l (w ∷ ws) = appended_links (effect (changes.Append i w) s m) s i l ws
+
+kept_words : (m n : Machine) (l : ℕ) → n.links ≡ m.links → SameWords m n l
+kept_words m n l same = append-nil (words_in (m.links l)) ∙ ap (λ (ls : ℕ → Option Pipe). words_in (ls l)) (sym same)
+
+restored_words : (m n : Machine) (line : StateLine) (l : ℕ) → Restores m line n
+    → words_in (m.links l) ++ (sent_by l (events.Restore line) ++ []) ≡ words_in (n.links l)
+unfolding effect
+restored_words m n (states.Sent k words) l f =
+    sent_words m k l words.items f.link ∙ sym (ap (λ (x : Machine). words_in (x.links l)) f.is)
+restored_words m n (states.EndShut k write) l f =
+    same_words m n _ l f.is (one_link m.links (option_map (with_end_closed write)) k l (shut_words write))
+restored_words m n (states.Join s i k write x y) l f =
+    same_words m n _ l f.is (one_link m.links (opened_link write s i x y) k l (opened_words write s i x y))
+restored_words m n (states.Job s u j console) l f = kept_words m n l (job_keeps m n s u j console f).links
+restored_words m n (states.Alarm s period next) l f = same_words m n _ l f.is refl
+restored_words m n (states.Under s t) l f = same_words m n _ l f.is refl
+restored_words m n (states.Tty s i write) l f = same_words m n _ l f.is refl
+restored_words m n (states.Disk s i d x y at) l f = same_words m n _ l f.is refl
+restored_words m n (states.Draft s i d x y) l f = same_words m n _ l f.is refl
+restored_words m n (states.Usr s i t write at) l f = same_words m n _ l f.is refl
+restored_words m n (states.Wrote s i words) l f = same_words m n _ l f.is (appended_links m s i l words.items)
+restored_words m n (states.Input c bytes) l f = same_words m n _ l f.is refl
+restored_words m n (states.Output c bytes) l f = same_words m n _ l f.is refl
+restored_words m n (states.Hold c s) l f = same_words m n _ l f.is refl
+restored_words m n line l f = kept_words m n l f.links
+
+line_words : (m n : Machine) (e : Event) (l : ℕ) → Leaves m e n → words_in (m.links l) ++ (sent_by l e ++ []) ≡ words_in (n.links l)
+line_words m n (events.Restore line) l h = restored_words m n line l h
+line_words m n e l h = kept_words m n l h.links
+
 each_balances : EachMoment Balances
 each_balances = record {
   letter = λ v i p forest. letter_balances v i p;
   turn = λ v s forest. λ l stands. append-nil (words_in (v.machine.links l));
-  line = λ v e n out t c forest is. λ l stands.
-      let same = (subst (LineKeepsBy v.machine) is (line_keeps v.machine v.block e)).links in
-      append-nil (words_in (v.machine.links l)) ∙ ap (λ (ls : ℕ → Option Pipe). words_in (ls l)) (sym same);
+  line = λ v e n out t c forest is. λ l stands. line_words v.machine n e l (line_does v.machine n v.block c e out t is);
 }
 
 -- several moments, after each of which the link exists
 balanced : (ts : List Moment) (n : Machine) (l : ℕ) → Linked Balances ts n → StandsAfter l ts n
-    → words_in ((machine_at ts n).links l) ++ flat_map (linked_at l Outward) ts ≡ flat_map (linked_at l Inward) ts ++ words_in (n.links l)
+    → words_in ((machine_at ts n).links l) ++ flat_map (put_in_at l) ts ≡ flat_map (linked_at l Inward) ts ++ words_in (n.links l)
 balanced [] n l linked stands = append-nil (words_in (n.links l))
 balanced (t ∷ ts) n l linked stands =
-    let outs = flat_map (linked_at l Outward) ts in
+    let outs = flat_map (put_in_at l) ts in
     let ins = flat_map (linked_at l Inward) ts in
-    sym (append_assoc (words_in (t.machine.links l)) (linked_at l Outward t) outs)
+    sym (append_assoc (words_in (t.machine.links l)) (put_in_at l t) outs)
     ∙ ap (λ (xs : List ℕ). xs ++ outs) (linked.0 l stands.0)
     ∙ append_assoc (linked_at l Inward t) (words_in ((machine_at ts n).links l)) outs
     ∙ ap (λ (xs : List ℕ). linked_at l Inward t ++ xs) (balanced ts n l linked.1 stands.1)

@@ -1,7 +1,7 @@
 -- The lines that the stepped machine writes are a transcript of the plain machine (docs/STEPS.md,
 -- "Lines").
 use Rattle.std.specs.Prelude.{◌≡◌, ◌<◌, ℕ, zero, suc, ◌+◌, not, Option, Some, None, option_map, List, ◌∷◌, length, refl}
-use Rattle.std.proofs.Common.{sym, ap, subst, arith}
+use Rattle.std.proofs.Common.{sym, ap, subst}
 use Rattle.its_records.specs.Item.{Item, Read}
 use Rattle.its_records.specs.declared.session.Event.{Event}
 use Rattle.its_plain.specs.Operator.Lines.{Lined, Done, Peeks, lined}
@@ -10,11 +10,10 @@ use Rattle.its_plain.specs.Machine.{Whole, no_machine}
 use Rattle.its_plain.specs.Operator.{Block, no_block, Refuses, Does, Ticks, Quits}
 use Rattle.its_plain.specs.Transcript.{Fate, Walk, at_start, Transcript}
 use Rattle.its_print.specs.Printing.{Line}
-use Rattle.its_plain.specs.Transcript.Turns.{is_running, runs, turn_after, highest, turns_asked, ticks_asked}
-use Rattle.its_plain.proofs.FairLaws.{turn_same, turn_within}
+use Rattle.its_plain.specs.Transcript.Turns.{is_running, runs, turn_after, highest, turn_kept, turns_asked, ticks_asked}
+use Rattle.its_plain.proofs.FairLaws.{turn_same}
 use Rattle.its_plain.proofs.RunLaws.{PacedOn, TurnBy, TurnsOn, LinedOn, Run, run_shows}
 use Rattle.its_frame.specs.declared.frame.Frame.{Frame}
-use Rattle.its_word.specs.Limits.{slots}
 use Rattle.its_stepped.specs.State.{State, seen, plain, no_state}
 use Rattle.its_stepped.specs.Tick.{tick}
 use Rattle.its_stepped.specs.Lines.{peeked, after_calm, with_raw, lifted_line, paces_of, after_ticks, told_by, Told, turned_by, turned, told, stepped}
@@ -49,8 +48,8 @@ pub runs_plain : (w : State) (k : ℕ) → runs (plain w) k ≡ runs w.raw k
 unfolding plain
 runs_plain w k = seen_running (w.frames k) (w.raw.jobs k)
 
-pub turn_plain : (w : State) (last : ℕ) → last < slots → turn_after (plain w) last ≡ turn_after w.raw last
-turn_plain w last l = turn_same (plain w) w.raw last l (runs_plain w)
+pub turn_plain : (w : State) (last : ℕ) → turn_after (plain w) last ≡ turn_after w.raw last
+turn_plain w last = turn_same (plain w) w.raw last (runs_plain w)
 
 paces_length : (w : State) (i n : ℕ) → length (paces_of w i n) ≡ n
 paces_length w i zero = refl
@@ -78,31 +77,30 @@ module _ {Good : Dots → State → Type 0} (u : Upkeep Good) where
       let t = turned k q w last next in TurnsOn k q (walk n w d b) last (λ x l rest. S x l rest t.fate) t.lines
 
   abbrev Follows : ℕ → Block → (State → ℕ → Told) → (Walk → ℕ → List Line → Fate → Type 0) → Type 0
-  Follows n b next S = (w : State) (d : Dots) (l : ℕ) → Good d w → l < slots → S (walk n w d b) l (next w l).lines (next w l).fate
+  Follows n b next S = (w : State) (d : Dots) (l : ℕ) → Good d w → S (walk n w d b) l (next w l).lines (next w l).fate
 
   turn_runs : (n k q : ℕ) (w : State) (d : Dots) (b : Block) (last : ℕ) (next : State → ℕ → Told) (S : Walk → ℕ → List Line → Fate → Type 0) (o : Option ℕ)
-      → last < slots → turn_after w.raw last ≡ o → Good d w → Follows n b next S
-      → ((w' : State) (f : Dots) (s : ℕ) → Good f w' → s < slots → TurnsRun n k q b next S w' f s)
+      → Good d w → Follows n b next S
+      → ((w' : State) (f : Dots) (s : ℕ) → Good f w' → TurnsRun n k q b next S w' f s)
       → let t = turned_by o q w (λ v s. turned k q v s next) (next w last) in
       TurnBy q (walk n w d b) o (λ x s rest. TurnsOn k q x s (λ y l more. S y l more t.fate) rest) (S (walk n w d b) last t.lines t.fate) t.lines
-  turn_runs n k q w d b last next S None l is g h more = h w d last g l
-  turn_runs n k q w d b last next S (Some s) l is g h more = (
+  turn_runs n k q w d b last next S None g h more = h w d last g
+  turn_runs n k q w d b last next S (Some s) g h more = (
     paces_of w s q,
     (turned k q (after_ticks w s q) s next).lines,
     refl,
     paces_length w s q,
-    ticks_run n w d b s q _ g (λ f good. more (after_ticks w s q) f s good (turn_within w.raw last s l is)),
+    ticks_run n w d b s q _ g (λ f good. more (after_ticks w s q) f s good),
   )
 
   turns_run : (n k q : ℕ) (w : State) (d : Dots) (b : Block) (last : ℕ) (next : State → ℕ → Told) (S : Walk → ℕ → List Line → Fate → Type 0)
-      → last < slots → Good d w
-      → Follows n b next S → TurnsRun n k q b next S w d last
-  turns_run n zero q w d b last next S l g h = h w d last g l
-  turns_run n (suc k) q w d b last next S l g h =
+      → Good d w → Follows n b next S → TurnsRun n k q b next S w d last
+  turns_run n zero q w d b last next S g h = h w d last g
+  turns_run n (suc k) q w d b last next S g h =
       let t = turned (suc k) q w last next in
       subst (λ o. TurnBy q (walk n w d b) o (λ x s rest. TurnsOn k q x s (λ y l more. S y l more t.fate) rest) (S (walk n w d b) last t.lines t.fate) t.lines)
-      (sym (turn_plain w last l))
-      (turn_runs n k q w d b last next S (turn_after w.raw last) l refl g h (λ w' f s good at. turns_run n k q w' f b s next S at good h))
+      (sym (turn_plain w last))
+      (turn_runs n k q w d b last next S (turn_after w.raw last) g h (λ w' f s good. turns_run n k q w' f b s next S good h))
 
   -- a line, if the lines after it go on
   line_runs : (n : ℕ) (w v : State) (d : Dots) (b : Block) (l : Lined) (next : State → Block → Told) (S : Walk → List Line → Fate → Type 0)
@@ -116,23 +114,24 @@ module _ {Good : Dots → State → Type 0} (u : Upkeep Good) where
   line_runs n w v d b (Done Quits) next S g a h = (refl, refl)
   line_runs n w v d b (Peeks s) next S g a h = (peeked w s, (next w b).lines, refl, h w d b g)
 
-  pub told_runs : (n : ℕ) (w : State) (d : Dots) (b : Block) (last : ℕ) (es : List Item) → last < slots → Good d w
+  pub told_runs : (n : ℕ) (w : State) (d : Dots) (b : Block) (last : ℕ) (es : List Item) → Good d w
       → Run (walk n w d b) last es (told n w b last es).lines (told n w b last es).fate
-  told_runs n w d b last (Read e ∷ es) l g =
+  told_runs n w d b last (Read e ∷ es) g =
       let t = told n w b last (Read e ∷ es) in
-      let S : Walk → List Line → Fate → Type 0 = λ x rest fate. TurnsOn (turns_asked e) (ticks_asked e) x last (λ y i more. Run y i es more fate) rest in
+      let kept = turn_kept last e in
+      let S : Walk → List Line → Fate → Type 0 = λ x rest fate. TurnsOn (turns_asked e) (ticks_asked e) x kept (λ y i more. Run y i es more fate) rest in
       subst (λ o. LinedOn (walk n w d b) o (λ x rest. S x rest t.fate) t.lines t.fate) (sym (u.line d w b e g))
       (line_runs n w (after_calm w b e) d b (lined (after_calm w b e).raw b e)
-      (λ v b'. turned (turns_asked e) (ticks_asked e) v last (λ x i. told (n + 1) x b' i es)) S g
+      (λ v b'. turned (turns_asked e) (ticks_asked e) v kept (λ x i. told (n + 1) x b' i es)) S g
       (u.after d w b e g)
       (λ w' d' b' good.
-      turns_run (n + 1) (turns_asked e) (ticks_asked e) w' d' b' last (λ x i. told (n + 1) x b' i es) (λ y i more fate. Run y i es more fate) l good
-      (λ x f i fine at. told_runs (n + 1) x f b' i es at fine)))
-  told_runs n w d b last _ l g = (refl, refl)
+      turns_run (n + 1) (turns_asked e) (ticks_asked e) w' d' b' kept (λ x i. told (n + 1) x b' i es) (λ y i more fate. Run y i es more fate) good
+      (λ x f i fine. told_runs (n + 1) x f b' i es fine)))
+  told_runs n w d b last _ g = (refl, refl)
 
   -- the lines of `stepped` are a transcript
   pub stepped_transcript : (es : List Item) → Transcript es (stepped es).lines (stepped es).fate
   stepped_transcript es =
       run_shows at_start highest es (stepped es).lines (stepped es).fate
       (subst (λ m. Run (record at_start { machine = m }) highest es (stepped es).lines (stepped es).fate) (no_state_plain no_machine)
-      (told_runs 1 (no_state no_machine) (λ _. 0) no_block highest es (omega arith) u.starts))
+      (told_runs 1 (no_state no_machine) (λ _. 0) no_block highest es u.starts))

@@ -6,13 +6,14 @@ use Rattle.std.proofs.lemmas.Option.{IfSome_then}
 use Rattle.std.proofs.lemmas.Bool.{cases_lt}
 use Rattle.its_records.specs.Item.{Item}
 use Rattle.its_records.specs.declared.session.Event.{Event}
+use Rattle.its_records.specs.declared.session.Event.TheVariants as events
 use Rattle.its_print.specs.Printing.{Line}
 use Rattle.its_plain.specs.Machine.Change.{channel_in, superior_in, console_in}
 use Rattle.its_plain.specs.Machine.{Chan, Shut, Pipe, Whole, Machine, limit}
 use Rattle.its_plain.specs.Operator.Lines.{Done, lined}
 use Rattle.its_plain.specs.Transcript.{Transcript}
 use Rattle.its_plain.specs.Operator.{Block, Does}
-use Rattle.its_plain.proofs.CallLineLaws.{Face, face, SlotKept, Stays, Made, HolderKept, Keeps, Takes, LineKeeps, LineKeepsBy, line_keeps}
+use Rattle.its_plain.proofs.CallLineLaws.{Face, face, SlotKept, Stays, Made, HolderKept, Keeps, Takes, LineKeeps, Leaves, line_does, slot_some}
 use Rattle.its_stepped.specs.Calling.{Decoding}
 use Rattle.its_stepped.specs.Forest.{OnInferior, OnConsole, end_at, Forest}
 use Rattle.its_stepped.specs.Lines.{stepped}
@@ -20,6 +21,7 @@ use Rattle.its_stepped.proofs.Keeping.ForestLaws.{forest_starts, same_forest}
 use Rattle.its_stepped.proofs.Duties.FitLaws.{forest_steps}
 use Rattle.its_stepped.proofs.Duties.GivenLaws.{given}
 use Rattle.its_stepped.proofs.Keeping.JoinedLaws.{same_link, joined_same}
+use Rattle.its_stepped.proofs.Keeping.RestoredLaws.{restored_forest}
 use Rattle.its_stepped.proofs.Running.UpkeepLaws.{Lasting, session_transcript}
 use Rattle.its_word.specs.Limits.{slots, limit_of}
 use Rattle.its_records.proofs.FreeLaws.{limit_few}
@@ -49,17 +51,9 @@ console_faced : (o : Option Whole) → console_in o ≡ face_console (option_map
 console_faced (Some q) = refl
 console_faced None = refl
 
-some_faced : (o : Option Whole) → is_some o ≡ is_some (option_map face o)
-some_faced (Some q) = refl
-some_faced None = refl
-
 slot_superior : (o p : Option Whole) → SlotKept o p → superior_in p ≡ superior_in o
 slot_superior o p (Stays e) = superior_faced p ∙ ap face_superior e ∙ sym (superior_faced o)
 slot_superior o p (Made u j console none is) = ap superior_in is ∙ sym (ap superior_in none)
-
-slot_some : (o p : Option Whole) → SlotKept o p → is_some o ≡ true → is_some p ≡ true
-slot_some o p (Stays e) h = some_faced p ∙ ap is_some e ∙ sym (some_faced o) ∙ h
-slot_some o p (Made u j console none is) h = ap is_some is
 
 slot_channel : (m : Machine) (k i : ℕ) (o p : Option Whole) → SlotKept o p → OnInferior m k (channel_in o i) → OnInferior m k (channel_in p i)
 slot_channel m k i o p (Stays e) h = subst (OnInferior m k) (channel_faced o i ∙ sym (ap (λ (f : Option Face). face_channel f i) e)
@@ -112,7 +106,11 @@ keeps_forest m n h d = same_forest m n
 
 pub line_forest : (m n : Machine) (b c : Block) (e : Event) (out : List Line) (touched : ℕ → Bool) → Forest m
     → lined m b e ≡ Done (Does n out touched c) → Forest n
-line_forest m n b c e out touched d is = keeps_forest m n (subst (LineKeepsBy m) is (line_keeps m b e)) d
+line_forest m n b c e out touched d is = by e (line_does m n b c e out touched is)
+  where
+    by : (e : Event) → Leaves m e n → Forest n
+    by (events.Restore line) h = restored_forest keeps_forest m n line h d
+    by e h = keeps_forest m n h d
 
 -- what lasts through a session
 pub lasting : Decoding → Lasting Forest

@@ -11,7 +11,8 @@ use its_word::read_octal;
 use std::alloc::Global;
 
 /// What the program is asked to do: to run a session, to check one, to generate one of so many
-/// rounds and run that, to verify a session and its transcript, or to assemble a text.
+/// rounds and run that, to verify a session and its transcript, to assemble a text, or to save the
+/// system that a session leads to.
 #[derive(Clone, Copy, Debug, PartialEq, Eq)]
 pub enum Command {
     Run,
@@ -19,6 +20,7 @@ pub enum Command {
     Gen(u32),
     Verify,
     Asm,
+    Save,
 }
 
 /// The most rounds of a generated session.
@@ -114,7 +116,7 @@ fn command_from(word: Option<&str>, number: Option<&str>) -> Option<Command>
     }
 }
 
-/// `run`, `check`, `verify` or `asm`.
+/// `run`, `check`, `verify`, `asm` or `save`.
 fn bare_command(word: &str) -> Option<Command>
     ensures { result ≡ bare_command word.now }
 {
@@ -123,6 +125,7 @@ fn bare_command(word: &str) -> Option<Command>
         "check" => Some(Command::Check),
         "verify" => Some(Command::Verify),
         "asm" => Some(Command::Asm),
+        "save" => Some(Command::Save),
         _ => None,
     }
 }

@@ -1,6 +1,7 @@
 //! RUN: turns in a circle of slots, after its line.
 ghost use Rattle.std.specs.Prelude.{◌≡◌, ◌≤◌};
 ghost use Rattle.its_session.specs.Fits.{EventFits};
+ghost use Rattle.its_plain.specs.Transcript.Turns.{turn_kept};
 ghost use Rattle.its_world.specs.World.{state_of};
 ghost use Rattle.its_monitor.specs.Kept.{Kept};
 ghost use Rattle.its_top.specs.Causes.{FlowCause};
@@ -13,7 +14,7 @@ use crate::sessions::room::Room;
 use crate::sessions::ticking::tick_line;
 use its_io::Sink;
 use its_monitor::Monitor;
-use its_records::Event;
+use its_records::{Event, StateLine};
 use its_robin::turn_after;
 use its_word::Slot;
 
@@ -41,7 +42,22 @@ pub fn follow<K: Sink>(
 {
     match event {
         Event::Run { n, q } => circle(m, last, *n, *q, room, out),
-        _ => answer(m, p, event, room, out),
+        _ => {
+            *last = turn_kept(*last, event);
+            answer(m, p, event, room, out)
+        }
+    }
+}
+
+/// The slot that counts as that of the last turn after a line: TURN names it.
+pub fn turn_kept(last: Slot, event: &Event) -> Slot
+    ensures { result ≡ turn_kept last event.now }
+{
+    match event {
+        Event::Restore {
+            line: StateLine::Turn { s },
+        } => *s,
+        _ => last,
     }
 }
 

@@ -14,6 +14,7 @@ use crate::sessions::consoles::{drain_bytes, type_bytes};
 use crate::sessions::filing::{add_words, find_file, list_files, make_file};
 use crate::sessions::loading::load_words;
 use crate::sessions::progress::Progress;
+use crate::sessions::restoring::restore;
 use crate::sessions::room::Parts;
 use crate::sessions::shown::{Over, Shown};
 use crate::sessions::ticking::paces_of;
@@ -71,12 +72,13 @@ pub fn perform<'a>(
         Event::Peek { s } => peek(m, *s, parts),
         Event::Dir { d } => list_files(m, *d),
         Event::Show { d, x, y } => find_file(m, *d, *x, *y),
+        Event::Restore { line } => restore(m, p, line),
         Event::End => Err(Over::Ended),
     }
 }
 
 /// What an event shows whose call answers nothing.
-fn quiet<'a>(answer: Result<(), Refusal>) -> Result<Shown<'a>, Over>
+pub fn quiet<'a>(answer: Result<(), Refusal>) -> Result<Shown<'a>, Over>
     ensures { result ≡ quiet answer }
 {
     match answer {

@@ -10,7 +10,7 @@ ghost use Rattle.its_session.specs.Fits.{EventFits};
 ghost use Rattle.its_top.specs.Answer.{FindsStart, FoundStart, block_of};
 ghost use Rattle.its_top.specs.Silent.{Leads, LedTo, TurnsMade};
 
-use crate::sessions::circle::HIGHEST;
+use crate::sessions::circle::{HIGHEST, turn_kept};
 use crate::sessions::performing::perform;
 use crate::sessions::progress::Progress;
 use crate::sessions::room::{Parts, Runs};
@@ -108,6 +108,7 @@ fn obey_line(
         make_turns(m, last, *n, *q, &mut parts.runs);
         return None;
     }
+    *last = turn_kept(*last, event);
     let number = p.number;
     match perform(m, p, event, parts) {
         Ok(_) => None,

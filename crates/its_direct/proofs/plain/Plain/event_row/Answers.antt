@@ -1,5 +1,8 @@
--- The results of the lines that have no answer of their own.
+-- The results of the lines that have no answer of their own, and of those of the state part.
+use Rattle.std.proofs.Common.{subst}
+use Rattle.its_session.specs.Fits.{EventFits}
 use Rattle.its_direct.proofs.EventLaws.{told_as, told_clock, told_cont, told_deposit, told_file, told_int, told_stop}
+use Rattle.its_direct.proofs.StateLaws.{line_fits, told_line}
 use Rattle.its_direct.proofs.plain.Plain.event_row.Goals as goal
 
 pub returns-in-File-clause-told : goal.returns-in-File-clause-told
@@ -33,3 +36,9 @@ pub returns-in-Cont-clause-told : goal.returns-in-Cont-clause-told
 returns-in-Cont-clause-told c =
     told_as _ _ _ _ _ _ c.in-Cont.is c.answered-in-Cont.ensures
     (told_cont c.args.self.now c.cont.new.self c.in-Cont.s c.cont.result c.cont.ensures.done c.cont.ensures.refused)
+
+pub restore-requires-clause-fits : goal.restore-requires-clause-fits
+restore-requires-clause-fits c = line_fits c.in-Restore.line (subst (EventFits 2) c.in-Restore.is c.requires.fits)
+
+pub returns-in-Restore-clause-told : goal.returns-in-Restore-clause-told
+returns-in-Restore-clause-told c = told_line _ _ _ _ _ c.in-Restore.is c.requires.stands c.restore.ensures.restores

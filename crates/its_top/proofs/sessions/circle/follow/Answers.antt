@@ -6,7 +6,7 @@ returns-in-Run-clause-follows g c = run_follows _ _ _ _ _ _ _ _ _ _ _ _ c.in-Run
 
 pub returns-in_default : goal.returns-in_default
 returns-in_default g c = record {
-  follows = line_follows _ _ _ _ _ _ _ _ _ _ (asks_none _ c.in_default.not-Run) c.answer.ensures.answered;
+  follows = line_follows _ _ _ _ _ _ _ _ _ _ _ c.turn_kept.ensures (asks_none _ c.in_default.not-Run) c.answer.ensures.answered;
   sound = c.answer.ensures.sound;
   number = c.answer.ensures.kept;
   cause = c.answer.ensures.cause;

@@ -95,3 +95,6 @@ returns-in-Stop-clause-performed c =
 pub returns-in-Cont-clause-performed : goal.returns-in-Cont-clause-performed
 returns-in-Cont-clause-performed c =
     at_event _ _ _ _ _ _ _ c.in-Cont.is (cont_performed _ _ _ _ _ _ c.quiet-in-Cont.ensures c.cont.ensures.done c.cont.ensures.refused)
+
+pub returns-in-Restore-clause-performed : goal.returns-in-Restore-clause-performed
+returns-in-Restore-clause-performed c = at_event _ _ _ _ _ _ _ c.in-Restore.is c.restore.ensures.performed

@@ -1,6 +1,6 @@
-use Rattle.std.proofs.Common.{sym, ◌∙◌}
-use Rattle.its_top.proofs.SilentLaws.{leads_on, silent_broken, silent_next, silent_over}
-use Rattle.its_top.proofs.StartLaws.{found_start, start_over}
+use Rattle.std.proofs.Common.{sym}
+use Rattle.its_top.proofs.SilentLaws.{silent_broken, silent_over}
+use Rattle.its_top.proofs.StartLaws.{found_start}
 use Rattle.its_top.proofs.sessions.silent.obey_all.Goals as goal
 
 pub returns-in_default-clause-led : goal.returns-in_default-clause-led

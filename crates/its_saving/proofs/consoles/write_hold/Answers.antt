@@ -1,0 +1,7 @@
+use Rattle.std.proofs.Common.{refl}
+use Rattle.its_saved.specs.StateLine as state
+use Rattle.its_saving.proofs.WritingLaws.{writes_line}
+use Rattle.its_saving.proofs.consoles.write_hold.Goals as goal
+
+pub returns : goal.returns
+returns g c = writes_line _ _ _ _ _ (state.Hold c.args.c c.args.s) _ refl c.write_line.ensures

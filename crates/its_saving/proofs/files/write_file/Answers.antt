@@ -1,0 +1,18 @@
+use Rattle.std.proofs.Common.{[], length, ◌∷◌}
+use Rattle.its_files.specs.Files.{names_at, words_at}
+use Rattle.its_saved.specs.Saving.{in_rows}
+use Rattle.its_saved.specs.StateLine as state
+use Rattle.its_saving.proofs.WritingLaws.{first_broken, first_then, writes_line}
+use Rattle.its_saving.proofs.files.write_file.Goals as goal
+
+pub returns : goal.returns
+returns g c = first_then _ _ _ _ _ _ _ _ (state.File (names_at c.args.files.now c.args.id) ∷ [])
+    (in_rows (state.FileWords (names_at c.args.files.now c.args.id)) 16 (length (words_at c.args.files.now c.args.id))
+    (words_at c.args.files.now c.args.id)) c.in_ok-write_line.was
+    (writes_line _ _ _ _ _ (state.File (names_at c.args.files.now c.args.id)) _ c.file_of.ensures c.write_line.ensures) c.write_words.ensures
+
+pub returns-in_err-write_line : goal.returns-in_err-write_line
+returns-in_err-write_line g c = first_broken _ _ _ _ _ _ _ (state.File (names_at c.args.files.now c.args.id) ∷ [])
+    (in_rows (state.FileWords (names_at c.args.files.now c.args.id)) 16 (length (words_at c.args.files.now c.args.id))
+    (words_at c.args.files.now c.args.id)) c.in_err-write_line.was
+    (writes_line _ _ _ _ _ (state.File (names_at c.args.files.now c.args.id)) _ c.file_of.ensures c.write_line.ensures) c.from_residual.ensures.0

@@ -1,0 +1,20 @@
+use Rattle.std.proofs.Common.{arith}
+use Rattle.its_jobs.specs.Table.{superior_at}
+use Rattle.its_saved.specs.Saving.{under_by}
+use Rattle.its_saving.proofs.WritingLaws.{each_all, each_cut, each_next, none_written}
+use Rattle.its_saving.proofs.jobs.write_superiors.Goals as goal
+
+pub loop-s-init : goal.loop-s-init
+loop-s-init g c = none_written _ _ _
+
+pub loop-s-preserved : goal.loop-s-preserved
+loop-s-preserved g c = each_next _ _ (λ k. under_by k (superior_at c.args.w.now.jobs k)) _ _ _ _ _ _ _ c.new.ensures c.loop-s.invariant
+    c.in_ok-write_superior.was c.write_superior.ensures
+
+pub returns : goal.returns
+returns g c = each_all _ _ (λ k. under_by k (superior_at c.args.w.now.jobs k)) _ _ _ c.loop-s.s 96 c.loop-s.invariant
+    (omega (arith, c.loop-s-test.false)) (omega (arith, c.loop-s.auto.s-end))
+
+pub returns-in_err-write_superior : goal.returns-in_err-write_superior
+returns-in_err-write_superior g c = each_cut _ _ (λ k. under_by k (superior_at c.args.w.now.jobs k)) _ _ _ _ _ _ _ _ 96 c.new.ensures
+    c.loop-s.invariant c.in_err-write_superior.was c.write_superior.ensures (omega (arith, c.loop-s-test.true)) c.from_residual.ensures.0

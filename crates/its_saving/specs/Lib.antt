@@ -1,0 +1,5 @@
+pub mod Written
+pub mod Rows
+pub mod Keeping
+pub mod Writable
+pub mod Parts
