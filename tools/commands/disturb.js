@@ -2,7 +2,8 @@
 
 import {Disturbance, SETTLE, WAYS, runsOn} from "../lib/disturbing.js";
 import {Words, command, textOf, write} from "../lib/node/command.js";
-import {runEach, runOne} from "../lib/node/program.js";
+import {program, runEach, runLater, runOne} from "../lib/node/program.js";
+import {Cut} from "../lib/saving.js";
 import {numberOf} from "../lib/told.js";
 import {Wrong, isOctal, octal, pendingNames, value} from "../lib/words.js";
 
@@ -31,11 +32,17 @@ the octal number in parentheses; the last line is in decimal.
 
 A job that waits is the same after each \`w\` of a line. So of many \`w\` in a row the first one and the last one are disturbed; with --each all are.
 
-At most 4096 ticks are disturbed. Of a longer session --from, --to and --slot say which ones. The status is 0 if no run differs, else 1.
+With --save the session is saved at each of its ticks, also those after which no job runs, and the rest goes on from what \`save\` wrote, the
+checkpoint. \`verify\` has to accept what the uncut session shows of the rest; the rest has to show, letter by letter, what it shows if STATE disturbs each
+job at the cut; and the checkpoint of the checkpoint has to be the same text. Else the row says "no". It says "late" if only what is
+compared as above differs: a line comes too early for a job that executes its call again.
+
+At most 4096 ticks are disturbed. Of a longer session --from, --to and --slot say which ones. The status is 0 if no row says "no", else 1.
 `;
 
 const WORDS = new Words("disturb", ABOUT, [
   {name: "--by", choices: Object.keys(WAYS), otherwise: "exam", about: "how the job is disturbed (exam)"},
+  {name: "--save", about: "save the session at each of its ticks, and go on from the checkpoint"},
   {name: "--settle", takes: "N", whole: true, otherwise: SETTLE, about: "how many ticks each slot gets after the last TICK line (" + SETTLE + ", in decimal)"},
   {name: "--from", takes: "N", otherwise: "1", about: "the first tick that is disturbed, in octal"},
   {name: "--to", takes: "N", otherwise: "7777777777", about: "the last one, in octal"},
@@ -75,23 +82,67 @@ function metBy(work, tick, transcript) {
   return met.differs && met.fatal ? work.met(tick, runOne(work.session(tick, met.fatal), work.name), met.fatal) : met;
 }
 
+/** What the program answers.
+ * @param {string} name
+ * @param {string} kind
+ * @param {string} input */
+async function answered(name, kind, input) {
+  const {output, problem} = await runLater([program(), kind], input);
+  if (problem) throw new Wrong(name + ": " + problem);
+  return output;
+}
+
+/** A session that is saved after a tick, and goes on from the checkpoint.
+ * @param {Disturbance} work
+ * @param {Tick} tick */
+async function savedAt({name, lines}, tick) {
+  const cut = new Cut(name, lines, tick), answer = (/** @type {string} */ kind, /** @type {string} */ input) => answered(name, kind, input);
+  const [looked, saved] = await Promise.all([answer("run", cut.look()), answer("save", cut.begun())]);
+  const [again, uncut] = await Promise.all([answer("save", saved), answer("run", cut.uncut())]);
+  const [after, disturbed] = await Promise.all([answer("run", cut.after(saved)), answer("run", cut.disturbed(saved))]);
+  const verdict = await answer("verify", cut.judged(saved, looked, uncut)), wrote = {looked, saved, again, uncut, after, disturbed, verdict};
+  const fault = cut.fault(wrote);
+  return {...cut.met(looked), fault, late: fault ? "" : cut.late(wrote)};
+}
+
+/** Saves the session after each of its ticks, and reports the result.
+ * @param {Disturbance} work */
+async function saveEach(work) {
+  const rows = [], counts = {yes: 0, late: 0, no: 0};
+  for (const tick of work.ticks) {
+    const {frame, left, fault, late} = await savedAt(work, tick);
+    counts[fault ? "no" : late ? "late" : "yes"] += 1;
+    rows.push(cells(tick, frame, left, fault ? "no: " + fault : late ? "late: " + late : "yes"));
+  }
+  const late = counts.late ? ", " + counts.late + " late" : "";
+  write([HEAD.join("  "), ...rows, "", totals(work, "saved", rows.length) + counts.yes + " the same" + late + ", " + counts.no + " not"].join("\n") + "\n");
+  return counts.no ? 1 : 0;
+}
+
+/** The cells of a row.
+ * @param {Tick} tick
+ * @param {string} frame
+ * @param {number} left
+ * @param {string} same */
+function cells(tick, frame, left, same) {
+  return [octal(tick.number).padStart(HEAD[0].length), numberOf(tick.line), tick.letter.padEnd(6), frame.padEnd(20), String(left).padStart(13), same].join("  ");
+}
+
 /** A run, as a row of the table.
  * @param {Met} one */
 function row({tick, frame, left, differs, fatal, again}) {
   const same = differs ? "no: " + differs : "yes";
   const more = again ? ", with " + pendingNames(octal(fatal)).join(" ") + " set again after CONT, which clears it" : "";
-  return [octal(tick.number).padStart(HEAD[0].length), numberOf(tick.line), tick.letter.padEnd(6), frame.padEnd(20), String(left).padStart(13),
-          same + more].join("  ");
+  return cells(tick, frame, left, same + more);
 }
 
-/** The last line: how many ticks there are, and how many of them are disturbed.
+/** The beginning of the last line: how many ticks there are, and after how many of them something was done.
  * @param {Disturbance} work
- * @param {string} by
- * @param {number} count
- * @param {number} differ */
-function totals({count: all, skipped}, by, count, differ) {
+ * @param {string} done
+ * @param {number} count */
+function totals({count: all, skipped}, done, count) {
   return "in decimal: " + all + (all === 1 ? " tick, " : " ticks, ") + (skipped ? skipped + " of them as the tick before, " : "") + count +
-    " of them disturbed by " + by.toUpperCase() + ": " + (count - differ) + " the same, " + differ + " not";
+    " of them " + done + ": ";
 }
 
 /** A number of --from, --to and --slot.
@@ -104,10 +155,11 @@ function octalOf(word) {
 /** Runs the session, disturbs it and reports the result.
  * @param {string[]} given */
 export async function main(given) {
-  const {session: name, by, settle, from, to, slot, each} = WORDS.values(given);
+  const {session: name, by, save, settle, from, to, slot, each} = WORDS.values(given);
   if (settle < 0 || settle > 2048) throw new Wrong("--settle is 0 to 2048");
   const range = {first: octalOf(from), last: octalOf(to), slot: slot === null ? null : octalOf(slot)}, session = textOf(name);
-  const work = new Disturbance(name, session, runOne(session, name), by, settle, range, each);
+  const work = new Disturbance(name, session, runOne(session, name), by, settle, range, each, save);
+  if (save) return saveEach(work);
   work.take(runOne(work.plain, name));
   const ticks = await runningTicks(work), rows = [];
   let differ = 0;
@@ -117,7 +169,7 @@ export async function main(given) {
     rows.push(row(met));
     if (met.differs) differ += 1;
   }
-  write([HEAD.join("  "), ...rows, ...(differ ? ["", LATE] : []), "", totals(work, by, rows.length, differ)].join("\n") + "\n");
+  write([HEAD.join("  "), ...rows, ...(differ ? ["", LATE] : []), "", totals(work, "disturbed by " + by.toUpperCase(), rows.length) + (rows.length - differ) + " the same, " + differ + " not"].join("\n") + "\n");
   return differ ? 1 : 0;
 }
 

@@ -49,7 +49,8 @@ export function watched(words) {
   return Array.from({length: count}, (_, at) => start + at);
 }
 
-/** The lines of a session from a first to a last one, in decimal, and its VERSION line before them. The end of the input is no line.
+/** The lines of a session from a first to a last one, in decimal, and before them a VERSION line, if it has one or a SYSTEM line. The end of
+ * the input is no line.
  * @param {string} name
  * @param {Line[]} lines
  * @param {number} first
@@ -63,7 +64,8 @@ function part(name, lines, first, last) {
     name + ": the part " + said + " inside the block of " + line.block + " that " + atLine(line.since) + " opens");
   if (some[0].block) throw inBlock(some[0], "begins");
   if (behind.block && !behind.ended) throw inBlock(behind, "ends");
-  return [...(first > 1 && lines[0].kind === "VERSION" ? lines.slice(0, 1) : []), ...some];
+  const isGiven = first > 1 && ["VERSION", "SYSTEM"].includes(lines[0].kind);
+  return [...(isGiven ? [{...lines[0], text: lines[0].text.replace("SYSTEM", "VERSION")}] : []), ...some];
 }
 
 /** Complains of lines that one cannot step through.

@@ -1,4 +1,5 @@
-"""Joins the modules of the page into one script. Each becomes a function that gives what it exports, and is called when it is asked for first."""
+"""Joins the modules of the page into one script. Each becomes a function that gives what it exports, and is called when it is asked for first.
+Lines that are comments are left out."""
 
 import os
 import re
@@ -27,6 +28,28 @@ def text_of(name: str) -> str:
             return file.read()
     except OSError as problem:
         raise Wrong("tools/%s: %s" % (name, problem.strerror))
+
+
+def bare(name: str, text: str) -> str:
+    """A module without the lines that are comments. No such line may be in a text that goes over several lines."""
+    lines: List[str] = []
+    in_comment = in_text = False
+    for line in text.split("\n"):
+        word = line.strip()
+        begins = word.startswith("/**") and word.find("*/") in (-1, len(word) - 2)
+        is_comment = in_comment or begins or word.startswith("//")
+        if is_comment and in_text:
+            raise Wrong("tools/%s: a line of a text looks like a comment: %s" % (name, word))
+        if not is_comment:
+            lines.append(line)
+            in_text ^= line.count("`") % 2 == 1
+        elif in_comment or begins:
+            in_comment = "*/" not in word
+            if not in_comment and not word.endswith("*/"):
+                raise Wrong("tools/%s: something follows a comment in its line: %s" % (name, word))
+    if in_comment or in_text:
+        raise Wrong("tools/%s: a comment or a text has no end" % name)
+    return "\n".join(lines)
 
 
 def imported(name: str, text: str) -> List[str]:
@@ -70,7 +93,7 @@ def joined(entries: List[str]) -> str:
         text = text_of(name)
         for other in imported(name, text):
             add(other, path + [name])
-        functions[name] = as_function(name, text)
+        functions[name] = as_function(name, bare(name, text))
 
     for entry in entries:
         add(entry, [])

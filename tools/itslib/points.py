@@ -112,6 +112,17 @@ class Points:
         self.do(CLICK % "tour-end")
         self.want("the tour is closed", self.browser.value("byId('tour').hidden"))
 
+    def saved(self) -> None:
+        """The system of a moment is shown as a text, and a session begins with it."""
+        self.open()
+        self.do("choose('session')")
+        self.do(CLICK % "save-here")
+        self.shows("what is saved", "!byId('saved').hidden && byId('saved-text').textContent.endsWith('READY\\n')")
+        self.do(CLICK % "saved-close")
+        self.do(CLICK % "go-on-here")
+        self.shows("the session that goes on", DRAWN + " && page.moment === 1 && page.shown.name === 'tour-run-saved.its' && " +
+                   "page.shown.text === byId('saved-text').textContent")
+
     def kept(self) -> None:
         """Own work is kept, asked for before it is replaced, and brought back."""
         self.open()
@@ -323,7 +334,7 @@ class Points:
     def check(self) -> None:
         """Checks all points."""
         self.first_view()
-        for act in (self.tour, self.kept, self.opened, self.texts, self.tasks, self.verified, self.consoles, self.strip, self.dead, self.rest):
+        for act in (self.tour, self.saved, self.kept, self.opened, self.texts, self.tasks, self.verified, self.consoles, self.strip, self.dead, self.rest):
             self.browser.shape(*SIZES[0])
             act()
         self.browser.value("void localStorage.clear()")

@@ -27,13 +27,16 @@ PROMISED = {
     # what each line does, what it may touch, and how many turns it asks for
     "its_plain/specs/Operator/Lines.antt": {KIND: "operate lined"},
     "its_security/specs/OperatorParts.antt": {KIND: "touched"},
-    "its_plain/specs/Transcript/Turns.antt": {KIND: "turns_asked ticks_asked"},
-    # of one kind of line: the bytes of TYPE, the words of `/`
-    "its_plain/specs/Promise/Ledger.antt": {KIND: "typed_by"},
+    "its_plain/specs/Transcript/Turns.antt": {KIND: "turns_asked ticks_asked turn_kept"},
+    # of one kind of line: the bytes of TYPE, IN and OUT, the words of SENT and of `/`
+    "its_plain/specs/Promise/Ledger.antt": {KIND: "typed_by placed_by"},
+    "its_plain/specs/Promise/LinkLedger.antt": {KIND: "sent_by"},
     "its_security/specs/RunIntegrity.antt": {KIND: "IsSpared"},
     # reading and writing a line
-    "its_session/specs/Events.antt": {KIND: "place_after version_after item_then"},
+    "its_session/specs/Events.antt": {WALK: "before_end", KIND: "place_after version_after item_then"},
     "its_session/specs/Writing.antt": {KIND: "text_of_event HasWords"},
+    # what may follow a session that is saved
+    "its_session/specs/Fits.antt": {WALK: "ReadAt", KIND: "EventFits place_of Stands"},
 }
 OTHER = {
     # the text that the stepped machine writes, and the command `check`
@@ -49,13 +52,10 @@ OTHER = {
     "its_verify/specs/Going.antt": {KIND: "is_end"},
     "its_top/specs/Answer.antt": {KIND: "FindsStart"},
     "its_top/specs/Telling.antt": {KIND: "goes_on_after"},
-    # what may follow a session may follow the lines that its machine is saved in
-    "its_saved/specs/GoingOn.antt": {WALK: "ReadAt"},
     # the state that a session leaves, and the lines of the state part obeyed one by one
     "its_top/specs/Leaving.antt": {WALK: "left", EFFECT: "left_by"},
     "its_saved/specs/Text.antt": {EFFECT: "Obeys"},
-    # what the numbers of a line may be, and the generated session
-    "its_session/specs/Fits.antt": {KIND: "EventFits place_of Stands"},
+    # the generated session
     "its_session/specs/Generated.antt": {KIND: "IsGenerated"},
 }
 

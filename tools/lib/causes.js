@@ -3,7 +3,8 @@
 
 import {isItOf} from "./alike.js";
 import {badByte, cause, noName} from "./bytes.js";
-import {CLOSES, JOB_LINES, LINES, atLine} from "./session.js";
+import {CLOSES, JOB_LINES, LINES, STATE_LINES, atLine, isInState} from "./session.js";
+import {STATE_FORMS, STATE_WRITTEN, noTag, stateCause, stateRanges} from "./state_causes.js";
 import {isOctal, number, octal} from "./words.js";
 
 /** @typedef {import("./session.js").Line} Line */
@@ -11,9 +12,9 @@ import {isOctal, number, octal} from "./words.js";
 /** @typedef {import("./readings.js").Known} Known */
 /** @typedef {import("./bytes.js").Cause} Cause */
 
-/** What follows the first word of each line: n a number, name a name, con a console or `-`.
+/** What follows the first word of each line outside the state part: n a number, name a name, con a console or `-`.
  * @type {Record<string, string>} */
-export const FORMS = {
+const FORMS = {
   VERSION: "n", LOAD: "name name con", RO: "n", SYM: "name n", GO: "n", FILE: "name name name", EOF: "", TICK: "n n", RUN: "n n",
   TYPE: "n n", DRAIN: "n n", CLOCK: "n", INT: "n n n", EXAM: "n n n", LIST: "n n n", STATE: "n", DEPOSIT: "n n n", STOP: "n", CONT: "n",
   PEEK: "n", DIR: "name", SHOW: "name name name", END: ""};
@@ -24,7 +25,7 @@ export const WRITTEN = {
   VERSION: "VERSION v", LOAD: "LOAD u j c", RO: "RO p", SYM: "SYM name a", GO: "GO a", FILE: "FILE d x y", EOF: "EOF", TICK: "TICK s n",
   RUN: "RUN n q", TYPE: "TYPE c and 1 to 32 bytes", DRAIN: "DRAIN c n", CLOCK: "CLOCK n", INT: "INT s v w", EXAM: "EXAM s a n",
   LIST: "LIST s a n", STATE: "STATE s", DEPOSIT: "DEPOSIT s a w", STOP: "STOP s", CONT: "CONT s", PEEK: "PEEK s", DIR: "DIR d",
-  SHOW: "SHOW d x y", END: "END", "a/": "a/ and 1 to 16 words", "/": "/ and 1 to 16 words"};
+  SHOW: "SHOW d x y", END: "END", "a/": "a/ and 1 to 16 words", "/": "/ and 1 to 16 words", ...STATE_WRITTEN};
 
 /** A number with a range of its own: which word of the line, least, most, and what it is.
  * @typedef {[number, number, number, string]} Range */
@@ -34,7 +35,7 @@ const ADDRESS = [2, 0, 0o777777, "an address"];
 const SPAN = [ADDRESS, [3, 1, 0o10, "the count of words"]];
 /** @type {Record<string, Range[]>} */
 const RANGES = {
-  VERSION: [[1, 1, 2, "the version"]], RO: [[1, 0, 0o377, "a page"]], SYM: [ADDRESS], GO: [[1, 0, 0o777777, "an address"]],
+  VERSION: [[1, 1, 2, "the version"]], SYSTEM: [[1, 1, 2, "the version"]], RO: [[1, 0, 0o377, "a page"]], SYM: [ADDRESS], GO: [[1, 0, 0o777777, "an address"]],
   TICK: [[2, 1, 0o1000, "the count of ticks"]],
   RUN: [[1, 1, 0o1000, "the count of turns"], [2, 1, 0o100, "the count of ticks of a turn"]],
   DRAIN: [[2, 1, 0o100, "the count of bytes"]], EXAM: SPAN, LIST: SPAN, DEPOSIT: [ADDRESS]};
@@ -54,16 +55,36 @@ export function starts(line) {
   });
 }
 
+/** For each line with any number of words: the first of them, and how many it may have.
+ * @type {Record<string, [number, number]>} */
+const MANY = {"a/": [1, 16], "/": [1, 16], TYPE: [2, 32], WROTE: [3, 16], SENT: [2, 16], IN: [2, 32], OUT: [2, 32]};
+
+/** A line at a place at which it may not occur, as far as the state part is concerned.
+ * @param {Line} line
+ * @param {number} column */
+function wrongForState(line, column) {
+  if (line.kind === "SYSTEM" && line.number > 1) return cause("not allowed here: SYSTEM is allowed in line 1 alone", column);
+  const isOwn = STATE_LINES.includes(line.kind) || line.kind in STATE_FORMS || line.kind === "a/" || line.kind === "/";
+  if (line.block === "SYSTEM" && !isOwn) {
+    return cause("not allowed here: the state part is open since " + atLine(line.since) + ", and up to its READY only its own lines are allowed", column);
+  }
+  return STATE_LINES.includes(line.kind) && !isInState(line) ?
+    cause("not allowed here: " + line.kind + " lines are allowed only in the state part, after SYSTEM in line 1, up to its READY", column) : null;
+}
+
 /** A line at a place at which it may not occur.
- * @param {Line} line */
-function wrongPlace(line) {
+ * @param {Line} line
+ * @param {Known} known */
+function wrongPlace(line, known) {
   /** @type {Record<string, string>} */
   const inside = {"a/": "LOAD", RO: "LOAD", SYM: "LOAD", GO: "LOAD", "/": "FILE", EOF: "FILE"};
   const [column] = starts(line);
   if (!LINES[line.kind] && !inside[line.kind]) return null;
   if (line.kind === "VERSION" && line.number > 1) return cause("not allowed here: VERSION is allowed in line 1 alone", column);
+  const found = wrongForState(line, column);
+  if (found || isInState(line)) return found;
   if (["RO", "SYM", "RUN", "LIST"].includes(line.kind) && line.version === 1) {
-    return cause(line.kind + " lines are of version 2 of the session text: line 1 has to be VERSION 2", column);
+    return cause(line.kind + " lines are of version 2 of the session text: line 1 has to be " + (known.hasState ? "SYSTEM" : "VERSION") + " 2", column);
   }
   const wanted = inside[line.kind] || "";
   if (wanted === line.block) return null;
@@ -80,14 +101,14 @@ function wrongPlace(line) {
 
 /** What belongs at each place of a line after its first word.
  * @param {Line} line */
-export function formOf(line) { return (FORMS[line.kind] || "").split(" ").filter(Boolean); }
+export function formOf(line) { return ((isInState(line) ? STATE_FORMS : FORMS)[line.kind] || "").split(" ").filter(Boolean); }
 
 /** A comment after a line.
  * @param {Line} line */
 function remark(line) {
   const form = formOf(line);
   for (const [at, word] of line.words.entries()) {
-    const nameFits = 0 < at && at <= form.length && form[at - 1] === "name";
+    const nameFits = 0 < at && at <= form.length && ["name", "tag"].includes(form[at - 1]);
     if (word.includes(";") && !nameFits) {
       return cause("a comment after a line: a comment needs a line of its own", starts(line)[at] + word.indexOf(";"));
     }
@@ -126,8 +147,8 @@ function noNumber(word, column) {
  * @param {Line} line */
 function wrongCount(line) {
   const {words, kind} = line, columns = starts(line), written = "it is written " + WRITTEN[kind], end = line.text.length + 1;
-  if (["a/", "/", "TYPE"].includes(kind)) {
-    const [first, most] = kind === "TYPE" ? [2, 32] : [1, 16];
+  if (MANY[kind]) {
+    const [first, most] = MANY[kind];
     if (words.length <= first) return cause("too few words: " + written, end);
     if (words.length - first <= most) return null;
     return cause((words.length - first) + " words: a line has " + most + " at most; begin another line", columns[first + most]);
@@ -158,9 +179,13 @@ function wrongWord(line, known) {
   for (let at = 1; at < words.length; at += 1) {
     const kind = form[at - 1] || "n";
     if (kind === "con" && words[at] === "-") continue;
+    if (kind === "run") {
+      if (["RUN", "STOP"].includes(words[at])) continue;
+      return cause("RUN or STOP is wanted here", columns[at]);
+    }
     const help = kind === "n" && symbolHelp(words[at], line, known);
     if (help) return cause(help, columns[at]);
-    const found = kind === "name" ? noName(words[at], columns[at]) : noNumber(words[at], columns[at]);
+    const found = kind === "tag" ? noTag(words[at], columns[at]) : kind === "name" ? noName(words[at], columns[at]) : noNumber(words[at], columns[at]);
     if (found) return found;
   }
   return null;
@@ -172,7 +197,7 @@ function wrongWord(line, known) {
 function syntaxCause(line, known) {
   const byte = badByte(line.text);
   if (byte) return byte;
-  const found = line.words.length ? (unknown(line) && remark(line)) || unknown(line) || wrongPlace(line) || remark(line) ||
+  const found = line.words.length ? (unknown(line) && remark(line)) || unknown(line) || wrongPlace(line, known) || remark(line) ||
     wrongCount(line) || wrongWord(line, known) : null;
   return found || cause("no line of docs/SESSION.md has this form");
 }
@@ -192,14 +217,16 @@ function rangeCause(line, known) {
   if (JOB_LINES.includes(line.kind) || line.kind === "TICK") {
     ranges = [[1, 0, line.version === 2 ? 0o137 : 0o77, "a slot"], ...ranges];
   }
-  if (line.kind === "TYPE") ranges = values.slice(2).map((_, at) => [at + 2, 0, 0o177, "a byte"]);
+  if (["TYPE", "IN", "OUT"].includes(line.kind)) ranges = values.slice(2).map((_, at) => [at + 2, 0, 0o177, "a byte"]);
+  if (isInState(line)) ranges = [...stateRanges(line), ...ranges];
   for (const [at, least, most, what] of ranges) {
     if (values[at] < least || values[at] > most) {
       return cause(what + " is " + octal(least) + " to " + octal(most) + " here (" + least + " to " + most + " in decimal), and this is " +
                    octal(values[at]) + " (" + values[at] + ")", columns[at]);
     }
   }
-  const past = " go past the last address, 777777";
+  const found = isInState(line) ? stateCause(line, "RANGE", columns, known) : null, past = " go past the last address, 777777";
+  if (found) return found;
   if (["EXAM", "LIST"].includes(line.kind)) return cause(octal(values[3]) + " words from " + octal(values[2]) + " on" + past, columns[2]);
   if (line.kind === "a/") return cause((values.length - 1) + " words from " + octal(values[0]) + " on" + past, columns[0]);
   if (line.kind === "CLOCK") return cause("the clock is at " + octal(known.clock) + ", and has to stay below 200000000000", columns[1]);
@@ -222,8 +249,8 @@ function pageCause(line) {
  * @param {Known} known */
 function jobCause(line, known) {
   const made = [...new Set(known.made)].sort((one, other) => one - other).map(octal);
-  return cause("there is no job in slot " + line.words[1] + " now; LOAD " + (made.length ?
-    "has made jobs in " + (made.length === 1 ? "slot " : "slots ") + made.join(", ") : "has made none"), starts(line)[1]);
+  return cause("there is no job in slot " + line.words[1] + " now; " + (known.hasState ? "JOB and LOAD have made " : "LOAD has made ") + (made.length ?
+    "jobs in " + (made.length === 1 ? "slot " : "slots ") + made.join(", ") : "none"), starts(line)[1]);
 }
 
 /** The cause of FULL.
@@ -237,12 +264,12 @@ function fullCause(line) {
 /** The causes by their reasons.
  * @type {Record<string, (line: Line, known: Known) => Cause>} */
 const CAUSES = {
-  CUT: line => cause("the input ends inside the block of " + line.block + ", which is open since " + atLine(line.since) + ": its " +
-                     (CLOSES[line.block] || "end") + " is missing"),
+  CUT: line => cause("the input ends inside " + (line.block === "SYSTEM" ? "the state part" : "the block of " + line.block) + ", which is open since " +
+                     atLine(line.since) + ": its " + (CLOSES[line.block] || "end") + " is missing"),
   LONG: line => cause("the line has " + line.text.length + " bytes, and may have 255", 256),
   SYNTAX: syntaxCause,
   RANGE: rangeCause,
-  NOCONS: line => cause("consoles are 0 to 7", starts(line)[line.kind === "LOAD" ? 3 : 1]),
+  NOCONS: line => cause("consoles are 0 to 7", starts(line)[line.kind === "LOAD" ? 3 : line.kind === "JOB" ? 4 : 1]),
   NOJOB: jobCause,
   NOPAGE: pageCause,
   READONLY: line => line.kind === "a/" ? cause("a word of this line lies on a page that is read only", starts(line)[0]) :
@@ -257,6 +284,7 @@ const CAUSES = {
  * @param {Known} known
  * @returns {Cause} */
 export function causeOf({line, reason}, known) {
-  const found = CAUSES[reason];
+  const found = CAUSES[reason], own = isInState(line) && reason !== "RANGE" ? stateCause(line, reason, starts(line), known) : null;
+  if (own) return own;
   return found ? found(line, known) : cause('docs/SESSION.md, "Refusals", has the reasons');
 }

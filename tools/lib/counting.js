@@ -1,6 +1,6 @@
 // Shared by the page and the commands: how many moments, ticks and lines, a session has at most. This is known before it runs.
 
-import {INSIDE} from "./session.js";
+import {isOpenAfter} from "./session.js";
 import {isOctal, value} from "./words.js";
 
 /** @typedef {import("./session.js").Line} Line */
@@ -14,7 +14,7 @@ export function momentsOfLine(line) {
   const [one, two] = [1, 2].map(at => isOctal(line.words[at]) ? value(line.words[at]) : 0);
   if (line.kind === "TICK") return two;
   if (line.kind === "RUN") return one * two;
-  return line.kind && !INSIDE.includes(line.kind) ? 1 : 0;
+  return line.kind && !isOpenAfter(line) ? 1 : 0;
 }
 
 /** How many moments a session has at most, its beginning included.

@@ -1,5 +1,6 @@
 // Shared by the page and the commands: the ticks of a session that was run, and cutting it between two of them.
 
+import {wordsIn} from "./session.js";
 import {runsOf, turnsOf, unrolled, wordsOf} from "./transcript.js";
 import {number, octal} from "./words.js";
 
@@ -81,4 +82,18 @@ export function linesBefore(lines, tick) {
 export function linesBehind(lines, tick, turns) {
   const rest = tick.of > tick.place ? ["TICK " + octal(tick.slot) + " " + octal(tick.of - tick.place)] : [];
   return [...rest, ...(turns.get(tick.line) || []).slice(tick.earlier.length + 1), ...lines.slice(tick.line)];
+}
+
+/** The lines of a session up to and with a tick, and those after it. Here a RUN line stays one as far as it can, because the next RUN goes on after
+ * the slot of its last turn: its whole turns, a turn that the tick ends, the rest of this turn, and the turns that are left.
+ * @param {string[]} lines
+ * @param {Tick} tick
+ * @returns {[string[], string[]]} */
+export function cutAt(lines, tick) {
+  const [kind, turns, share] = wordsIn(lines[tick.line - 1]), whole = tick.earlier.length;
+  if (kind !== "RUN") return [linesBefore(lines, tick), linesBehind(lines, tick, new Map())];
+  const run = (/** @type {number} */ count, /** @type {string} */ ticks) => count ? ["RUN " + octal(count) + " " + ticks] : [];
+  const left = tick.of - tick.place, rest = left ? ["TICK " + octal(tick.slot) + " " + octal(left)] : [];
+  return [[...lines.slice(0, tick.line - 1), ...run(whole, share), ...run(1, octal(tick.place))],
+          [...rest, ...run(number(turns) - whole - 1, share), ...lines.slice(tick.line)]];
 }

@@ -24,12 +24,12 @@ export const WAYS = {exam: ["EXAM s 0 1"], state: ["STATE s"], stop: ["STOP s", 
  * undisturbed run, nothing if it is the same; the fatal pending bits that CONT cleared, and whether INT set them again.
  * @typedef {{tick: Tick, frame: string, left: number, differs: string, fatal: number, again: boolean}} Met */
 
-/** Whether a job that waits is at a tick as at the tick before: both are of one line, have the letter w, and another w follows.
+/** Whether a job that waits, or does not run, is at a tick as at the tick before: both are of one line, have its letter, and the same letter follows.
  * @param {Tick} before
  * @param {Tick} tick */
 function isAsBefore(before, tick) {
-  return before.letter === "w" && tick.letter === "w" && tick.next === "w" && before.line === tick.line && before.slot === tick.slot &&
-    before.earlier.length === tick.earlier.length;
+  return "w-".includes(tick.letter) && before.letter === tick.letter && tick.next === tick.letter && before.line === tick.line &&
+    before.slot === tick.slot && before.earlier.length === tick.earlier.length;
 }
 
 /** Whether a line gives ticks.
@@ -62,17 +62,21 @@ export function seenOf(told) {
   return {looks: looks.map(({line, answer}) => [line.text.trim(), answer]), drained};
 }
 
-/** What differs between two runs, nothing if nothing does.
+/** How far a job is inside a call, with the name of the call, and how many steps bring it to user mode.
+ * @param {{state: string, call: string, left: number}} peek */
+export function frameOf({state, call, left}) { return {frame: call === "-" ? state : callName(call) + " " + state, left}; }
+
+/** What differs between two runs, nothing if nothing does. The second one was disturbed, or saved.
  * @param {Seen} one
  * @param {Seen} other */
-export function differenceOf(one, other) {
+export function differenceOf(one, other, how = "disturbed") {
   for (const [console, taken] of one.drained) {
     const found = other.drained.get(console) || [];
-    if (found.join(" ") !== taken.join(" ")) return "console " + console + ": " + typed(taken) + ", disturbed " + typed(found);
+    if (found.join(" ") !== taken.join(" ")) return "console " + console + ": " + typed(taken) + ", " + how + " " + typed(found);
   }
   for (const [at, [text, first]] of one.looks.entries()) {
     const second = (other.looks[at] || ["", first])[1];
-    if (first.join("\n") !== second.join("\n")) return text + ": " + first.join(" | ") + ", disturbed " + second.join(" | ");
+    if (first.join("\n") !== second.join("\n")) return text + ": " + first.join(" | ") + ", " + how + " " + second.join(" | ");
   }
   return "";
 }
@@ -85,8 +89,9 @@ export class Disturbance {
    * @param {string} way how its jobs are disturbed
    * @param {number} more so many ticks each slot gets after the last TICK line
    * @param {Range} range which ticks are disturbed
-   * @param {boolean} isEach also those at which the job is as after the tick before */
-  constructor(name, session, transcript, way, more, range, isEach = false) {
+   * @param {boolean} isEach also those at which the job is as after the tick before
+   * @param {boolean} everywhere also those after which the slot has no job that runs */
+  constructor(name, session, transcript, way, more, range, isEach = false, everywhere = false) {
     this.name = name;
     this.way = way;
     const told = toldOf(name, session, transcript), last = told[told.length - 1];
@@ -99,7 +104,7 @@ export class Disturbance {
     let before = null;
     for (const tick of ticksOf(told, range)) {
       // by the letters the job may run
-      if (tick.next === "-" || !tick.next && tick.letter === "-") before = null;
+      if (!everywhere && (tick.next === "-" || !tick.next && tick.letter === "-")) before = null;
       else if (!isEach && before && isAsBefore(before, tick)) this.skipped += 1;
       else {
         this.ticks.push(tick);
@@ -147,12 +152,11 @@ export class Disturbance {
     if (put[0].reason) {
       throw new Wrong(this.name + ": the job of slot " + octal(tick.slot) + " could not be looked at after tick " + octal(tick.number));
     }
-    const peek = peekOf(wordsOf(put[0])), last = told[told.length - 1];
-    const frame = peek.call === "-" ? peek.state : callName(peek.call) + " " + peek.state;
+    const {frame, left} = frameOf(peekOf(wordsOf(put[0]))), last = told[told.length - 1];
     const differs = last.reason ? "line '" + last.line.text + "' comes too early and is refused as " + last.reason :
       differenceOf(this.seen, seenOf(told));
     const cleared = this.way === "stop" && !put[2].reason ? number(stateOf(wordsOf(put[2])).pending1) % (FATAL + 1) : 0;
-    return {tick, frame, left: peek.left, differs, fatal: fatal || cleared, again: fatal > 0};
+    return {tick, frame, left, differs, fatal: fatal || cleared, again: fatal > 0};
   }
 }
 

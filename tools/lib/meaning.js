@@ -1,22 +1,16 @@
 // Shared by the page and the commands: what the lines of a session and of its transcript mean, in words. Nothing here knows the machine.
 
 import {nameOf, typeOut} from "./chart.js";
-import {NAMES, Known, blocksOf, callText, errorWords, openBlocks, reading} from "./readings.js";
-import {Symbols} from "./symbols.js";
+import {NAMES, Known, bitsInWords, blocksOf, callText, openBlocks, reading} from "./readings.js";
+import {STATE_SAYS, fileOf, namesAt, tagSaid} from "./state_said.js";
 import {peekOf, runsOf, stateOf, turnsOf, wordsOf} from "./transcript.js";
-import {CALLS, ERRORS, FATAL, PENDING, STATES, TICKS, WAITS, bits, bytePointer, callName, countOf, flagsOf, held, isOctal, isOn, number, octal,
-        pcOf, pendingNames, short, sixbit, twelve, typed} from "./words.js";
+import {CALLS, ERRORS, STATES, TICKS, WAITS, bits, bytePointer, callName, countOf, flagsOf, held, isOctal, number, octal, pcOf, pendingNames, short,
+        sixbit, twelve, typed} from "./words.js";
 
 /** @typedef {import("./transcript.js").Exchange} Exchange */
 
 const RUNS = 5;                  // up to so many runs of a T line are described one by one
 const FOUND = "the job is found in user mode";
-
-/** The names of a file.
- * @param {string} directory
- * @param {string} one
- * @param {string} two */
-function fileOf(directory, one, two) { return one + " " + two + " in directory " + directory; }
 
 /** A number with at most two decimals, and with one at least.
  * @param {number} whole */
@@ -33,19 +27,6 @@ function ticksSaid(exchange) {
   const total = runs.reduce((sum, [count]) => sum + count, 0), sums = Object.keys(TICKS).map(letter =>
     countOf(runs.reduce((sum, [count, one]) => sum + (one === letter ? count : 0), 0), ...TICKS[letter]));
   return slot + ", " + countOf(total, "tick") + " in all: " + sums.filter(said => !said.startsWith("0 ")).join(", ");
-}
-
-/** Two words of bits, if one is on.
- * @param {string} name
- * @param {string} one
- * @param {string} two */
-function bitsInWords(name, one, two) {
-  const said = [], whole = number(one);
-  if (whole) {
-    const on = PENDING.filter(([bit]) => isOn(whole, bit)), isFatal = name === "pending" && on.some(([bit]) => bit <= FATAL);
-    said.push(name + ": " + (on.map(([, short_, about]) => short_ + ", " + about).join("; ") || short(one)) + (isFatal ? " (fatal)" : ""));
-  }
-  return number(two) ? [...said, name + ", word 2: " + short(two)] : said;
 }
 
 /** The symbol nearest below the PC, if an S line has one.
@@ -96,15 +77,13 @@ function loadedSaid(word, isInBlock) {
 /** What each line says, by its kind.
  * @type {Record<string, (exchange: Exchange, known: Known) => string[]>} */
 const SAYS = {
+  ...STATE_SAYS,
+
   VERSION: ({line}) => [line.version === 2 ? "96 jobs, read-only pages and symbols" : "what holds without this line too"],
 
   LOAD(exchange, known) {
     const [, user, job, console] = exchange.line.words, slot = number(wordsOf(exchange)[1]);
-    known.slot = slot;
-    known.loaded = new Map();
-    known.made.push(slot);
-    known.errors.set(slot, new Set());
-    known.symbols.set(slot, new Symbols());
+    known.begin(slot);
     return ["a job " + user + " " + job + " is made in slot " + octal(slot) + ", " +
             (console === "-" ? "without a console" : "with console " + console)];
   },
@@ -127,20 +106,19 @@ const SAYS = {
   },
 
   SYM({line}, known) {
-    const [, name, address] = line.words;
+    const name = tagSaid(line.words[1]), [, , address] = line.words;
     known.symbolsOf(known.slot).add(name, number(address));
     return ["STATE of slot " + octal(known.slot) + " may name " + short(address) + " for " + name];
   },
 
   GO({line}, known) {
     const start = line.words[1];
-    known.errors.set(known.slot, errorWords(known.loaded));
-    known.image = new Map();
+    known.settle();
     return ["the job in slot " + octal(known.slot) + " starts at " + short(start) + known.symbolsOf(known.slot).near(number(start)),
             ...openBlocks(known.loaded, known.symbolsOf(known.slot))];
   },
 
-  FILE: ({line}) => ["a file " + fileOf(line.words[1], line.words[2], line.words[3])],
+  FILE: ({line}) => ["a file " + fileOf(...namesAt(line, 1))],
 
   TICK: exchange => [ticksSaid(exchange)],
 

@@ -89,14 +89,14 @@ export class Probe {
     return shown ? this.failure(at, slot, stateOf(shown[0])) : [];
   }
 
-  /** The place of the LOAD line that made the job in a slot; less than 0 if none did.
+  /** The place of the LOAD or JOB line that made the job in a slot; less than 0 if none did.
    * @param {number} at
    * @param {number} slot */
   loadOf(at, slot) {
-    return this.told.slice(0, at).reduce((last, one, place) => one.line.kind === "LOAD" && slotOf(one) === slot ? place : last, -1);
+    return this.told.slice(0, at).reduce((last, one, place) => ["LOAD", "JOB"].includes(one.line.kind) && slotOf(one) === slot ? place : last, -1);
   }
 
-  /** The words that a LOAD line and those after it load.
+  /** The words that a LOAD or JOB line and those after it load.
    * @param {number} load
    * @returns {Map<number, string>} */
   imageOf(load) {
@@ -131,7 +131,8 @@ export class Probe {
     const isStopped = isOn(number(state.pending1), BRK) && (image.get(pc - 1) || "").startsWith("0457"), place = isStopped ? pc - 2 : pc - 1;
     const copy = copyFor(image, place);
     if (!copy.length) return [];
-    const isLast = (/** @type {string} */ kind, /** @type {string[]} */ words) => kind === "GO" || kind === "RO" && value(words[1]) === place >> 10;
+    const isLast = (/** @type {string} */ kind, /** @type {string[]} */ words) => ["GO", "REGS"].includes(kind) ||
+      kind === "RO" && value(words[1]) === place >> 10;
     const until = this.told.findIndex(({line: {kind, words}}, one) => one > load && isLast(kind, words)), name = octal(slot);
     const lines = this.before(at + 1), later = isStopped ? ["TICK " + name + " " + LATER] : [];
     const shown = this.shows([...lines.slice(0, until), ...copy, ...lines.slice(until)],
@@ -173,13 +174,13 @@ function copyFor(image, place) {
           octal(place) + "/ 43000" + octal(COPY)];
 }
 
-/** The words that the block of a LOAD line loads.
+/** The words that the block of a LOAD line loads, or that follow a JOB line.
  * @param {Exchange[]} told
- * @param {number} at of the LOAD line
+ * @param {number} at of the LOAD or JOB line
  * @returns {Map<number, string>} */
 export function imageAt(told, at) {
   const image = new Map();
-  for (let next = at + 1; next < told.length && told[next].line.block === "LOAD" && told[next].line.kind !== "GO"; next += 1) {
+  for (let next = at + 1; next < told.length && told[next].line.block && !["GO", "JOB", "REGS", "READY"].includes(told[next].line.kind); next += 1) {
     const {kind, words} = told[next].line;
     if (kind !== "a/" || told[next].reason) continue;
     words.slice(1).forEach((word, place) => image.set(value(words[0].slice(0, -1)) + place, twelve(word)));

@@ -4,7 +4,7 @@
 import {WRITTEN, causeOf} from "./causes.js";
 import {Editor} from "./editing.js";
 import {meaningOf} from "./meaning.js";
-import {CLOSES, JOB_LINES, LINES, Places, split, wordsIn} from "./session.js";
+import {CLOSES, JOB_LINES, LINES, Places, STATE_LINES, split, wordsIn} from "./session.js";
 import {plainLine} from "./tails.js";
 import {FARTHEST} from "./told.js";
 import {wordsOf} from "./transcript.js";
@@ -55,7 +55,7 @@ export class Operator {
    * @param {string} word */
   completed(before, word) {
     if (before.trim()) return word ? [...this.symbolsAt(this.seat.slot).keys()].filter(one => one.startsWith(word.toUpperCase())).sort() : [];
-    return [...Object.keys(LINES).sort(), ...OWN].filter(one => one.startsWith(word.toUpperCase()) || one.startsWith(word)).map(one => one + " ");
+    return [...Object.keys(LINES).filter(one => !STATE_LINES.includes(one)).sort(), ...OWN].filter(one => one.startsWith(word.toUpperCase()) || one.startsWith(word)).map(one => one + " ");
   }
 
   /** The symbols of the job in a slot.
@@ -201,7 +201,7 @@ export class Operator {
     const one = (words[0] || "").toUpperCase();
     if (WRITTEN[one]) return this.screen.say(WRITTEN[one]);
     const later = this.sitting.version === 1 ? ["RO", "SYM", "RUN", "LIST"] : [];
-    const lines = Object.keys(WRITTEN).filter(name => !["VERSION", "END", ...later].includes(name)).map(name => WRITTEN[name]);
+    const lines = Object.keys(WRITTEN).filter(name => !["VERSION", "END", ...STATE_LINES, ...later].includes(name)).map(name => WRITTEN[name]);
     const rows = Array.from({length: Math.ceil(lines.length / 5)}, (_, at) => "    " + lines.slice(5 * at, 5 * at + 5).join(", "));
     this.say([...split(HELP), ...rows]);
   }

@@ -1,7 +1,8 @@
 // Shared by the page and the commands: what a word of a job or of a file may be read as, and what the lines so far show that later lines need.
 
 import {Symbols} from "./symbols.js";
-import {CALLS, MOST_ARGUMENTS, asciiOf, bits, bytePointer, character, isPrinting, octal, pcWord, signed, sixbit} from "./words.js";
+import {CALLS, FATAL, MOST_ARGUMENTS, PENDING, asciiOf, bits, bytePointer, character, isOn, isPrinting, number, octal, pcWord, short, signed,
+        sixbit} from "./words.js";
 
 /** Words that are names of devices and of the variables of USRVAR. */
 export const NAMES = new Set(["TTY", "DSK", "USR", "LNK", "UNAME", "JNAME", "UIND", "SUPPRO", "CNSL", "PAGES", "UPC", "USTP", "PIRQC", "IFPIR",
@@ -15,14 +16,31 @@ export class Known {
     /** @type {Map<number, Set<number>>} */
     this.errors = new Map();             // slot -> words that get error numbers
     /** @type {Map<number, string>} */
-    this.loaded = new Map();             // the words of the LOAD block that is open
+    this.loaded = new Map();             // the words of the job that is being made
     /** @type {Map<number, string>} */
-    this.image = new Map();              // all words of that block, as far as they are known before its end
-    this.slot = 0;                       // the slot that the last LOAD made
+    this.image = new Map();              // all words of that job, as far as they are known before its end
+    this.slot = 0;                       // the slot that the last LOAD or JOB made
     /** @type {number[]} */
-    this.made = [];                      // the slots that LOAD lines made
+    this.made = [];                      // the slots that LOAD and JOB lines made
+    this.hasState = false;               // whether the session begins with the state part
     /** @type {Map<number, Symbols>} */
     this.symbols = new Map();            // slot -> the symbols that SYM lines gave its job
+  }
+
+  /** A job is made in a slot, and the lines that follow are about it.
+   * @param {number} slot */
+  begin(slot) {
+    this.slot = slot;
+    this.loaded = new Map();
+    this.made.push(slot);
+    this.errors.set(slot, new Set());
+    this.symbols.set(slot, new Symbols());
+  }
+
+  /** The words of the job that was made last are known: which of them get error numbers. */
+  settle() {
+    this.errors.set(this.slot, errorWords(this.loaded));
+    this.image = new Map();
   }
 
   /** The symbols of the job in a slot.
@@ -37,6 +55,19 @@ export class Known {
    * @param {number} slot
    * @param {number} address */
   getsErrors(slot, address) { return (this.errors.get(slot) || new Set()).has(address); }
+}
+
+/** Two words of bits, if one is on.
+ * @param {string} name
+ * @param {string} one
+ * @param {string} two */
+export function bitsInWords(name, one, two) {
+  const said = [], whole = number(one);
+  if (whole) {
+    const on = PENDING.filter(([bit]) => isOn(whole, bit)), isFatal = name === "pending" && on.some(([bit]) => bit <= FATAL);
+    said.push(name + ": " + (on.map(([, short_, about]) => short_ + ", " + about).join("; ") || short(one)) + (isFatal ? " (fatal)" : ""));
+  }
+  return number(two) ? [...said, name + ", word 2: " + short(two)] : said;
 }
 
 /** A small number in decimal, and as a character if it may be one; nothing if that says no more.

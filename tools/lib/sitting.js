@@ -5,7 +5,7 @@
 
 import {meaningOf} from "./meaning.js";
 import {Known} from "./readings.js";
-import {Places, atLine, joined, kindOf, linesOf, split, wordsIn} from "./session.js";
+import {Places, asVersion2, atLine, joined, kindOf, linesOf, split, wordsIn} from "./session.js";
 import {Transcript, exchanges, stateOf} from "./transcript.js";
 import {turnOf} from "./turns.js";
 import {Wrong, asSixbit, number, octal} from "./words.js";
@@ -152,11 +152,7 @@ export class Sitting {
    * @param {number} slot
    * @param {number} address */
   async listed(slot, address) {
-    let text = this.text;
-    if (this.version === 1) {
-      const [first] = text.split("\n", 1), isVersion = wordsIn(first)[0] === "VERSION";
-      text = "VERSION 2\n" + (isVersion ? text.slice(first.length + 1) : text);
-    }
+    const text = this.version === 1 ? joined(asVersion2(split(this.text))) : this.text;
     const {output} = await this.host.copy(text + "LIST " + octal(slot) + " " + octal(address) + " 1\n");
     const last = split(output).pop() || "";
     return last.startsWith("L ") ? last.split(" ").slice(3).join(" ") : "";

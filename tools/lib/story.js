@@ -1,9 +1,11 @@
 // Shared by the page and the commands: the story of a session: what happens in it, job by job, as far as the session and its transcript show.
 
-import {JOB_LINES, linesOf} from "./session.js";
+import {JOB_LINES, isInState, linesOf} from "./session.js";
+import {tagSaid} from "./state_said.js";
 import {Transcript, exchanges, fitting, peekOf, runsOf, stateOf, unrolled, wordsOf} from "./transcript.js";
 import {Wrong, callName, counted, held, number, octal, pcOf, short, sixbit, typed} from "./words.js";
 
+/** @typedef {import("./session.js").Line} Line */
 /** @typedef {import("./transcript.js").Exchange} Exchange */
 
 /** A job, as far as the transcript shows it; or a slot in which no job was seen yet. `names`: user name and job name, if a LOAD or an S line
@@ -85,7 +87,7 @@ export class Story {
     this.mark(lane, "gone", ["gone by now", "gone"]);
   }
 
-  /** LOAD made a job in a slot, so that the one that was there before is gone.
+  /** LOAD or JOB made a job in a slot, so that the one that was there before is gone.
    * @param {number} slot
    * @param {string} names
    * @param {string} console */
@@ -184,6 +186,17 @@ function tellRefusal(story, {line, reason}) {
 
 const UNTOLD = ["", "VERSION", "a/", "RO", "SYM", "/", "EOF", "RUN", "END"];
 
+/** A line of the state part: the jobs that it makes are told, with their superiors.
+ * @param {Story} story
+ * @param {Line} line
+ * @param {string} tip */
+function tellState(story, {kind, words}, tip) {
+  if (kind === "JOB") {
+    const [, slot, user, job, console] = words;
+    story.mark(story.made(number(slot), tagSaid(user) + " " + tagSaid(job), console), "made", ["JOB", "JOB"], tip);
+  } else if (kind === "UNDER") story.jobOf(number(words[1])).note = "inferior of slot " + short(words[2]);
+}
+
 /** One line of the session with its answer.
  * @param {Story} story
  * @param {Exchange} exchange */
@@ -191,6 +204,7 @@ function tellOne(story, exchange) {
   const {line, reason, answer} = exchange, tip = [line.text.trim(), ...answer].join(" | ");
   story.line = line.number;
   if (reason) tellRefusal(story, exchange);
+  else if (isInState(line)) tellState(story, line, tip);
   else if (line.kind === "LOAD") {
     const [, user, job, console] = line.words, lane = story.made(number(wordsOf(exchange)[1]), user + " " + job, console);
     story.loading = story.mark(lane, "made", ["LOAD", "LOAD"], tip);

@@ -53,7 +53,7 @@ function toldLine(name, exchange, known) {
 export function* toldEach(name, told, ask = null) {
   const known = new Known(), probe = ask ? new Probe(ask, told) : null;
   for (const [at, exchange] of told.entries()) {
-    if (exchange.line.kind === "LOAD" && !exchange.reason) known.image = imageAt(told, at);
+    if (["LOAD", "JOB"].includes(exchange.line.kind) && !exchange.reason) known.image = imageAt(told, at);
     if (!exchange.line.ended || exchange.reason) {
       const one = toldLine(name, exchange, known);
       if (probe) one.means.push(...probe.said(at));

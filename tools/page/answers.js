@@ -15,6 +15,7 @@ import {Engine, Trapped} from "../lib/engine.js";
 import {goOn} from "./going.js";
 import {Looks} from "./looks.js";
 import {drawn, inParts, runSession, wholePicture} from "./running.js";
+import {linesUntil} from "./saving.js";
 import {placedSources, sourcesOf} from "./sources.js";
 
 /** @typedef {import("../lib/told.js").Told} Told */
@@ -92,6 +93,13 @@ export class Answers {
   view({at, watch}) {
     if (!this.moments) throw new Wrong("this session has no moments");
     return this.moments.view(at, watch);
+  }
+
+  /** The system at a moment, as the state part that the program saves.
+   * @param {{at: number}} given */
+  save({at}) {
+    if (!this.moments) throw new Wrong("this session has no moments");
+    return {text: this.engine.answer("save", joined(linesUntil(this.session.told, this.moments.moments, at)))};
   }
 
   /** The first lines of a session, so many that one can step through them.

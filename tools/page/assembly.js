@@ -1,6 +1,6 @@
 // The page: the Assembly tab: a text of the assembler or of MIDAS, its mistakes or its listing, and its image put into the session.
 
-import {split} from "../lib/session.js";
+import {asVersion2, joined, split} from "../lib/session.js";
 import {setSession} from "./editor.js";
 import {alertOf, buttonOf, byId, element, noteOf} from "./dom.js";
 import {beginningOf, fields} from "./field.js";
@@ -84,20 +84,20 @@ function isLoadOf(line, job) { return /^ *LOAD /.test(line) && line.trim().split
  * @param {string} image
  * @param {string} job its names */
 export function withImage(session, image, job) {
-  const own = split(image).filter(line => line !== "VERSION 2" && line !== "END");
-  const lines = split(session).filter((line, at) => at > 0 || !/^ *VERSION /.test(line));
+  const own = split(image).filter(line => line !== "VERSION 2" && line !== "END"), lines = asVersion2(split(session));
   const start = lines.findIndex(line => isLoadOf(line, job)), end = lines.findIndex((line, at) => at > start && /^ *GO /.test(line));
   if (start >= 0 && end > start) lines.splice(start, end - start + 1, ...own);
   else lines.splice(afterLoads(lines), 0, ...own);
   const isBare = !lines.some(line => /^ *(TICK|RUN|END) ?/.test(line));
-  return ["VERSION 2", ...lines, ...(isBare ? tailOf(image) : [])].join("\n") + "\n";
+  return joined([...lines, ...(isBare ? tailOf(image) : [])]);
 }
 
-/** The place after the last job that is loaded before a line that does something else.
+/** The place after the last job that is loaded before a line that does something else. The state part comes before it.
  * @param {string[]} lines */
 function afterLoads(lines) {
-  let place = 0;
-  for (let at = 0; at < lines.length; at += 1) {
+  const ready = /^ *SYSTEM /.test(lines[0]) ? lines.findIndex(line => /^ *READY *$/.test(line)) : 0;
+  let place = Math.max(0, ready) + 1;
+  for (let at = place; at < lines.length; at += 1) {
     const [kind = ""] = lines[at].trim().split(" ");
     if (kind === "GO") place = at + 1;
     else if (kind && !kind.startsWith(";") && !kind.endsWith("/") && !["LOAD", "SYM", "RO", "FILE", "EOF"].includes(kind)) break;

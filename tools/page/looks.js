@@ -1,7 +1,7 @@
 // The page: what somebody finds who comes at a moment of a session and looks. The moment is the end of a copy of the session, with STATE, EXAM
 // and LIST put in. No line shows which pages a job has. To find out, a copy ends at each call that may have changed that.
 
-import {joined, split} from "../lib/session.js";
+import {asVersion2, joined, split} from "../lib/session.js";
 import {peekOf, stateOf, wordsOf} from "../lib/transcript.js";
 import {Wrong, asSixbit, number, octal, value} from "../lib/words.js";
 import {argumentOf, callAt} from "../lib/calls.js";
@@ -48,13 +48,13 @@ export class Looks extends Moments {
     this.typed = this.typedBytes();
   }
 
-  /** The bytes that were typed at each console and not dropped, with the line that types them. */
+  /** The bytes that were typed at each console and not dropped, with the line that types them, or has them as typed before. */
   typedBytes() {
     /** @type {Map<string, [number, string][]>} */
     const typed = new Map(this.consoles.map(console => [console, []]));
     for (const exchange of this.told) {
-      if (exchange.line.kind !== "TYPE" || exchange.reason) continue;
-      const {words} = exchange.line, kept = words.length - 2 - number(wordsOf(exchange)[2]);
+      if (!["TYPE", "IN"].includes(exchange.line.kind) || exchange.reason) continue;
+      const {words, kind} = exchange.line, kept = words.length - 2 - (kind === "TYPE" ? number(wordsOf(exchange)[2]) : 0);
       const own = typed.get(octal(number(words[1]))) || [];
       for (const word of words.slice(2, 2 + kept)) own.push([exchange.line.number, octal(number(word))]);
     }
@@ -69,7 +69,7 @@ export class Looks extends Moments {
       /** @type {Map<number, number[]>} */
       const pages = new Map();
       for (const slot of moment.jobs.keys()) {
-        pages.set(slot, slot === moment.made ? this.image.get(moment.line) || [] : before.get(slot) || []);
+        pages.set(slot, (moment.made.includes(slot) ? (this.image.get(moment.line) || before).get(slot) : before.get(slot)) || []);
       }
       if (this.steppedCall(next) === asSixbit("CORBLK")) this.findPage(next, pages);
       this.pages.push(pages);
@@ -204,9 +204,8 @@ export class Looks extends Moments {
    * @param {number} at
    * @param {[number, number][]} places */
   listed(at, places) {
-    const own = this.linesUpTo(this.moments[at].refused ? at - 1 : at), isVersion = own.length && /^ *VERSION /.test(own[0]);
-    const lines = ["VERSION 2", ...(isVersion ? own.slice(1) : own), ...places.map(([slot, address]) =>
-      ["LIST", octal(slot), octal(address), "1"].join(" "))];
+    const own = this.linesUpTo(this.moments[at].refused ? at - 1 : at);
+    const lines = [...asVersion2(own), ...places.map(([slot, address]) => ["LIST", octal(slot), octal(address), "1"].join(" "))];
     const found = split(this.run(joined(lines)).transcript);
     return found.slice(-places.length).map(one => one.startsWith("L ") ? one.split(" ").slice(3).join(" ") : "");
   }

@@ -47,7 +47,7 @@ export class Moments {
     /** @type {Set<number>} */
     const slots = new Set();
     return this.moments.map((moment, at) => {
-      for (const slot of [moment.made, this.come.get(at)]) if (slot !== null && slot !== undefined) slots.add(slot);
+      for (const slot of [...moment.made, this.come.get(at)]) if (slot !== undefined) slots.add(slot);
       for (const slot of this.gone.get(at) || []) slots.delete(slot);
       return sorted(slots);
     });

@@ -1,6 +1,6 @@
 // The page: the moments of a session as far as its lines and their answers show them: after each line, and after each single tick.
 
-import {INSIDE} from "../lib/session.js";
+import {isOpenAfter} from "../lib/session.js";
 import {runsOf, slotOf} from "../lib/transcript.js";
 import {number, octal} from "../lib/words.js";
 
@@ -8,16 +8,20 @@ import {number, octal} from "../lib/words.js";
 /** @typedef {ReturnType<typeof import("../lib/transcript.js").peekOf>} Peek */
 
 /** A moment: its line, how many lines come before it, its own lines (of a block all, of a TICK its ticks so far), the slot, the letter of a tick,
- * the slot in which LOAD made a job, whether the line is refused, and what PEEK shows of each job.
- * @typedef {{line: number, since: number, now: string[], slot: number | null, letter: string, made: number | null, refused: boolean,
+ * the slots in which LOAD or JOB lines made jobs, whether the line is refused, and what PEEK shows of each job.
+ * @typedef {{line: number, since: number, now: string[], slot: number | null, letter: string, made: number[], refused: boolean,
  *            jobs: Map<number, Peek>}} Moment */
 
 export const GROUP = 8;                  // so many words are looked at by one EXAM
 export const ACCUMULATORS = 16;
+const MAKE = ["LOAD", "JOB"];            // lines that make a job
+/** Which word of a line names a console.
+ * @type {Record<string, number>} */
+const CONSOLES = {LOAD: 3, JOB: 4, TYPE: 1, DRAIN: 1, IN: 1, OUT: 1, HOLD: 1};
 
 /** The beginning of a session, and each moment begins so.
  * @returns {Moment} */
-function beginning() { return {line: 0, since: 0, now: [], slot: null, letter: "", made: null, refused: false, jobs: new Map()}; }
+function beginning() { return {line: 0, since: 0, now: [], slot: null, letter: "", made: [], refused: false, jobs: new Map()}; }
 
 /** The moments of a session, and its lines that are no comments.
  * @param {Exchange[]} told */
@@ -27,8 +31,8 @@ export function momentsOf(told) {
   const moments = [beginning()];
   /** @type {string[]} */
   let block = [];
-  /** @type {number | null} */
-  let made = null;
+  /** @type {number[]} */
+  let made = [];
   const add = (/** @type {Exchange} */ {line}, /** @type {Partial<Moment>} */ more) =>
     moments.push({...beginning(), line: line.number, since: texts.length, now: block, ...more});
   for (const exchange of told) {
@@ -39,8 +43,8 @@ export function momentsOf(told) {
     }
     if (line.kind === "" || line.kind === "END") continue;
     block = [...block, line.text];
-    if (line.kind === "LOAD") made = slotOf(exchange);
-    if (INSIDE.includes(line.kind)) continue;
+    if (MAKE.includes(line.kind)) made.push(slotOf(exchange) || 0);
+    if (isOpenAfter(line)) continue;
     if (line.kind === "TICK") {
       const slot = slotOf(exchange) || 0;
       let at = 0;
@@ -50,10 +54,10 @@ export function momentsOf(told) {
           add(exchange, {now: ["TICK " + octal(slot) + " " + octal(at)], slot, letter});
         }
       }
-    } else add(exchange, {slot: made === null ? slotOf(exchange) : made, made});
+    } else add(exchange, {slot: made.length === 1 ? made[0] : made.length ? null : slotOf(exchange), made});
     texts.push(...block);
     block = [];
-    made = null;
+    made = [];
   }
   return {texts, moments};
 }
@@ -61,8 +65,8 @@ export function momentsOf(told) {
 /** The consoles that the lines of a session name.
  * @param {Exchange[]} told */
 export function consolesOf(told) {
-  const named = told.filter(({line, reason}) => ["LOAD", "TYPE", "DRAIN"].includes(line.kind) && !reason)
-    .map(({line}) => line.words[line.kind === "LOAD" ? 3 : 1]).filter(console => console !== "-");
+  const named = told.filter(({line, reason}) => CONSOLES[line.kind] && !reason)
+    .map(({line}) => line.words[CONSOLES[line.kind]]).filter(console => console !== "-");
   return [...new Set(named.map(console => octal(number(console))))].sort();
 }
 
@@ -83,19 +87,24 @@ export function sorted(numbers) { return [...numbers].sort((one, other) => one -
  * @param {number} address */
 export function pageOf(address) { return Math.floor(address / 1024); }
 
-/** For each LOAD block, by the line of its GO, the pages that it has. The accumulators are in none.
+/** The pages that jobs are made with, by their slots, for the line that ends a LOAD block or the state part. The accumulators are in none.
  * @param {Exchange[]} told */
 export function imageOf(told) {
-  /** @type {Map<number, number[]>} */
+  /** @type {Map<number, Map<number, number[]>>} */
   const image = new Map();
-  /** @type {Set<number>} */
-  let pages = new Set();
-  for (const {line, reason} of told) {
-    if (line.kind === "LOAD") pages = new Set();
-    else if (line.kind === "a/" && !reason) {
-      const start = number(line.words[0].slice(0, -1));
-      for (let at = start; at < start + line.words.length - 1; at += 1) if (at >= ACCUMULATORS) pages.add(pageOf(at));
-    } else if (line.kind === "GO" && !reason) image.set(line.number, sorted(pages));
+  /** @type {Map<number, number[]>} */
+  let jobs = new Map();
+  let slot = 0;
+  for (const exchange of told.filter(({reason}) => !reason)) {
+    const {line} = exchange;
+    if (MAKE.includes(line.kind)) jobs.set(slot = slotOf(exchange) || 0, []);
+    else if (line.kind === "a/") {
+      const start = number(line.words[0].slice(0, -1)), places = line.words.slice(1).map((_, at) => start + at).filter(at => at >= ACCUMULATORS);
+      jobs.set(slot, sorted(new Set([...jobs.get(slot) || [], ...places.map(pageOf)])));
+    } else if (line.kind === "GO" || line.kind === "READY") {
+      image.set(line.number, jobs);
+      jobs = new Map();
+    }
   }
   return image;
 }

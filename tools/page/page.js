@@ -11,6 +11,7 @@ import {followLine, listNext} from "./lines.js";
 import {TITLE, drawRows, goToPlace, pictured} from "./picture_view.js";
 import {go, moments, next, pressed} from "./player.js";
 import {IDEA, act, exampleOf, examples, page, program} from "./state.js";
+import {wireSaved} from "./saved.js";
 import {disturbAll, goToCell} from "./strip.js";
 import {openTask, restoreTask, wireTasks} from "./tasks.js";
 import {beginTerminal, stopAndLook, terminal, wireTerminal} from "./terminal.js";
@@ -64,6 +65,7 @@ function wireSession() {
     if (name) asked("text", "the example " + name, () => setSession(name, exampleOf(name)), () => { target.value = ""; });
   });
   wireField("text", setSession);
+  wireSaved();
   on("text", "input", changed);
   on("text", "keydown", event => { if (event.ctrlKey && event.key === "Enter") { event.preventDefault(); runText(); } });
   for (const kind of ["click", "keyup"]) on("text", kind, () => followLine(fields.text.lineHere()));

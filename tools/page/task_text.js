@@ -3,7 +3,7 @@
 import {element} from "./dom.js";
 
 const FOLDER = "../../docs/";            // the beginning of a link to a document; this page is in that folder
-const PIECES = /\*\*([^*]+)\*\*|`([^`]+)`|\[([^\]]+)\]\(([^)]+)\)/g;
+const PIECES = /\*\*([^*]+)\*\*|`([^\x60]+)`|\[([^\]]+)\]\(([^)]+)\)/g;
 
 /** A paragraph as texts and elements.
  * @param {string} text

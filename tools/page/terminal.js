@@ -2,7 +2,7 @@
 // beginning.
 
 import {visible} from "../lib/keys.js";
-import {joined, kindOf, split, wordsIn} from "../lib/session.js";
+import {asVersion2, isInState, joined, linesOf} from "../lib/session.js";
 import {INTERRUPT} from "../lib/telnet.js";
 import {octal, value} from "../lib/words.js";
 import {byId, on, tried} from "./dom.js";
@@ -12,6 +12,7 @@ import {keepLater, keepMore, kept} from "./keeping.js";
 import {Screen} from "./screen.js";
 import {act, exampleOf, program} from "./state.js";
 
+/** @typedef {import("../lib/session.js").Line} Line */
 /** @typedef {import("../lib/told.js").Told} Told */
 
 const SECOND = "36";                     // thirtieths, in octal
@@ -24,23 +25,37 @@ const WHY = {waits: "All jobs wait.", idle: "No job runs.", long: "The jobs stil
 
 export const terminal = {text: "", console: "0", slot: "0", queue: /** @type {string[]} */ ([]), hint: "", isBusy: false, isStale: false, begun: false};
 
-/** The first lines of a session: those that load jobs and files, up to the first that does more; as version 2, which has RUN.
+/** The first lines of a session: the state part, and those that load jobs and files, up to the first that does more; as version 2, which has RUN.
  * @param {string} text */
 function loadsOf(text) {
-  const lines = split(text), kinds = lines.map(line => kindOf(wordsIn(line))), first = kinds[0] === "VERSION" ? 1 : 0;
-  const end = kinds.findIndex((kind, at) => at >= first && !LOADING.includes(kind));
-  return joined(["VERSION 2", ...lines.slice(first, end < 0 ? lines.length : end)]);
+  const lines = linesOf(text), isFirst = (/** @type {Line} */ {number, kind}) => number === 1 && kind === "VERSION";
+  const end = lines.findIndex(line => line.ended || !isInState(line) && !isFirst(line) && !LOADING.includes(line.kind));
+  return joined(asVersion2(lines.slice(0, end).map(line => line.text)));
+}
+
+/** The jobs that such lines make: the console of each, by its slot. LOAD takes the least slot without a job.
+ * @param {string} text */
+function jobsOf(text) {
+  /** @type {Map<number, string>} */
+  const jobs = new Map();
+  for (const {kind, words} of linesOf(text)) {
+    let slot = 0;
+    while (jobs.has(slot)) slot += 1;
+    if (kind === "JOB" && words.length > 4) jobs.set(value(words[1]), words[4]);
+    else if (kind === "LOAD" && words.length > 3) jobs.set(slot, words[3]);
+  }
+  return jobs;
 }
 
 /** Begins anew with the jobs of a session. */
 export function beginTerminal() {
   const name = byId("terminal-example").value;
   terminal.text = loadsOf(name ? exampleOf(name) : fields.text.text);
-  const loads = [...terminal.text.matchAll(/^ *LOAD +\S+ +\S+ +(\S+)/gm)].map(([, console]) => console);
-  const consoles = [...new Set(loads.filter(console => console !== "-").map(console => octal(value(console))))];
+  const jobs = [...jobsOf(terminal.text)].filter(([, console]) => console !== "-");
+  const consoles = [...new Set(jobs.map(([, console]) => octal(value(console))))];
   byId("terminal-console").replaceChildren(...(consoles.length ? consoles : ["0"]).map(console => new Option(console, console)));
   terminal.console = byId("terminal-console").value;
-  terminal.slot = octal(Math.max(0, loads.findIndex(console => console !== "-" && octal(value(console)) === terminal.console)));
+  terminal.slot = octal((jobs.find(([, console]) => octal(value(console)) === terminal.console) || [0])[0]);
   terminal.begun = true;
   terminal.isStale = terminal.isBusy;
   terminal.queue = [];

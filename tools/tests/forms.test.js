@@ -11,7 +11,7 @@ import {moduleInPage} from "../lib/node/page.js";
 import {TOP} from "../lib/node/program.js";
 
 const engine = new Engine(moduleInPage());
-const USAGE = "usage: its run | its check | its gen N | its verify | its asm\n";
+const USAGE = "usage: its run | its check | its gen N | its verify | its asm | its save\n";
 const FIRST = textOf("first.its"), TRANSCRIPT = textOf("first.out");
 // (module (memory (export "memory") 1) (func (export "its_main") (result i32) unreachable))
 const FAULTY = Buffer.from("AGFzbQEAAAABBQFgAAF/AwIBAAUDAQABBxUCBm1lbW9yeQIACGl0c19tYWluAAAKBQEDAAAL", "base64");

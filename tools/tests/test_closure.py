@@ -53,7 +53,7 @@ class Checks(unittest.TestCase):
 
     def test_contracts(self):
         top, clause = os.path.join("crates", "its_top", "src", "top.rt"), "    ensures command {"
-        self.refused(top, clause, "    ensures more { True }\n" * 3 + clause, "its has 15 clauses")
+        self.refused(top, clause, "    ensures more { True }\n" * 2 + clause, "its has 15 clauses")
         self.refused(top, clause, clause + " " * 140, "its has a line of ")
 
     def test_splits(self):

@@ -83,7 +83,7 @@ class First(unittest.TestCase):
 
     def test_statuses(self):
         self.ask("check")
-        for words, session, status, wrote in (((), b"", 1, "usage: its run | its check | its gen N | its verify | its asm\n"),
+        for words, session, status, wrote in (((), b"", 1, "usage: its run | its check | its gen N | its verify | its asm | its save\n"),
                                               (("run",), b"STATE 0\n", 2, "? 1 NOJOB\n"), (("run", b"\xff"), b"", 7, "")):
             self.assertEqual(self.ask(*words, session=session)[:2], (status, wrote))
 
@@ -92,7 +92,7 @@ class First(unittest.TestCase):
         status, wrote, said = self.ask("run", session=b"END\n")
         self.assertEqual((status, wrote, said.count("\n")), (125, "", 1))
         self.assertIn("Debian: apt install nodejs", said)
-        self.assertEqual(self.ask("what")[:2], (1, "usage: its run | its check | its gen N | its verify | its asm\n"))
+        self.assertEqual(self.ask("what")[:2], (1, "usage: its run | its check | its gen N | its verify | its asm | its save\n"))
 
     def test_old_node(self):
         old = os.path.join(self.programs, "node")

@@ -30,6 +30,13 @@ class Joined(unittest.TestCase):
                       {"a.js": 'import b from "./b.js";\n'}, {"a.js": 'const a = "</script>";\n'}):
             self.assertRaises(Wrong, joined, texts, "a.js")
 
+    def test_comments(self) -> None:
+        text = "// A head\n\n/** Of a. */\nconst a = 1;    // one\n  /** Of b,\n   * in two lines. */\n  const b = `\n * c\n`;\n"
+        self.assertEqual(modules.bare("a.js", text), "\nconst a = 1;    // one\n  const b = `\n * c\n`;\n")
+        self.assertEqual(modules.bare("a.js", "/** @type {A} */ (b).c = 1;\n"), "/** @type {A} */ (b).c = 1;\n")
+        for wrong in ("const a = `\n// b\n`;\n", "/** a\n", "const a = `;\n", "/** a\n*/ b();\n"):
+            self.assertRaises(Wrong, modules.bare, "a.js", wrong)
+
     def test_a_module_that_is_not_there(self) -> None:
         self.assertRaisesRegex(Wrong, "tools/page/none.js: No such file", modules.text_of, "page/none.js")
         self.assertIn("export", modules.text_of("page/state.js"))
